@@ -1,0 +1,17 @@
+-- What a call leaves: its answer, and what each slice lent to it holds at exit, in argument order.
+use mathlib.Core.Path.{_≡_, sym, ap, _∙_}
+use mathlib.Core.List.{List}
+use Prim.Native.Nat.{ℕ}
+
+pub record Outcome (A : Type 0) : Type 0 where
+  pub answer : A
+  pub lent : List (List ℕ)
+
+abbrev pub outcome : {A : Type 0} → A → List (List ℕ) → Outcome A
+outcome r lent = record { answer = r; lent = lent }
+
+-- a contract that equals an outcome admits no second answer and no second contents
+pub only : {A : Type 0} (r q : A) (k l : List (List ℕ)) (o : Outcome A) → outcome r k ≡ o → outcome q l ≡ o → (r ≡ q) × (k ≡ l)
+only {A} r q k l o p s =
+    let e : outcome r k ≡ outcome q l = p ∙ sym s in
+    (ap (λ (x : Outcome A). x .answer) e, ap (λ (x : Outcome A). x .lent) e)

@@ -1,0 +1,12 @@
+// What every entry stands on: refusals, little-endian numbers in lent bytes, and room.
+mod number;
+mod refusal;
+mod room;
+
+pub use number::byte_at;
+pub use number::put_byte;
+pub use number::put_u32;
+pub use number::u32_at;
+pub use refusal::Checked;
+pub use refusal::Refusal;
+pub use room::room_for;

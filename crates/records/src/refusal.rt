@@ -1,0 +1,83 @@
+// What a call says no with.
+ghost use mathlib.Core.Path.{_≡_};
+ghost use Rattle.records.specs.Refusals.{numberOf, placeOf};
+
+// One case for each number of document 01's table, its place where that is not always 0.
+pub enum Refusal {
+    // 1: a size above its limit, or an empty peptide
+    Size,
+    // 2: a byte that is no letter, a letter of mass zero; in a rule text a byte of 128 or more
+    Letter(usize),
+    // 3: alphabet bits above 25, or a letter of a set outside the alphabet
+    Alphabet,
+    // 4: an empty rule text
+    EmptyText,
+    // 5: a letter of a rule text that is not in the alphabet
+    Outside(usize),
+    // 6: a rule text that is too long
+    LongText,
+    // 7: a 256th modification
+    TableFull,
+    // 8: a length that is not whole records, or not the stated count
+    Length,
+    // 9: a field out of range
+    Field(usize),
+    // 10: a work slice that is too short
+    Work,
+    // 11: no room
+    Room,
+    // 12: a bad name, or at place 0 a bad decoy tag
+    Name(usize),
+    // 13: a name equal to an earlier one
+    Repeat(usize),
+}
+
+impl Refusal {
+    // Document 01's number.
+    pub fn number(self) -> u32
+        ensures { λ r. ⌜ r ≡ numberOf self ⌝ }
+    {
+        match self {
+            Refusal::Size => 1,
+            Refusal::Letter(_) => 2,
+            Refusal::Alphabet => 3,
+            Refusal::EmptyText => 4,
+            Refusal::Outside(_) => 5,
+            Refusal::LongText => 6,
+            Refusal::TableFull => 7,
+            Refusal::Length => 8,
+            Refusal::Field(_) => 9,
+            Refusal::Work => 10,
+            Refusal::Room => 11,
+            Refusal::Name(_) => 12,
+            Refusal::Repeat(_) => 13,
+        }
+    }
+
+    // Document 01's place.
+    pub fn place(self) -> usize
+        ensures { λ r. ⌜ r ≡ placeOf self ⌝ }
+    {
+        match self {
+            Refusal::Letter(at) => at,
+            Refusal::Outside(at) => at,
+            Refusal::Field(at) => at,
+            Refusal::Name(at) => at,
+            Refusal::Repeat(at) => at,
+            Refusal::Size => 0,
+            Refusal::Alphabet => 0,
+            Refusal::EmptyText => 0,
+            Refusal::LongText => 0,
+            Refusal::TableFull => 0,
+            Refusal::Length => 0,
+            Refusal::Work => 0,
+            Refusal::Room => 0,
+        }
+    }
+}
+
+// What the tests of an entry find: the first refusal, or none.
+pub enum Checked {
+    Passed,
+    Refused(Refusal),
+}
