@@ -1,0 +1,177 @@
+-- The laws of sets of letters that callers cite, so that none opens the definitions. Assumes nothing.
+use Prim.Native.Nat.{ℕ, zero, suc, _+_, _-_, _/_, _%_, _^_, _≤_, _<_}
+use mathlib.Core.Path.{_≡_, refl, sym, ap, _∙_, subst}
+use mathlib.Core.Bool.{Bool, true, false, cond, not, _&&_, _||_, and-false, true≢false}
+use mathlib.Core.Logic.{_⊎_, inl, inr, ⊎-elim}
+use mathlib.Core.List.{List}
+use native.Mathlib.Nat.{zero-div, mod-lt}
+use native.Mathlib.Omega.{arith}
+use lib.ListN.{length, getD}
+use lib.Dec.{leb, ltb, eqb}
+use lib.Pow.{pow-pos, pow-lt}
+use lib.Bits.{bitOr, bitAnd, or-lt, and-mod}
+use borrow.Author.Tests.{lt-leb, le-leb, eq-eqb, ne-eqb, leb-true, eqb-true, eqb-false, ltb-true, lt-ltb, not-false}
+use Rattle.records.specs.Tests.{below?, both, truth?}
+use Rattle.records.specs.Search.{seek}
+use Rattle.records.specs.SearchLaws.{seek-to, seek-passes, seek-before}
+use Rattle.letters.specs.declared.letter_set.LetterSet.{LetterSet}
+use Rattle.letters.specs.Letters.{isLetter, bit, has, inserted, empty, all, proper, subset, firstBad}
+use Rattle.letters.specs.BitLaws.{bit-insert, bit-shared, bit-low, same-bits}
+
+-- ---- letters
+
+pub letter-from : (b : ℕ) → isLetter b ≡ true → 65 ≤ b
+unfolding isLetter
+letter-from b e = leb-true 65 b (both (leb 65 b) (leb b 90) e .0)
+
+pub letter-to : (b : ℕ) → isLetter b ≡ true → b ≤ 90
+unfolding isLetter
+letter-to b e = leb-true b 90 (both (leb 65 b) (leb b 90) e .1)
+
+pub letter-within : (b : ℕ) → 65 ≤ b → b ≤ 90 → isLetter b ≡ true
+unfolding isLetter
+letter-within b h k = rw (le-leb 65 b h, le-leb b 90 k)
+
+-- ---- members
+
+-- no byte is in the empty set
+pub has-empty : (b : ℕ) → has empty b ≡ false
+unfolding has bit
+has-empty b = simp zero-div (and-false (isLetter b))
+
+-- a member is a letter
+pub has-letter : (s : LetterSet) (b : ℕ) → has s b ≡ true → isLetter b ≡ true
+unfolding has
+has-letter s b e = both (isLetter b) (bit (s .mask) (b - 65)) e .0
+
+-- a byte that is no letter is in no set
+pub has-other : (s : LetterSet) (b : ℕ) → isLetter b ≡ false → has s b ≡ false
+unfolding has
+has-other s b e = rw e
+
+-- contains after insert, for all bytes
+pub has-insert : (s : LetterSet) (a b : ℕ) → has (inserted s a) b ≡ ((isLetter a && eqb b a) || has s b)
+unfolding has inserted
+has-insert s a b = go (isLetter a) refl (isLetter b) refl
+  where
+    m : ℕ
+    m = s .mask
+    same : isLetter a ≡ true → isLetter b ≡ true → eqb (b - 65) (a - 65) ≡ eqb b a
+    same p q = back (eqb b a) refl
+      where
+        back : (t : Bool) → eqb b a ≡ t → eqb (b - 65) (a - 65) ≡ t
+        back true e = eq-eqb (b - 65) (a - 65) (ap (λ (x : ℕ). x - 65) (eqb-true b a e))
+        back false e = ne-eqb (b - 65) (a - 65) (λ (h : b - 65 ≡ a - 65). eqb-false b a e (omega (arith, letter-from a p, letter-from b q)))
+    apart : isLetter a ≡ true → isLetter b ≡ false → eqb b a ≡ false
+    apart p q = ne-eqb b a (λ (h : b ≡ a). true≢false (sym p ∙ ap isLetter (sym h) ∙ q))
+    go : (x : Bool) → isLetter a ≡ x → (t : Bool) → isLetter b ≡ t → (t && bit (cond x (bitOr m (2 ^ (a - 65))) m) (b - 65)) ≡ ((x && eqb b a) || (t && bit m (b - 65)))
+    go true p true q = bit-insert m (a - 65) (b - 65) ∙ ap (λ (x : Bool). x || bit m (b - 65)) (same p q)
+    go true p false q = simp (apart p q)
+    go false p true q = refl
+    go false p false q = refl
+
+-- an insertion sets no bit above 25
+pub insert-proper : (s : LetterSet) (a : ℕ) → proper s ≡ true → proper (inserted s a) ≡ true
+unfolding proper inserted
+insert-proper s a h = go (isLetter a) refl
+  where
+    go : (t : Bool) → isLetter a ≡ t → ltb (cond t (bitOr (s .mask) (2 ^ (a - 65))) (s .mask)) (2 ^ 26) ≡ true
+    go true p = lt-ltb _ _ (or-lt 26 (s .mask) (2 ^ (a - 65)) (ltb-true (s .mask) (2 ^ 26) h) (pow-lt {j = 26} (omega (arith, letter-to a p))))
+    go false p = h
+
+pub empty-proper : proper empty ≡ true
+unfolding proper
+empty-proper = refl
+
+pub all-proper : proper all ≡ true
+unfolding proper
+all-proper = refl
+
+-- a letter's bit
+bit-of : (s : LetterSet) (k : ℕ) → k < 26 → has s (65 + k) ≡ bit (s .mask) k
+unfolding has
+bit-of s k h = rw (letter-within (65 + k) (omega arith) (omega arith), back k)
+  where
+    back : (i : ℕ) → 65 + i - 65 ≡ i
+    back i = omega arith
+
+-- a set without stray bits is known by its members
+pub set-by-members : (s t : LetterSet) → proper s ≡ true → proper t ≡ true → ((b : ℕ) → has s b ≡ has t b) → s ≡ t
+unfolding proper
+set-by-members s t hs ht h =
+    let e : s .mask ≡ t .mask = same-bits 26 (s .mask) (t .mask) (ltb-true _ _ hs) (ltb-true _ _ ht) (λ k g. sym (bit-of s k g) ∙ h (65 + k) ∙ bit-of t k g) in
+    λ i. record { mask = e i }
+
+all-bits : seek (λ (k : ℕ). not (bit 67108863 k)) 0 26 ≡ 26
+unfolding seek bit
+all-bits = refl
+
+-- each letter is in the set of all
+pub has-all : (b : ℕ) → has all b ≡ isLetter b
+has-all b = ⊎-elim (inside) (λ (e : isLetter b ≡ false). has-other all b e ∙ sym e) (truth? (isLetter b))
+  where
+    at : (k : ℕ) → k < 26 → has all (65 + k) ≡ true
+    at k h = bit-of all k h ∙ not-false (bit 67108863 k) (seek-before (λ (j : ℕ). not (bit 67108863 j)) 0 26 k (omega arith) (omega (arith, all-bits)))
+    inside : isLetter b ≡ true → has all b ≡ isLetter b
+    inside e =
+        let f : 65 + (b - 65) ≡ b = omega (arith, letter-from b e) in
+        subst (λ (x : ℕ). has all x ≡ true) f (at (b - 65) (omega (arith, letter-to b e, letter-from b e))) ∙ sym e
+
+-- ---- subsets
+
+pub subset-has : (s t : LetterSet) → subset s t ≡ true → (b : ℕ) → has s b ≡ true → has t b ≡ true
+unfolding subset
+subset-has s t e b h =
+    let p : ℕ → Bool = λ x. has s x && not (has t x) in
+    let l : isLetter b ≡ true = has-letter s b h in
+    let f : seek p 65 26 ≡ 91 = eqb-true (seek p 65 26) 91 e in
+    let g : p b ≡ false = seek-before p 65 26 b (letter-from b l) (omega (arith, letter-to b l)) in
+    go (has t b) refl (rw h at g)
+  where
+    go : (x : Bool) → has t b ≡ x → not (has t b) ≡ false → has t b ≡ true
+    go true q r = q
+    go false q r = absurd (true≢false (sym (ap not q) ∙ r))
+
+pub subset-all : (s t : LetterSet) → ((b : ℕ) → has s b ≡ true → has t b ≡ true) → subset s t ≡ true
+unfolding subset
+subset-all s t h =
+    let p : ℕ → Bool = λ x. has s x && not (has t x) in
+    let u = seek-to p 65 26 in
+    eq-eqb (seek p 65 26) 91 (⊎-elim (λ (l : seek p 65 26 < 91). absurd (none (seek p 65 26) (seek-passes p 65 26 l))) (λ (l : 91 ≤ seek p 65 26). omega arith) (below? (seek p 65 26) 91))
+  where
+    none : (b : ℕ) → (has s b && not (has t b)) ≡ true → ⊥
+    none b e =
+        let x = both (has s b) (not (has t b)) e in
+        true≢false (sym (x .1) ∙ ap not (h b (x .0)))
+
+-- ---- by what the two numbers share
+
+module _ (s t : LetterSet) where
+  shared-has : bitAnd (s .mask) (t .mask) % 2 ^ 26 ≡ s .mask % 2 ^ 26 → (b : ℕ) → has s b ≡ true → has t b ≡ true
+  shared-has e b h =
+      let l : isLetter b ≡ true = has-letter s b h in
+      let k : ℕ = b - 65 in
+      let g : k < 26 = omega (arith, letter-from b l, letter-to b l) in
+      let f : 65 + k ≡ b = omega (arith, letter-from b l) in
+      let p : bit (s .mask) k ≡ true = sym (bit-of s k g) ∙ ap (has s) f ∙ h in
+      let q : bit (bitAnd (s .mask) (t .mask)) k ≡ true = sym (bit-low 26 (bitAnd (s .mask) (t .mask)) k g) ∙ ap (λ (x : ℕ). bit x k) e ∙ bit-low 26 (s .mask) k g ∙ p in
+      let r : bit (t .mask) k ≡ true = both (bit (s .mask) k) (bit (t .mask) k) (sym (bit-shared (s .mask) (t .mask) k) ∙ q) .1 in
+      ap (has t) (sym f) ∙ bit-of t k g ∙ r
+
+  has-shared : subset s t ≡ true → bitAnd (s .mask) (t .mask) % 2 ^ 26 ≡ s .mask % 2 ^ 26
+  has-shared e = same-bits 26 (bitAnd (s .mask) (t .mask) % 2 ^ 26) (s .mask % 2 ^ 26) (mod-lt (bitAnd (s .mask) (t .mask)) (pow-pos 26)) (mod-lt (s .mask) (pow-pos 26)) at
+    where
+      go : (k : ℕ) → k < 26 → (x : Bool) → bit (s .mask) k ≡ x → (x && bit (t .mask) k) ≡ x
+      go k g true p = sym (bit-of t k g) ∙ subset-has s t e (65 + k) (bit-of s k g ∙ p)
+      go k g false p = refl
+      at : (k : ℕ) → k < 26 → bit (bitAnd (s .mask) (t .mask) % 2 ^ 26) k ≡ bit (s .mask % 2 ^ 26) k
+      at k g = bit-low 26 (bitAnd (s .mask) (t .mask)) k g ∙ bit-shared (s .mask) (t .mask) k ∙ go k g (bit (s .mask) k) refl ∙ sym (bit-low 26 (s .mask) k g)
+
+  pub subset-bits : eqb (bitAnd (s .mask) (t .mask) % 2 ^ 26) (s .mask % 2 ^ 26) ≡ subset s t
+  subset-bits = go (eqb (bitAnd (s .mask) (t .mask) % 2 ^ 26) (s .mask % 2 ^ 26)) refl (subset s t) refl
+    where
+      go : (x : Bool) → eqb (bitAnd (s .mask) (t .mask) % 2 ^ 26) (s .mask % 2 ^ 26) ≡ x → (y : Bool) → subset s t ≡ y → x ≡ y
+      go true e true f = refl
+      go false e false f = refl
+      go true e false f = sym (subset-all s t (shared-has (eqb-true _ _ e))) ∙ f
+      go false e true f = sym e ∙ eq-eqb _ _ (has-shared f)

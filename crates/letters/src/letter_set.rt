@@ -1,0 +1,55 @@
+// Sets of letters.
+ghost use mathlib.Core.Path.{_≡_};
+ghost use Rattle.letters.specs.Letters.{has, inserted, proper, subset};
+
+// A number whose bit 0 is A and bit 25 is Z.
+pub struct LetterSet {
+    pub mask: u32,
+}
+
+impl LetterSet {
+    pub const EMPTY: LetterSet = LetterSet { mask: 0 };
+    pub const ALL: LetterSet = LetterSet { mask: 0x03ff_ffff };
+
+    // Whether the letter is in the set: no byte but a letter is in any.
+    pub fn contains(self, letter: u8) -> bool
+        ensures { λ r. ⌜ r ≡ has self letter ⌝ }
+    {
+        if letter < 65 {
+            return false;
+        }
+        if 90 < letter {
+            return false;
+        }
+        let k = letter - 65;
+        (self.mask >> k) % 2 == 1
+    }
+
+    // The set with the letter: any other byte changes nothing.
+    pub fn insert(self, letter: u8) -> LetterSet
+        ensures { λ r. ⌜ r ≡ inserted self letter ⌝ }
+    {
+        if letter < 65 {
+            return self;
+        }
+        if 90 < letter {
+            return self;
+        }
+        let k = letter - 65;
+        LetterSet { mask: self.mask | (1u32 << k) }
+    }
+
+    // Whether no bit above 25 is set.
+    pub fn is_proper(self) -> bool
+        ensures { λ r. ⌜ r ≡ proper self ⌝ }
+    {
+        self.mask < 0x0400_0000
+    }
+
+    // Whether each letter of the set is one of the other.
+    pub fn is_subset(self, other: LetterSet) -> bool
+        ensures { λ r. ⌜ r ≡ subset self other ⌝ }
+    {
+        (self.mask & other.mask) % 0x0400_0000 == self.mask % 0x0400_0000
+    }
+}
