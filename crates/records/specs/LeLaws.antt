@@ -4,7 +4,7 @@ use mathlib.Core.Path.{_≡_, refl, sym, ap, _∙_}
 use mathlib.Core.List.{List, [], _∷_, _++_, append-assoc}
 use mathlib.Core.Logic.{_⊎_, inl, inr, ⊎-elim}
 use native.Mathlib.Omega.{arith}
-use native.Mathlib.Nat.{pow-suc}
+use native.Mathlib.Nat.{pow-suc, add-zero}
 use lib.ListN.{length, take, drop, getD, set, drop-of-length-le, List·getD-eq-default}
 use lib.Seq.{sets, sets-eq, drop-cons, set-out, take-nil, take-at, drop-at, length-take-le, getD-set-other}
 use Rattle.records.specs.Le.{le, value, numberAt}
@@ -94,6 +94,13 @@ sets-out (v ∷ vs) s at h =
     let e : set s at v ≡ s = set-out s at v h in
     let k : length s ≤ suc at = omega arith in
     rw e (sets-out vs s (suc at) k)
+
+-- a run of stores after another
+pub sets-append : (us vs s : List ℕ) (at : ℕ) → sets s at (us ++ vs) ≡ sets (sets s at us) (at + length us) vs
+sets-append [] vs s at = rw (add-zero at)
+sets-append (u ∷ us) vs s at =
+    let e : at + suc (length us) ≡ suc at + length us = omega arith in
+    rw e (sets-append us vs (set s at u) (suc at))
 
 -- what was stored is read back
 pub number-stored : (w n : ℕ) (s : List ℕ) (at : ℕ) → at + w ≤ length s → n < 256 ^ w → numberAt w (sets s at (le w n)) at ≡ n

@@ -1,15 +1,18 @@
 -- Laws by which a run of written records becomes "the first that fit, in order, the rest untouched". Assumes nothing.
-use Prim.Native.Nat.{ℕ, zero, suc, _+_, _-_, _*_, _/_, _≤_, _<_, min}
+use Prim.Native.Nat.{ℕ, zero, suc, _+_, _*_, _/_, _≤_, _<_, min}
 use mathlib.Core.Path.{_≡_, refl, sym, ap, _∙_, subst}
-use mathlib.Core.Bool.{Bool, true, false}
+use mathlib.Core.Bool.{true, false}
 use mathlib.Core.List.{List, [], _∷_, _++_, flatten, append-assoc, append-nil}
 use native.Mathlib.Omega.{arith}
 use native.Mathlib.Numerals.{add-one}
-use native.Mathlib.Nat.{min-le-left, mul-suc, mul-zero, div-mul-le-self, mul-comm, mul-le-mul-left, le-trans}
-use lib.ListN.{length, take, drop, length-append, length-drop}
-use lib.Seq.{sets, sets-eq, length-sets, take-at, drop-at, take-all, take-append-le, drop-drop, length-take-le}
+use native.Mathlib.Nat.{min-le-left, div-one, div-eq-of-lt, le-div-iff-mul-le, mul-suc, mul-zero, div-mul-le-self, mul-comm, mul-le-mul-left, le-trans}
+use mathlib.Core.Logic.{⊎-elim}
+use lib.ListN.{length, take, drop, set, length-append, length-drop, length-map, drop-of-length-le}
+use lib.Seq.{sets, sets-eq, take-at, drop-at, take-all, take-nil, drop-drop, drop-length, length-take-le}
 use lib.Dec.{leb}
 use borrow.Author.Tests.{le-leb, lt-leb}
+use Rattle.records.specs.Tests.{below?}
+use Rattle.records.specs.LeLaws.{sets-out}
 use Rattle.records.specs.Room.{roomOf, written, fits, fitted, bytewise}
 
 -- each record has the size
@@ -137,3 +140,72 @@ unfolding flatten
 flatten-bytewise t zero = refl
 flatten-bytewise [] (suc n) = refl
 flatten-bytewise (b ∷ t) (suc n) = ap (λ (l : List ℕ). b ∷ l) (flatten-bytewise t n)
+
+sets-behind : (x : ℕ) (xs : List ℕ) (i : ℕ) (vs : List ℕ) → sets (x ∷ xs) (suc i) vs ≡ x ∷ sets xs i vs
+sets-behind x xs i [] = refl
+sets-behind x xs i (v ∷ vs) = sets-behind x (set xs i v) (suc i) vs
+
+-- stores from the front on: what lies past the end is lost
+sets-front : (vs old : List ℕ) → sets old 0 vs ≡ take (length old) vs ++ drop (length vs) old
+sets-front [] old = rw (take-nil {A = ℕ} (length old))
+sets-front (v ∷ vs) [] = sets-out vs [] 1 (omega arith)
+sets-front (v ∷ vs) (x ∷ xs) = sets-behind v xs 0 vs ∙ ap (λ (l : List ℕ). v ∷ l) (sets-front vs xs)
+
+module _ (limit : ℕ) (t old : List ℕ) (h : length t ≤ limit) where
+  room-text : roomOf 1 limit old ≡ min (length old) limit
+  room-text = ap (λ (n : ℕ). min n limit) (div-one (length old))
+
+  -- a text stored byte by byte: the first bytes that fit
+  pub stored-text : sets old 0 t ≡ fitted 1 limit old (bytewise t)
+  unfolding written
+  stored-text = sets-front t old ∙ ⊎-elim short long (below? (length old) (length t)) ∙ sym front
+    where
+      n : ℕ
+      n = roomOf 1 limit old
+
+      front : written old (take n (bytewise t)) ≡ take n t ++ drop (length (take n t)) old
+      front = rw (flatten-bytewise t n)
+
+      short : length old < length t → take (length old) t ++ drop (length t) old ≡ take n t ++ drop (length (take n t)) old
+      short g =
+          let e : n ≡ length old = room-text ∙ omega arith in
+          let l : length (take (length old) t) ≡ length old = length-take-le (length old) t (omega arith) in
+          let k : length old ≤ length t = omega arith in
+          rw (e, l, drop-of-length-le old k, drop-length old)
+
+      long : length t ≤ length old → take (length old) t ++ drop (length t) old ≡ take n t ++ drop (length (take n t)) old
+      long g =
+          let e : length t ≤ n = omega (arith, room-text) in
+          rw (take-all n t e, take-all (length old) t g)
+
+  pub fits-text : fits 1 limit old (bytewise t) ≡ leb (length t) (length old)
+  fits-text =
+      let e : length (bytewise t) ≡ length t = length-map t (λ (b : ℕ). b ∷ []) in
+      let m : ℕ = min (length old) limit in
+      rw (e, room-text)
+      (⊎-elim (λ (g : length old < length t). lt-leb (length t) m (omega arith) ∙ sym (lt-leb (length t) (length old) g))
+      (λ (g : length t ≤ length old). le-leb (length t) m (omega arith) ∙ sym (le-leb (length t) (length old) g)) (below? (length old) (length t)))
+
+-- ---- a list of one record
+
+module _ (size : ℕ) (r old : List ℕ) (is : length r ≡ size) (some : 0 < size) where
+  room-one : size ≤ length old → 1 ≤ roomOf size 1 old
+  room-one h = let k : 1 ≤ length old / size = le-div-iff-mul-le some .1 (omega arith) in omega arith
+
+  pub stored-one : size ≤ length old → sets old 0 r ≡ fitted size 1 old (r ∷ [])
+  stored-one h =
+      let s = standing-more size 1 old (r ∷ []) (is, tt) r [] old 0 (standing-none size 1 old (r ∷ []) (is, tt)) (omega (arith, room-one h)) in
+      let e : size * 0 ≡ 0 = mul-zero size in
+      ap (λ (i : ℕ). sets old i r) (sym e) ∙ standing-done size 1 old (r ∷ []) (is, tt) (sets old (size * 0) r) 1 s .0
+
+  pub fits-one : size ≤ length old → fits size 1 old (r ∷ []) ≡ true
+  fits-one h = le-leb 1 (roomOf size 1 old) (room-one h)
+
+  no-room : length old < size → roomOf size 1 old ≡ 0
+  no-room h = let k : length old / size ≡ 0 = div-eq-of-lt h in rw k (omega arith)
+
+  pub kept-one : length old < size → old ≡ fitted size 1 old (r ∷ [])
+  kept-one h = rw (no-room h) (sym (written-none old))
+
+  pub full-one : length old < size → fits size 1 old (r ∷ []) ≡ false
+  full-one h = rw (no-room h) refl

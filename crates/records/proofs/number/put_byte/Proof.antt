@@ -1,25 +1,20 @@
+-- `put_byte` meets its contract. Assumes nothing.
 use mathlib.Core.Path.{sym}
 use lib.Seq.{set-out}
 use denote.Ref.{now}
 use borrow.Author.Needs.{needs}
 use Rattle.records.proofs.number.put_byte.Statement.{statement}
 use Rattle.records.proofs.number.put_byte.Tie as tie
-use Rattle.records.proofs.number.put_byte.Reads as reads
-use Rattle.records.proofs.number.put_byte.Lts as lts
 
--- src/number.rt:20:9
 slice-write-out : tie.Need-slice-write-out
 slice-write-out c = search needs
 
--- src/number.rt:16:1
 same-length : tie.Need-same-length
 same-length c = search needs
 
--- src/number.rt:16:1
 returns : tie.Need-returns
 returns c = search needs
 
--- src/number.rt:16:1
 returns-2 : tie.Need-returns-2
 returns-2 c = sym (set-out (now (c .before .args .out)) (c .before .args .at) (c .before .args .b) (c .if1 .left))
 

@@ -1,62 +1,47 @@
+-- `put_part` meets its contract. Assumes nothing.
 use Prim.Native.Nat.{suc, _+_}
 use mathlib.Core.Path.{_≡_}
 use native.Mathlib.Omega.{arith}
 use borrow.Author.Needs.{needs}
 use Rattle.records.proofs.number.put_part.Statement.{statement}
 use Rattle.records.proofs.number.put_part.Tie as tie
-use Rattle.records.proofs.number.put_part.Reads as reads
-use Rattle.records.proofs.number.put_part.Lts as lts
-use Rattle.records.proofs.number.put_byte.Reads as put-byte-reads
 
--- src/number.rt:62:23
 cast-put-byte : tie.Need-cast-put-byte
 cast-put-byte c = search needs
 
--- src/number.rt:62:5
 put-byte-requires : tie.Need-put-byte-requires
 put-byte-requires c κs = search needs
 
--- src/number.rt:63:19
 add-put-byte : tie.Need-add-put-byte
 add-put-byte c = search needs
 
--- src/number.rt:63:27
 cast-put-byte-2 : tie.Need-cast-put-byte-2
 cast-put-byte-2 c = search needs
 
--- src/number.rt:63:5
 put-byte-requires-2 : tie.Need-put-byte-requires-2
 put-byte-requires-2 c κs = search needs
 
--- src/number.rt:64:19
 add-put-byte-2 : tie.Need-add-put-byte-2
 add-put-byte-2 c = search needs
 
--- src/number.rt:64:27
 cast-put-byte-3 : tie.Need-cast-put-byte-3
 cast-put-byte-3 c = search needs
 
--- src/number.rt:64:5
 put-byte-requires-3 : tie.Need-put-byte-requires-3
 put-byte-requires-3 c κs = search needs
 
--- src/number.rt:65:19
 add-put-byte-3 : tie.Need-add-put-byte-3
 add-put-byte-3 c = search needs
 
--- src/number.rt:65:27
 cast-put-byte-4 : tie.Need-cast-put-byte-4
 cast-put-byte-4 c = search needs
 
--- src/number.rt:65:5
 put-byte-requires-4 : tie.Need-put-byte-requires-4
 put-byte-requires-4 c κs = search needs
 
--- src/number.rt:58:1
 same-length : tie.Need-same-length
 same-length c = search needs
 
--- src/number.rt:58:1
 returns : tie.Need-returns
 returns c =
     let at = c .before .before .before .before .before .before .before .before .before .before .before .before .before .before .before .before .before .args .at in

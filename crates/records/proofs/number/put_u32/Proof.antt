@@ -1,3 +1,4 @@
+-- `put_u32` meets its contract. Assumes nothing.
 use mathlib.Core.Path.{sym}
 use denote.Ref.{now}
 use Rattle.records.specs.Le.{le}
@@ -5,40 +6,28 @@ use Rattle.records.specs.LeLaws.{sets-out}
 use borrow.Author.Needs.{needs}
 use Rattle.records.proofs.number.put_u32.Statement.{statement}
 use Rattle.records.proofs.number.put_u32.Tie as tie
-use Rattle.records.proofs.number.put_u32.Reads as reads
-use Rattle.records.proofs.number.put_u32.Lts as lts
-use Rattle.records.proofs.number.put_part.Reads as put-part-reads
-use Rattle.records.proofs.number.put_whole.Reads as put-whole-reads
 
--- src/number.rt:73:9
 returns : tie.Need-returns
 returns c = sym (sets-out (le 4 (c .before .before .args .n)) (now (c .before .before .args .out)) (c .before .before .args .at) (c .if1 .taken))
 
--- src/number.rt:75:13
 sub-if2 : tie.Need-sub-if2
 sub-if2 c = search needs
 
--- src/number.rt:76:9
 put-whole-requires : tie.Need-put-whole-requires
 put-whole-requires c κs = search needs
 
--- src/number.rt:78:9
 put-part-requires : tie.Need-put-part-requires
 put-part-requires c κs = search needs
 
--- src/number.rt:69:1
 same-length : tie.Need-same-length
 same-length c = search needs
 
--- src/number.rt:69:1
 returns-2 : tie.Need-returns-2
 returns-2 c = search needs
 
--- src/number.rt:69:1
 same-length-2 : tie.Need-same-length-2
 same-length-2 c = search needs
 
--- src/number.rt:69:1
 returns-3 : tie.Need-returns-3
 returns-3 c = search needs
 
