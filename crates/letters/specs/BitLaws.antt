@@ -9,7 +9,7 @@ use native.Mathlib.Numerals.{add-one}
 use lib.Dec.{eqb}
 use lib.Pow.{pow-pos, pow-lt, pow-add, shr-shr, field, mod-mod-pow}
 use lib.Bits.{bitOr, bitAnd, or-shr, or-mod, and-shr, and-mod}
-use borrow.Author.Tests.{eq-eqb, eqb-true, eqb-false}
+use borrow.Author.Tests.{eqb-true, eqb-false}
 use Rattle.records.specs.Tests.{below?}
 use Rattle.letters.specs.Letters.{bit}
 
@@ -38,7 +38,7 @@ pow-below : (k j : ℕ) → j < k → digit (2 ^ k) j ≡ 0
 pow-below k j h =
     let e : k ≡ (k - suc j) + 1 + j = omega arith in
     let f : 2 ^ k ≡ 2 ^ (k - suc j) * 2 * 2 ^ j =
-        ap (λ (x : ℕ). 2 ^ x) e ∙ pow-add 2 (k - suc j + 1) j ∙ ap (λ (x : ℕ). x * 2 ^ j) (pow-add 2 (k - suc j) 1) in
+    ap (λ (x : ℕ). 2 ^ x) e ∙ pow-add 2 (k - suc j + 1) j ∙ ap (λ (x : ℕ). x * 2 ^ j) (pow-add 2 (k - suc j) 1) in
     ap (λ (x : ℕ). x / 2 ^ j % 2) f
     ∙ ap (λ (x : ℕ). x % 2) (mul-div-cancel (2 ^ (k - suc j) * 2) (pow-pos j))
     ∙ mul-mod-left (2 ^ (k - suc j)) 2
@@ -107,6 +107,7 @@ bit-digit m n k e = go (digit-ways m k) (digit-ways n k)
   where
     apart : eqb 0 1 ≡ eqb 1 1 → ⊥
     apart f = let z : _≡_ {A = ℕ} 0 1 = cc in omega arith
+
     go : (digit m k ≡ 0) ⊎ (digit m k ≡ 1) → (digit n k ≡ 0) ⊎ (digit n k ≡ 1) → digit m k ≡ digit n k
     go (inl x) (inl y) = cc
     go (inr x) (inr y) = cc

@@ -1,21 +1,19 @@
 -- The laws of sets of letters that callers cite, so that none opens the definitions. Assumes nothing.
-use Prim.Native.Nat.{ℕ, zero, suc, _+_, _-_, _/_, _%_, _^_, _≤_, _<_}
+use Prim.Native.Nat.{ℕ, _+_, _-_, _%_, _^_, _≤_, _<_}
 use mathlib.Core.Path.{_≡_, refl, sym, ap, _∙_, subst}
 use mathlib.Core.Bool.{Bool, true, false, cond, not, _&&_, _||_, and-false, true≢false}
-use mathlib.Core.Logic.{_⊎_, inl, inr, ⊎-elim}
-use mathlib.Core.List.{List}
+use mathlib.Core.Logic.{⊎-elim}
 use native.Mathlib.Nat.{zero-div, mod-lt}
 use native.Mathlib.Omega.{arith}
-use lib.ListN.{length, getD}
 use lib.Dec.{leb, ltb, eqb}
 use lib.Pow.{pow-pos, pow-lt}
-use lib.Bits.{bitOr, bitAnd, or-lt, and-mod}
-use borrow.Author.Tests.{lt-leb, le-leb, eq-eqb, ne-eqb, leb-true, eqb-true, eqb-false, ltb-true, lt-ltb, not-false}
+use lib.Bits.{bitOr, bitAnd, or-lt}
+use borrow.Author.Tests.{le-leb, eq-eqb, ne-eqb, leb-true, eqb-true, eqb-false, ltb-true, lt-ltb, not-false}
 use Rattle.records.specs.Tests.{below?, both, truth?}
 use Rattle.records.specs.Search.{seek}
 use Rattle.records.specs.SearchLaws.{seek-to, seek-passes, seek-before}
 use Rattle.letters.specs.declared.letter_set.LetterSet.{LetterSet}
-use Rattle.letters.specs.Letters.{isLetter, bit, has, inserted, empty, all, proper, subset, firstBad}
+use Rattle.letters.specs.Letters.{isLetter, bit, has, inserted, empty, all, proper, subset}
 use Rattle.letters.specs.BitLaws.{bit-insert, bit-shared, bit-low, same-bits}
 
 -- ---- letters
@@ -56,14 +54,17 @@ has-insert s a b = go (isLetter a) refl (isLetter b) refl
   where
     m : ℕ
     m = s .mask
+
     same : isLetter a ≡ true → isLetter b ≡ true → eqb (b - 65) (a - 65) ≡ eqb b a
     same p q = back (eqb b a) refl
       where
         back : (t : Bool) → eqb b a ≡ t → eqb (b - 65) (a - 65) ≡ t
         back true e = eq-eqb (b - 65) (a - 65) (ap (λ (x : ℕ). x - 65) (eqb-true b a e))
         back false e = ne-eqb (b - 65) (a - 65) (λ (h : b - 65 ≡ a - 65). eqb-false b a e (omega (arith, letter-from a p, letter-from b q)))
+
     apart : isLetter a ≡ true → isLetter b ≡ false → eqb b a ≡ false
     apart p q = ne-eqb b a (λ (h : b ≡ a). true≢false (sym p ∙ ap isLetter (sym h) ∙ q))
+
     go : (x : Bool) → isLetter a ≡ x → (t : Bool) → isLetter b ≡ t → (t && bit (cond x (bitOr m (2 ^ (a - 65))) m) (b - 65)) ≡ ((x && eqb b a) || (t && bit m (b - 65)))
     go true p true q = bit-insert m (a - 65) (b - 65) ∙ ap (λ (x : Bool). x || bit m (b - 65)) (same p q)
     go true p false q = simp (apart p q)
@@ -112,6 +113,7 @@ has-all b = ⊎-elim (inside) (λ (e : isLetter b ≡ false). has-other all b e 
   where
     at : (k : ℕ) → k < 26 → has all (65 + k) ≡ true
     at k h = bit-of all k h ∙ not-false (bit 67108863 k) (seek-before (λ (j : ℕ). not (bit 67108863 j)) 0 26 k (omega arith) (omega (arith, all-bits)))
+
     inside : isLetter b ≡ true → has all b ≡ isLetter b
     inside e =
         let f : 65 + (b - 65) ≡ b = omega (arith, letter-from b e) in
@@ -164,6 +166,7 @@ module _ (s t : LetterSet) where
       go : (k : ℕ) → k < 26 → (x : Bool) → bit (s .mask) k ≡ x → (x && bit (t .mask) k) ≡ x
       go k g true p = sym (bit-of t k g) ∙ subset-has s t e (65 + k) (bit-of s k g ∙ p)
       go k g false p = refl
+
       at : (k : ℕ) → k < 26 → bit (bitAnd (s .mask) (t .mask) % 2 ^ 26) k ≡ bit (s .mask % 2 ^ 26) k
       at k g = bit-low 26 (bitAnd (s .mask) (t .mask)) k g ∙ bit-shared (s .mask) (t .mask) k ∙ go k g (bit (s .mask) k) refl ∙ sym (bit-low 26 (s .mask) k g)
 

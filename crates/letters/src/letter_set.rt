@@ -9,6 +9,7 @@ pub struct LetterSet {
 
 impl LetterSet {
     pub const EMPTY: LetterSet = LetterSet { mask: 0 };
+
     pub const ALL: LetterSet = LetterSet { mask: 0x03ff_ffff };
 
     // Whether the letter is in the set: no byte but a letter is in any.
@@ -36,7 +37,9 @@ impl LetterSet {
             return self;
         }
         let k = letter - 65;
-        LetterSet { mask: self.mask | (1u32 << k) }
+        LetterSet {
+            mask: self.mask | (1u32 << k),
+        }
     }
 
     // Whether no bit above 25 is set.

@@ -1,18 +1,16 @@
-use Prim.Native.Nat.{ℕ, _≤_, _-_}
+-- `first_bad` meets its contract. Assumes nothing.
+use Prim.Native.Nat.{_≤_, _-_}
 use mathlib.Core.Path.{_≡_, sym, ap, _∙_}
-use mathlib.Core.Bool.{Bool, not}
+use mathlib.Core.Bool.{not}
 use native.Mathlib.Omega.{arith}
 use denote.Ref.{now}
-use lib.ListN.{length, getD}
+use lib.ListN.{length}
 use borrow.Author.Needs.{needs}
 use Rattle.records.specs.Search.{seek}
 use Rattle.records.specs.SearchLaws.{seek-start, seek-on, seek-stop, seek-end}
 use Rattle.letters.specs.Letters.{noLetter, firstBad}
 use Rattle.letters.proofs.stretch.first_bad.Statement.{statement}
 use Rattle.letters.proofs.stretch.first_bad.Tie as tie
-use Rattle.letters.proofs.stretch.first_bad.Reads as reads
-use Rattle.letters.proofs.stretch.first_bad.Lts as lts
-use Rattle.letters.proofs.stretch.is_letter.Reads as is-letter-reads
 
 abbrev Inv-loop : tie.InvT-loop
 Inv-loop s i₀ i = (i ≤ length s) × (seek (noLetter s) i (length s - i) ≡ firstBad s)
@@ -20,44 +18,36 @@ Inv-loop s i₀ i = (i ≤ length s) × (seek (noLetter s) i (length s - i) ≡ 
 abbrev μ-loop : tie.MeasureT-loop
 μ-loop s i₀ i = length s - i
 
--- src/stretch.rt:17:5
 loop-holds : tie.Need-loop-holds Inv-loop μ-loop
 unfolding firstBad
 loop-holds c = (omega arith, seek-start (noLetter (now (c .before .args .s))) (length (now (c .before .args .s))))
 
--- src/stretch.rt:18:22
 shared-slice-read-is-letter : tie.Need-shared-slice-read-is-letter Inv-loop μ-loop
 shared-slice-read-is-letter c = search needs
 
--- src/stretch.rt:18:12
 is-letter-requires : tie.Need-is-letter-requires Inv-loop μ-loop
 is-letter-requires c κs = search needs
 
--- src/stretch.rt:19:13
 add-i : tie.Need-add-i Inv-loop μ-loop
 add-i c = search needs
 
--- src/stretch.rt:17:5
 loop-less : tie.Need-loop-less Inv-loop μ-loop
 loop-less c = search needs
 
--- src/stretch.rt:17:5
 loop-again : tie.Need-loop-again Inv-loop μ-loop
-loop-again c = 
+loop-again c =
     let s = now (c .before .before .before .before .before .before .args .s) in
     let i = c .before .before .before .before .loop .i in
     (omega arith, sym (seek-on (noLetter s) i (length s) (c .before .before .before .loop-test .taken) (ap not (sym (c .before .is-letter .ensures) ∙ c .if1 .taken))) ∙ c .before .before .before .before .loop .inv .1)
 
--- src/stretch.rt:21:13
 returns : tie.Need-returns Inv-loop μ-loop
-returns c = 
+returns c =
     let s = now (c .before .before .before .before .before .before .args .s) in
     let i = c .before .before .before .before .loop .i in
     sym (seek-stop (noLetter s) i (length s) (c .before .before .before .loop-test .taken) (ap not (sym (c .before .is-letter .ensures) ∙ c .if1 .left))) ∙ c .before .before .before .before .loop .inv .1
 
--- src/stretch.rt:13:1
 returns-2 : tie.Need-returns-2 Inv-loop μ-loop
-returns-2 c = 
+returns-2 c =
     let s = now (c .before .before .before .args .s) in
     sym (seek-end (noLetter s) (c .before .loop .i) (length s) (c .loop-test .left)) ∙ c .before .loop .inv .1
 

@@ -1,11 +1,9 @@
+-- `is_letter` meets its contract. Assumes nothing.
 use mathlib.Core.Path.{refl}
 use Rattle.letters.specs.Letters.{isLetter}
 use Rattle.letters.proofs.stretch.is_letter.Statement.{statement}
 use Rattle.letters.proofs.stretch.is_letter.Tie as tie
-use Rattle.letters.proofs.stretch.is_letter.Reads as reads
-use Rattle.letters.proofs.stretch.is_letter.Lts as lts
 
--- src/stretch.rt:6:1
 returns : tie.Need-returns
 unfolding isLetter
 returns c = refl

@@ -1,30 +1,24 @@
+-- `LetterSet::contains` meets its contract. Assumes nothing.
 use borrow.Author.Tests.{lt-leb, le-leb}
 use Rattle.letters.specs.Letters.{has, isLetter, bit}
 use borrow.Author.Needs.{needs}
 use Rattle.letters.proofs.letter_set.LetterSet.contains.Statement.{statement}
 use Rattle.letters.proofs.letter_set.LetterSet.contains.Tie as tie
-use Rattle.letters.proofs.letter_set.LetterSet.contains.Reads as reads
-use Rattle.letters.proofs.letter_set.LetterSet.contains.Lts as lts
 
--- src/letter_set.rt:19:13
 returns : tie.Need-returns
 unfolding has isLetter
 returns c = simp (lt-leb _ _ (c .if1 .taken))
 
--- src/letter_set.rt:22:13
 returns-2 : tie.Need-returns-2
 unfolding has isLetter
 returns-2 c = simp (le-leb _ _ (c .before .if1 .left), lt-leb _ _ (c .if2 .taken))
 
--- src/letter_set.rt:25:23
 cast-result : tie.Need-cast-result
 cast-result c = search needs
 
--- src/letter_set.rt:25:10
 shr-result : tie.Need-shr-result
 shr-result c = search needs
 
--- src/letter_set.rt:15:5
 returns-3 : tie.Need-returns-3
 unfolding has isLetter bit
 returns-3 c = simp (le-leb _ _ (c .before .before .if1 .left), le-leb _ _ (c .before .if2 .left))

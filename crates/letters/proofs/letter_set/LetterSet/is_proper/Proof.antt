@@ -1,11 +1,9 @@
+-- `LetterSet::is_proper` meets its contract. Assumes nothing.
 use mathlib.Core.Path.{refl}
 use Rattle.letters.specs.Letters.{proper}
 use Rattle.letters.proofs.letter_set.LetterSet.is_proper.Statement.{statement}
 use Rattle.letters.proofs.letter_set.LetterSet.is_proper.Tie as tie
-use Rattle.letters.proofs.letter_set.LetterSet.is_proper.Reads as reads
-use Rattle.letters.proofs.letter_set.LetterSet.is_proper.Lts as lts
 
--- src/letter_set.rt:43:5
 returns : tie.Need-returns
 unfolding proper
 returns c = refl

@@ -1,10 +1,8 @@
+-- `LetterSet::is_subset` meets its contract. Assumes nothing.
 use Rattle.letters.specs.LetterLaws.{subset-bits}
 use Rattle.letters.proofs.letter_set.LetterSet.is_subset.Statement.{statement}
 use Rattle.letters.proofs.letter_set.LetterSet.is_subset.Tie as tie
-use Rattle.letters.proofs.letter_set.LetterSet.is_subset.Reads as reads
-use Rattle.letters.proofs.letter_set.LetterSet.is_subset.Lts as lts
 
--- src/letter_set.rt:50:5
 returns : tie.Need-returns
 returns c = subset-bits (c .before .before .before .args .self) (c .before .before .before .args .other)
 
