@@ -1,0 +1,92 @@
+-- `write` meets its contract. Assumes nothing.
+use mathlib.Core.Path.{sym, _∙_}
+use denote.Ref.{now}
+use Rattle.modification.specs.TextLaws.{write-bad, write-letter, write-mark, write-both}
+use borrow.Author.Needs.{needs}
+use Rattle.modification.proofs.text.write.Statement.{statement}
+use Rattle.modification.proofs.text.write.Tie as tie
+
+kind-requires : tie.Need-kind-requires
+kind-requires c κs = search needs
+
+letter-requires : tie.Need-letter-requires
+letter-requires c κs = search needs
+
+is-sound-requires : tie.Need-is-sound-requires
+is-sound-requires c κs = search needs
+
+put-one-requires : tie.Need-put-one-requires
+put-one-requires c κs = search needs
+
+same-length : tie.Need-same-length
+same-length c = search needs
+
+returns : tie.Need-returns
+returns c =
+    let a = c .before .before .before .before .before .before .before .before .before .before .args in
+    let k = c .before .before .before .before .before .before .before .before .kind in
+    let l = c .before .before .before .before .before .before .before .letter in
+    let h = sym (c .before .before .before .before .before .before .is-sound .ensures) ∙ c .before .before .before .before .before .if1 .taken in
+    c .before .before .put-one .ensures ∙ write-letter (a .rule) (now (a .out)) (k .result) (l .result) (k .ensures) (l .ensures) h (c .before .before .before .before .if2 .taken)
+
+mark-byte-requires : tie.Need-mark-byte-requires
+mark-byte-requires c κs = search needs
+
+put-one-requires-2 : tie.Need-put-one-requires-2
+put-one-requires-2 c κs = search needs
+
+same-length-2 : tie.Need-same-length-2
+same-length-2 c = search needs
+
+returns-2 : tie.Need-returns-2
+returns-2 c =
+    let a = c .before .before .before .before .before .before .before .before .before .before .before .before .args in
+    let k = c .before .before .before .before .before .before .before .before .before .before .kind in
+    let l = c .before .before .before .before .before .before .before .before .before .letter in
+    let h = sym (c .before .before .before .before .before .before .before .before .is-sound .ensures) ∙ c .before .before .before .before .before .before .before .if1 .taken in
+    c .before .before .put-one2 .ensures ∙ write-mark (a .rule) (now (a .out)) (k .result) (l .result) (k .ensures) (l .ensures) h (c .before .before .before .before .before .before .if2 .left) (c .before .before .before .mark-byte .result) (c .before .before .before .mark-byte .ensures) (c .before .before .before .before .before .if3 .taken)
+
+mark-byte-requires-2 : tie.Need-mark-byte-requires-2
+mark-byte-requires-2 c κs = search needs
+
+put-two-requires : tie.Need-put-two-requires
+put-two-requires c κs = search needs
+
+same-length-3 : tie.Need-same-length-3
+same-length-3 c = search needs
+
+returns-3 : tie.Need-returns-3
+returns-3 c =
+    let a = c .before .before .before .before .before .before .before .before .before .before .before .before .args in
+    let k = c .before .before .before .before .before .before .before .before .before .before .kind in
+    let l = c .before .before .before .before .before .before .before .before .before .letter in
+    let h = sym (c .before .before .before .before .before .before .before .before .is-sound .ensures) ∙ c .before .before .before .before .before .before .before .if1 .taken in
+    c .before .before .put-two .ensures ∙ write-both (a .rule) (now (a .out)) (k .result) (l .result) (k .ensures) (l .ensures) h (c .before .before .before .before .before .before .if2 .left) (c .before .before .before .mark-byte2 .result) (c .before .before .before .mark-byte2 .ensures) (c .before .before .before .before .before .if3 .left)
+
+returns-4 : tie.Need-returns-4
+returns-4 c =
+    let a = c .before .before .before .before .before .args in
+    let k = c .before .before .before .kind in
+    let l = c .before .before .letter in
+    let h = sym (c .before .is-sound .ensures) ∙ c .if1 .left in
+    write-bad (a .rule) (now (a .out)) (k .result) (l .result) (k .ensures) (l .ensures) h
+
+pub write-spec : {M : Type 1} → statement M
+write-spec =
+    tie.close
+    (tie.spec
+    kind-requires
+    letter-requires
+    is-sound-requires
+    put-one-requires
+    same-length
+    returns
+    mark-byte-requires
+    put-one-requires-2
+    same-length-2
+    returns-2
+    mark-byte-requires-2
+    put-two-requires
+    same-length-3
+    returns-3
+    returns-4)

@@ -1,0 +1,94 @@
+-- What the tests and the stores of rule records come to. Assumes nothing.
+use Prim.Native.Nat.{ℕ, _/_, _%_, _^_, _≤_, _<_}
+use mathlib.Core.Path.{_≡_, refl, ap, _∙_, subst}
+use mathlib.Core.Bool.{Bool, true, false, not, _&&_}
+use mathlib.Core.List.{List, [], _∷_, _++_}
+use native.Mathlib.Omega.{arith}
+use lib.ListN.{length}
+use lib.Seq.{sets}
+use lib.Dec.{ltb, eqb}
+use borrow.Author.Tests.{lt-ltb, le-ltb, eq-eqb, ne-eqb}
+use Rattle.records.specs.declared.refusal.Refusal.the-variants.{Size, Length, Field, Room}
+use Rattle.records.specs.declared.refusal.Checked.{Checked}
+use Rattle.records.specs.Tests.{both}
+use Rattle.records.specs.Le.{le, numberAt}
+use Rattle.records.specs.LeLaws.{value-le}
+use Rattle.records.specs.Outcome.{outcome, only}
+use Rattle.records.specs.RoomLaws.{stored-one, fits-one, kept-one, full-one}
+use Rattle.modification.specs.declared.rule.Rule.{Rule}
+use Rattle.modification.specs.declared.rule.Read.{Read}
+use Rattle.modification.specs.declared.specificity.Specificity.{Specificity}
+use Rattle.modification.specs.declared.specificity.Specificity.the-variants.{Residue, PeptideN, PeptideC, ProteinN, ProteinC}
+use Rattle.modification.specs.Specificities.{kindOf, letterOf, specificity, sound}
+use Rattle.modification.specs.Rules.{goodRule, readRule, firstBadRule, mostRules, testedRules, soundRule, ruleBytes, writeRuleOutcome}
+
+-- ---- the tests of a list of rules, one after the other
+
+module _ (fixed : Bool) (rules : List ℕ) (most : ℕ) (is : most ≡ mostRules fixed) where
+  pub tested-size : most < length rules / 8 → Checked.Refused Size ≡ testedRules fixed rules
+  unfolding testedRules
+  tested-size h = rw (lt-ltb (mostRules fixed) (length rules / 8) (rw is at h))
+
+  module _ (few : length rules / 8 ≤ most) where
+    not-many : ltb (mostRules fixed) (length rules / 8) ≡ false
+    not-many = le-ltb (mostRules fixed) (length rules / 8) (rw is at few)
+
+    pub tested-length : (length rules % 8 ≡ 0 → ⊥) → Checked.Refused Length ≡ testedRules fixed rules
+    unfolding testedRules
+    tested-length h = rw (not-many, ne-eqb (length rules % 8) 0 h)
+
+    module _ (whole : length rules % 8 ≡ 0) (bad : ℕ) (first : bad ≡ firstBadRule fixed rules) where
+      pub tested-field : bad < length rules / 8 → Checked.Refused (Field bad) ≡ testedRules fixed rules
+      unfolding testedRules
+      tested-field h = rw (first, not-many, eq-eqb (length rules % 8) 0 whole, lt-ltb (firstBadRule fixed rules) (length rules / 8) (rw first at h))
+
+      pub tested-passed : length rules / 8 ≤ bad → Checked.Passed ≡ testedRules fixed rules
+      unfolding testedRules
+      tested-passed h = rw (not-many, eq-eqb (length rules % 8) 0 whole, le-ltb (firstBadRule fixed rules) (length rules / 8) (rw first at h))
+
+-- ---- a rule in a buffer
+
+module _ (q : Rule) (old : List ℕ) (k l : ℕ) (ek : k ≡ kindOf (q .on)) (el : l ≡ letterOf (q .on)) where
+  is-sound : (x : Bool) → (sound k l && not (eqb (q .id) 0)) ≡ x → soundRule q ≡ x
+  is-sound x h = subst (λ (m : ℕ). (sound m (letterOf (q .on)) && not (eqb (q .id) 0)) ≡ x) ek (subst (λ (m : ℕ). (sound k m && not (eqb (q .id) 0)) ≡ x) el h)
+
+  pub rule-bad : (sound k l && not (eqb (q .id) 0)) ≡ false → outcome (Checked.Refused (Field 0)) (old ∷ []) ≡ writeRuleOutcome q old
+  unfolding writeRuleOutcome
+  rule-bad h = rw (is-sound false h)
+
+  module _ (h : (sound k l && not (eqb (q .id) 0)) ≡ true) where
+    pub rule-full : length old < 8 → outcome (Checked.Refused Room) (old ∷ []) ≡ writeRuleOutcome q old
+    unfolding writeRuleOutcome
+    rule-full g =
+        let f = full-one 8 (ruleBytes q) old refl (omega arith) g in
+        let e = kept-one 8 (ruleBytes q) old refl (omega arith) g in
+        ap (λ (x : List ℕ). outcome (Checked.Refused Room) (x ∷ [])) e ∙ rw (is-sound true h, f)
+
+    pub rule-stored : 8 ≤ length old → (out : List ℕ) → out ≡ sets old 0 (k ∷ l ∷ q .id ∷ 0 ∷ le 4 (q .limit)) → outcome Checked.Passed (out ∷ []) ≡ writeRuleOutcome q old
+    unfolding writeRuleOutcome
+    rule-stored g out e =
+        let f = fits-one 8 (ruleBytes q) old refl (omega arith) g in
+        let s = stored-one 8 (ruleBytes q) old refl (omega arith) g in
+        let b : sets old 0 (k ∷ l ∷ q .id ∷ 0 ∷ le 4 (q .limit)) ≡ sets old 0 (ruleBytes q) = rw (ek, el) in
+        ap (λ (x : List ℕ). outcome Checked.Passed (x ∷ [])) (e ∙ b ∙ s) ∙ rw (is-sound true h, f)
+
+-- no second answer, and no second contents, meets what `write_rule` ensures
+pub write-rule-only : (q : Rule) (old : List ℕ) (a b : Checked) (k l : List (List ℕ)) → outcome a k ≡ writeRuleOutcome q old → outcome b l ≡ writeRuleOutcome q old → (a ≡ b) × (k ≡ l)
+write-rule-only q old a b k l = only a b k l (writeRuleOutcome q old)
+
+-- ---- writing, then reading
+
+kind-letter : (s : Specificity) → specificity (kindOf s) (letterOf s) ≡ s
+kind-letter (Residue b) = refl
+kind-letter (PeptideN b) = refl
+kind-letter (PeptideC b) = refl
+kind-letter (ProteinN b) = refl
+kind-letter (ProteinC b) = refl
+
+-- a sound rule that was written is read back
+pub write-then-read : (q : Rule) (rest : List ℕ) → soundRule q ≡ true → q .limit < 256 ^ 4 → readRule (ruleBytes q ++ rest) 0 ≡ Read.Rule q
+unfolding readRule goodRule numberAt
+write-then-read q rest h g =
+    let x = both (sound (kindOf (q .on)) (letterOf (q .on))) (not (eqb (q .id) 0)) h in
+    let some : 0 < length (ruleBytes q ++ rest) / 8 = omega arith in
+    rw (lt-ltb 0 (length (ruleBytes q ++ rest) / 8) some, x .0, x .1, kind-letter (q .on), value-le 4 (q .limit) g)
