@@ -1,0 +1,40 @@
+// Letters and their sets.
+use letters::LetterSet;
+use records::Refusal;
+ghost use mathlib.Core.Path.{_≡_};
+ghost use mathlib.Core.List.{List, [], _∷_};
+ghost use mathlib.Core.Bool.{cond};
+ghost use Rattle.letters.specs.Letters.{has, inserted};
+ghost use Rattle.records.specs.Outcome.{outcome};
+ghost use Rattle.sendumaal.specs.Calls.{setOf, lettersCall};
+
+#[no_mangle]
+pub extern "C" fn sendumaal_set_insert(set: u32, letter: u8) -> u32
+    ensures { λ r. ⌜ r ≡ inserted (setOf set) letter .mask ⌝ }
+{
+    let s = LetterSet { mask: set };
+    let t = s.insert(letter);
+    t.mask
+}
+
+#[no_mangle]
+pub extern "C" fn sendumaal_set_contains(set: u32, letter: u8) -> u32
+    ensures { λ r. ⌜ r ≡ cond (has (setOf set) letter) 1 0 ⌝ }
+{
+    let s = LetterSet { mask: set };
+    if s.contains(letter) { 1 } else { 0 }
+}
+
+#[no_mangle]
+pub extern "C" fn sendumaal_letters_test(letters: &[u8], place: &mut usize) -> u32
+    ensures { λ r. ⌜ outcome r ((now (place .exit) ∷ []) ∷ []) ≡ lettersCall (now (letters .entry)) ⌝ }
+{
+    let bad = letters::first_bad(letters);
+    if bad < letters.len() {
+        let why = Refusal::Letter(bad);
+        *place = why.place();
+        return why.number();
+    }
+    *place = 0;
+    0
+}

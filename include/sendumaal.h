@@ -1,0 +1,105 @@
+/* Sendumaal: the proved library, for C and for whatever calls C.
+ *
+ * Rules that hold for every function here
+ * - It takes any numbers and any bytes, and it ends. A slice is a pointer and then its length in elements; an empty
+ *   one may have any pointer, also a null one. Slices and results of one call must not overlap: that, and that the
+ *   memory is there, is all that a caller owes.
+ * - What it returns is 0, or the number of a refusal (SENDUMAAL_...). Functions that cannot refuse say what they
+ *   return instead.
+ * - *place is written by every call that has it: the refusal's place, or 0 where there is none. A refusal writes
+ *   nothing else, neither to results nor to slices. Only "no room" (11) differs: the records that fit stand in order.
+ * - A set of letters is a number: bit 0 is A, bit 25 is Z.
+ */
+#ifndef SENDUMAAL_H
+#define SENDUMAAL_H
+
+#include <stddef.h>
+#include <stdint.h>
+#include <string.h>
+
+#ifdef __cplusplus
+extern "C" {
+#endif
+
+/* What a call says no with, and what its place is then. */
+enum {
+    SENDUMAAL_ACCEPTED = 0,
+    SENDUMAAL_SIZE = 1,        /* a size above its limit, or an empty peptide: 0 */
+    SENDUMAAL_LETTER = 2,      /* in letters a byte that is not A to Z; in a rule text a byte of 128 or more: its index */
+    SENDUMAAL_ALPHABET = 3,    /* alphabet bits above 25, or a letter of a set outside the alphabet: 0 */
+    SENDUMAAL_EMPTY_TEXT = 4,  /* an empty rule text: 0 */
+    SENDUMAAL_OUTSIDE = 5,     /* the letter of a rule text is not in the alphabet: its index */
+    SENDUMAAL_LONG_TEXT = 6,   /* a rule text that is too long: 0 */
+    SENDUMAAL_TABLE_FULL = 7,  /* adding a 256th modification: 0 */
+    SENDUMAAL_LENGTH = 8,      /* a length that is not whole records, or not the stated count: 0 */
+    SENDUMAAL_FIELD = 9,       /* a field out of range: the record's index */
+    SENDUMAAL_WORK = 10,       /* a work slice that is too short: 0 */
+    SENDUMAAL_ROOM = 11,       /* no room: 0 */
+    SENDUMAAL_NAME = 12,       /* a bad name: its index; a bad decoy tag: 0 */
+    SENDUMAAL_REPEAT = 13      /* a name equal to an earlier one: its index */
+};
+
+#define SENDUMAAL_NO_LETTERS UINT32_C(0)
+#define SENDUMAAL_ALL_LETTERS UINT32_C(0x03ffffff)
+#define SENDUMAAL_NO_LIMIT UINT32_C(0xffffffff) /* of a rule */
+#define SENDUMAAL_NO_NAME UINT32_C(0xffffffff)  /* of a modification */
+
+/* ---- letters ---- */
+
+/* The set with the letter; any byte that is not A to Z changes nothing. */
+uint32_t sendumaal_set_insert(uint32_t set, uint8_t letter);
+
+/* 1 if the letter is in the set, else 0; no byte that is not A to Z is in any set. */
+uint32_t sendumaal_set_contains(uint32_t set, uint8_t letter);
+
+/* Refuses with 2 at the first byte that is not A to Z. */
+uint32_t sendumaal_letters_test(const uint8_t *letters, size_t letters_len, size_t *place);
+
+/* ---- rules ----
+ * A kind is 0 for a residue, 1 for ^, 2 for $, 3 for [, 4 for ]. A letter is 'A' to 'Z', or 0 for none, which kind 0
+ * does not take. A rule record is 8 bytes: kind, letter, id (not 0), zero, limit as a little-endian number. */
+
+/* Reads a rule text. Refuses with 4, 2, 6, 5, in that order. Accepted: *kind and *letter are written. */
+uint32_t sendumaal_rule_parse(const uint8_t *text, size_t text_len, uint32_t alphabet,
+                              uint32_t *kind, uint32_t *letter, size_t *place);
+
+/* Writes a rule text of one or two bytes. Refuses with 9 (a kind or letter that no rule has), then 11. Accepted:
+ * *count is the number of bytes, which stand at the front of out; the rest of out stays. */
+uint32_t sendumaal_rule_write(uint32_t kind, uint32_t letter, uint8_t *out, size_t out_len,
+                              uint32_t *count, size_t *place);
+
+/* Tests rule records: at most 16 variable ones, at most 32 fixed ones, whose limit is all ones. Refuses with 1, 8, 9. */
+uint32_t sendumaal_variable_rules_test(const uint8_t *rules, size_t rules_len, size_t *place);
+uint32_t sendumaal_fixed_rules_test(const uint8_t *rules, size_t rules_len, size_t *place);
+
+/* Reads record number index. Refuses with 9 at index, also where there is no such record. */
+uint32_t sendumaal_rule_read(const uint8_t *rules, size_t rules_len, size_t index,
+                             uint32_t *kind, uint32_t *letter, uint32_t *id, uint32_t *limit, size_t *place);
+
+/* Writes one rule record to the first 8 bytes of out; the rest of out stays. Refuses with 9, then 11. */
+uint32_t sendumaal_rule_record(uint32_t kind, uint32_t letter, uint32_t id, uint32_t limit,
+                               uint8_t *out, size_t out_len, size_t *place);
+
+/* ---- the table of modifications ----
+ * A record is 8 bytes: the bit pattern of the mass, then the name's number, both little-endian. */
+
+/* The id of a modification: the number, counted from 1, of the first of the count records of table that has its mass,
+ * as floats compare, and its name; where there is none, the record is appended, and the table has count + 1 records.
+ * So the table has the larger of count and *id records afterwards. A name number is below 65536 or all ones.
+ * Refuses with 1 (count above 255), 8 (table shorter than count records), 9 (name number out of range: the record's
+ * index, count for the given one), 7, 11. Accepted: *id is written; only an append changes table, in its 8 bytes. */
+uint32_t sendumaal_modification_id(uint8_t *table, size_t table_len, uint32_t count,
+                                   uint32_t mass_bits, uint32_t name, uint32_t *id, size_t *place);
+
+/* The bit pattern of a mass. */
+static inline uint32_t sendumaal_mass_bits(float mass)
+{
+    uint32_t bits;
+    memcpy(&bits, &mass, sizeof bits);
+    return bits;
+}
+
+#ifdef __cplusplus
+}
+#endif
+#endif
