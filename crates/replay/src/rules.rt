@@ -1,0 +1,76 @@
+// Rule texts. A line is the text in hexadecimal or `-` for an empty one, then the number, the place, the kind and the letter
+// that the Rust's answer comes to.
+use crate::Tally;
+use crate::text;
+use letters::LetterSet;
+use modification::Parsed;
+ghost use Rattle.io.specs.Counts.{Counts};
+
+// The letters that the Rust takes: all but B, J, X and Z.
+const ALPHABET: LetterSet = LetterSet { mask: 0x017f_fdfd };
+
+struct Answer {
+    number: u32,
+    place: u32,
+    kind: u32,
+    letter: u32,
+}
+
+// The bytes that a field holds in hexadecimal, at the front of out: how many there are.
+fn unhex(line: &[u8], out: &mut [u8]) -> usize
+    ensures { λ r. ⌜ Counts r (now (out .exit)) ⌝ }
+{
+    let mut n: usize = 0;
+    while n < out.len() {
+        let at = 2 * n;
+        let high = records::byte_at(line, at);
+        if high < 48 {
+            return n;
+        }
+        let low = records::byte_at(line, at + 1);
+        out[n] = text::nibble(high) * 16 + text::nibble(low);
+        n += 1;
+    }
+    n
+}
+
+fn answer_of(parsed: Parsed) -> Answer {
+    match parsed {
+        Parsed::Rule(s) => Answer {
+            number: 0,
+            place: 0,
+            kind: s.kind() as u32,
+            letter: s.letter() as u32,
+        },
+        Parsed::Refused(why) => Answer {
+            number: why.number(),
+            place: (why.place() % 4294967296) as u32,
+            kind: 0,
+            letter: 0,
+        },
+    }
+}
+
+// Whether the library answers a line as the Rust did.
+fn agrees(line: &[u8]) -> bool {
+    let mut bytes = [0u8; 64];
+    let n = unhex(line, &mut bytes);
+    let ours = answer_of(modification::parse(&bytes[..n], ALPHABET));
+    (ours.number == text::decimal(line, text::field(line, 1)))
+        & (ours.place == text::decimal(line, text::field(line, 2)))
+        & (ours.kind == text::decimal(line, text::field(line, 3)))
+        & (ours.letter == text::decimal(line, text::field(line, 4)))
+}
+
+pub(crate) fn replay(s: &[u8]) -> Tally {
+    let mut tally = Tally::none();
+    let mut at = 0;
+    let mut number: u32 = 1;
+    while at < s.len() {
+        let end = text::line_end(s, at);
+        tally = tally.with(agrees(&s[at..end]), number);
+        number = crate::more(number);
+        at = end + 1;
+    }
+    tally
+}
