@@ -1,0 +1,81 @@
+//! SITES, DIGEST, GROUPD and REVD: enzyme.rs.
+use crate::fields::*;
+use oracle::enzyme::{group_digests, probe, Digest, DigestGroup, Enzyme, EnzymeParameters};
+use std::sync::Arc;
+
+/// The enzyme's fields: kind, cleave, skip, side, semi, missed, min, max.
+fn parameters(f: &[&str]) -> EnzymeParameters {
+    let cleave = match f[0] {
+        "none" => "",
+        "end" => "$",
+        _ => text(f[1]),
+    };
+    EnzymeParameters {
+        missed_cleavages: number(f[5]),
+        min_len: number(f[6]),
+        max_len: number(f[7]),
+        enzyme: Enzyme::new(cleave, text(f[2]), f[3] == "C", flag(f[4])),
+    }
+}
+
+pub fn sites(f: &[&str]) -> String {
+    let sites = probe::all_sites(&parameters(&f[1..]), text(f[0]));
+    let written = sites.iter().map(|s| {
+        let (start, end) = (s.site.start, s.site.end);
+        format!("{start}.{end}.{}.{}", s.missed_cleavages, s.semi_enzymatic as u8)
+    });
+    or_dash(join(written, ";"))
+}
+
+pub fn digest(f: &[&str]) -> String {
+    let digests = parameters(&f[1..]).digest(text(f[0]), Arc::from("p"));
+    let written = digests.iter().map(|d| {
+        format!(
+            "{}.{}.{}.{}.{}",
+            d.sequence,
+            d.missed_cleavages,
+            d.semi_enzymatic as u8,
+            position_number(d.position),
+            d.decoy as u8
+        )
+    });
+    or_dash(join(written, ";"))
+}
+
+/// `position.decoy.letters.protein.missed.semi`
+fn read_digest(item: &str) -> Digest {
+    let f = list(item, '.');
+    Digest {
+        position: position(f[0]),
+        decoy: flag(f[1]),
+        sequence: f[2].into(),
+        protein: Arc::from(f[3]),
+        missed_cleavages: number(f[4]),
+        semi_enzymatic: flag(f[5]),
+    }
+}
+
+fn write_group(group: &DigestGroup) -> String {
+    let d = &group.reference;
+    format!(
+        "{}.{}.{}.{}.{}.{}:{}",
+        position_number(d.position),
+        d.decoy as u8,
+        d.sequence,
+        d.protein,
+        d.missed_cleavages,
+        d.semi_enzymatic as u8,
+        join(group.proteins.iter().map(|p| p.to_string()), ",")
+    )
+}
+
+pub fn group(f: &[&str]) -> String {
+    let digests = list(f[0], ';').into_iter().map(read_digest).collect();
+    join(group_digests(digests).iter().map(write_group), ";")
+}
+
+pub fn reverse(f: &[&str]) -> String {
+    let digest = Digest { sequence: text(f[0]).into(), decoy: flag(f[1]), ..Default::default() };
+    let reversed = digest.reverse();
+    format!("{} {}", or_dash(reversed.sequence), reversed.decoy as u8)
+}

@@ -1,0 +1,3 @@
+//! The original Rust's modules, as build.rs has declared them.
+#![allow(warnings)]
+include!(concat!(env!("OUT_DIR"), "/modules.rs"));

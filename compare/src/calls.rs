@@ -1,0 +1,128 @@
+//! The library's functions as safe ones: each call is guarded, and what it did to memory is checked.
+use crate::answer::{Answer, Checked, Fault, Filled};
+use crate::ffi;
+use crate::guard::{answer, Lent, May, Memory};
+use crate::model::{Record, Rule};
+use std::fmt::Debug;
+
+/// An empty slice may have any pointer: where one is lent, the call is made again with a null one, to the same end.
+fn lend<T: PartialEq + Debug>(contents: &[u8], call: impl Fn(Lent<u8>) -> Checked<T>) -> Checked<T> {
+    let first = call(Lent::new(contents))?;
+    if contents.is_empty() {
+        let second = call(Lent::null())?;
+        if second != first {
+            return Err(Fault(format!("{first:?}, but {second:?} with a null pointer")));
+        }
+    }
+    Ok(first)
+}
+
+pub fn set_insert(set: u32, letter: u8) -> u32 {
+    unsafe { ffi::sendumaal_set_insert(set, letter) }
+}
+
+pub fn set_contains(set: u32, letter: u8) -> u32 {
+    unsafe { ffi::sendumaal_set_contains(set, letter) }
+}
+
+/// A function that reads a slice and only accepts or refuses.
+type Test = unsafe extern "C" fn(*const u8, usize, *mut usize) -> u32;
+
+fn test(function: Test, contents: &[u8]) -> Checked<Answer<()>> {
+    lend(contents, |mut slice| {
+        let mut place = Lent::result();
+        let number = unsafe { function(slice.pointer(), slice.len(), place.pointer()) };
+        answer(number, &place, &[("the slice", &slice, May::Read)])
+    })
+}
+
+pub fn letters_test(letters: &[u8]) -> Checked<Answer<()>> {
+    test(ffi::sendumaal_letters_test, letters)
+}
+
+pub fn variable_rules_test(rules: &[u8]) -> Checked<Answer<()>> {
+    test(ffi::sendumaal_variable_rules_test, rules)
+}
+
+pub fn fixed_rules_test(rules: &[u8]) -> Checked<Answer<()>> {
+    test(ffi::sendumaal_fixed_rules_test, rules)
+}
+
+pub fn rule_parse(text: &[u8], alphabet: u32) -> Checked<Answer<Rule>> {
+    lend(text, |mut text| {
+        let (mut kind, mut letter, mut place) = (Lent::result(), Lent::result(), Lent::result());
+        let (pointer, len) = (text.pointer(), text.len());
+        let number = unsafe {
+            let (kind, letter) = (kind.pointer(), letter.pointer());
+            ffi::sendumaal_rule_parse(pointer, len, alphabet, kind, letter, place.pointer())
+        };
+        let lent: [(&str, &dyn Memory, May); 3] =
+            [("text", &text, May::Read), ("kind", &kind, May::Answer), ("letter", &letter, May::Answer)];
+        let said = answer(number, &place, &lent)?;
+        Ok(said.map(|()| Rule { kind: kind.value(), letter: letter.value() }))
+    })
+}
+
+/// The answer is the number of bytes.
+pub fn rule_write(rule: Rule, out: &[u8]) -> Checked<Filled<u32>> {
+    lend(out, |mut out| {
+        let (mut count, mut place) = (Lent::result(), Lent::result());
+        let (pointer, len) = (out.pointer(), out.len());
+        let number = unsafe {
+            let Rule { kind, letter } = rule;
+            ffi::sendumaal_rule_write(kind, letter, pointer, len, count.pointer(), place.pointer())
+        };
+        let said = answer(number, &place, &[("out", &out, May::Fill), ("count", &count, May::Answer)])?;
+        Ok(Filled { answer: said.map(|()| count.value()), buffer: out.contents().to_vec() })
+    })
+}
+
+pub fn rule_read(rules: &[u8], index: usize) -> Checked<Answer<Record>> {
+    lend(rules, |mut rules| {
+        let mut parts: [Lent<u32>; 4] = std::array::from_fn(|_| Lent::result());
+        let mut place = Lent::result();
+        let (pointer, len) = (rules.pointer(), rules.len());
+        let [kind, letter, id, limit] = parts.each_mut().map(Lent::pointer);
+        let number = unsafe {
+            ffi::sendumaal_rule_read(pointer, len, index, kind, letter, id, limit, place.pointer())
+        };
+        let [kind, letter, id, limit] = &parts;
+        let lent: [(&str, &dyn Memory, May); 5] = [
+            ("rules", &rules, May::Read),
+            ("kind", kind, May::Answer),
+            ("letter", letter, May::Answer),
+            ("id", id, May::Answer),
+            ("limit", limit, May::Answer),
+        ];
+        let rule = Rule { kind: kind.value(), letter: letter.value() };
+        let record = Record { rule, id: id.value(), limit: limit.value() };
+        Ok(answer(number, &place, &lent)?.map(|()| record))
+    })
+}
+
+pub fn rule_record(record: Record, out: &[u8]) -> Checked<Filled<()>> {
+    lend(out, |mut out| {
+        let mut place = Lent::result();
+        let (pointer, len) = (out.pointer(), out.len());
+        let number = unsafe {
+            let Record { rule: Rule { kind, letter }, id, limit } = record;
+            ffi::sendumaal_rule_record(kind, letter, id, limit, pointer, len, place.pointer())
+        };
+        let said = answer(number, &place, &[("out", &out, May::Fill)])?;
+        Ok(Filled { answer: said, buffer: out.contents().to_vec() })
+    })
+}
+
+/// The answer is the id.
+pub fn modification_id(table: &[u8], count: u32, mass_bits: u32, name: u32) -> Checked<Filled<u32>> {
+    lend(table, |mut table| {
+        let (mut id, mut place) = (Lent::result(), Lent::result());
+        let (pointer, len) = (table.pointer(), table.len());
+        let number = unsafe {
+            let (id, place) = (id.pointer(), place.pointer());
+            ffi::sendumaal_modification_id(pointer, len, count, mass_bits, name, id, place)
+        };
+        let said = answer(number, &place, &[("table", &table, May::Fill), ("id", &id, May::Answer)])?;
+        Ok(Filled { answer: said.map(|()| id.value()), buffer: table.contents().to_vec() })
+    })
+}

@@ -1,0 +1,63 @@
+//! Letter sets, and the first byte of a stretch that is not a letter.
+use crate::calls;
+use crate::entry::{Against, Context, Tally};
+use crate::model;
+use crate::rng::Rng;
+
+/// Empty, full, each single letter, bits above 25, and random ones.
+pub fn sets(rng: &mut Rng, random: usize) -> Vec<u32> {
+    let mut sets = vec![0, 0x03ff_ffff, 0xfc00_0000, u32::MAX];
+    sets.extend((0..32).map(|bit| 1 << bit));
+    sets.extend((0..32).map(|bit| !(1 << bit)));
+    sets.extend((0..random).map(|_| rng.word()));
+    sets
+}
+
+pub fn set_operations(context: &Context) -> Tally {
+    let mut tally = Tally::new("letters: insert, contains", Against::Model);
+    for set in sets(&mut context.rng("letter sets"), 400) {
+        for letter in 0..=255 {
+            let ours = (calls::set_insert(set, letter), calls::set_contains(set, letter));
+            let wanted = (model::insert(set, letter), model::contains(set, letter).into());
+            tally.case(&(set, letter), &Ok(ours), &wanted);
+        }
+    }
+    tally
+}
+
+fn random_letters(rng: &mut Rng, count: usize) -> Vec<u8> {
+    (0..count).map(|_| b'A' + rng.below(26) as u8).collect()
+}
+
+/// The bytes next to the letters, the ends of the range, and the bytes that a signed or a 7-bit comparison gets wrong.
+const NEAR_LETTERS: [u8; 14] =
+    [0, 1, b'@', b'[', b'`', b'a', b'z', b'{', 127, 128, b'A' | 128, b'Z' | 128, 254, 255];
+
+/// Good stretches, and ones with a bad byte at one place and bytes of all kinds behind it.
+fn stretches(rng: &mut Rng) -> Vec<Vec<u8>> {
+    let mut stretches = vec![random_letters(rng, 65_536), random_letters(rng, 70_001)];
+    for len in 0..400 {
+        stretches.push(random_letters(rng, len));
+        for place in 0..len.min(70) {
+            let place = if len <= 70 { place } else { rng.below(len) };
+            let mut stretch = random_letters(rng, len);
+            stretch[place] = rng.pick(&NEAR_LETTERS);
+            if rng.once_in(2) {
+                stretch.truncate(place + 1);
+                stretch.extend(rng.bytes(len - place - 1));
+            }
+            stretches.push(stretch);
+        }
+    }
+    stretches
+}
+
+pub fn first_bad_byte(context: &Context) -> Tally {
+    let mut tally = Tally::new("letters: first bad byte", Against::Model);
+    let pairs = (0..=u16::MAX).map(|pair| pair.to_be_bytes().to_vec());
+    let single = (0..=255).map(|byte| vec![byte]);
+    for letters in single.chain(pairs).chain(stretches(&mut context.rng("stretches of letters"))) {
+        tally.case(&letters, &calls::letters_test(&letters), &model::letters_test(&letters));
+    }
+    tally
+}

@@ -1,0 +1,83 @@
+//! A sample of the original's answers for the gate to replay: plain lines of ASCII, nothing of ours in them.
+//!
+//! rules.txt: the text in hexadecimal (`-` if empty), the number of the answer, its place, kind and letter (0 unless
+//! accepted). table.txt: `N` starts an empty table, `I` inserts: the mass's bit pattern and the name's number in
+//! hexadecimal, and the id, 0 where the table is full.
+use crate::answer::Answer;
+use crate::entry::Context;
+use crate::model::{Modification, Rule, MARKS};
+use crate::oracle::hex;
+use crate::rng::Rng;
+use crate::rule_texts::cases::{accepted_texts, distinct, near_miss};
+use crate::table::cases::{filling, from_pool, special};
+use crate::{rule_texts, table};
+use std::{fs, io, path::Path};
+
+/// About so many lines in each file.
+const LINES: usize = 1500;
+
+pub fn write(context: &Context, folder: &Path) -> io::Result<()> {
+    fs::create_dir_all(folder)?;
+    fs::write(folder.join("rules.txt"), rules(context))?;
+    fs::write(folder.join("table.txt"), tables(context))
+}
+
+fn random_text(rng: &mut Rng, accepted: &[Vec<u8>]) -> Vec<u8> {
+    match rng.below(4) {
+        0 => near_miss(rng, accepted),
+        1 => vec![rng.pick(&MARKS), rng.byte()],
+        2 => vec![rng.pick(&MARKS), b'A' + rng.below(26) as u8, rng.byte()],
+        _ => (0..2 + rng.below(39)).map(|_| rng.byte()).collect(),
+    }
+}
+
+/// All that are accepted, all of one byte, and a sample of longer ones, without bytes of 128 or more.
+fn texts(rng: &mut Rng) -> Vec<Vec<u8>> {
+    let accepted = accepted_texts();
+    let mut texts = vec![vec![]];
+    texts.extend(accepted.iter().cloned());
+    texts.extend((0..128).map(|byte| vec![byte]));
+    texts.extend((0..2 * LINES).map(|_| random_text(rng, &accepted)));
+    texts.iter_mut().flatten().for_each(|byte| *byte &= 127);
+    let mut texts = distinct(texts);
+    texts.truncate(LINES);
+    texts
+}
+
+fn rule_line(text: &[u8], answer: Answer<Rule>) -> String {
+    let (number, place, rule) = match answer {
+        Ok(rule) => (0, 0, rule),
+        Err(refusal) => (refusal.number, refusal.place, Rule { kind: 0, letter: 0 }),
+    };
+    format!("{} {number} {place} {} {}\n", hex(text), rule.kind, rule.letter)
+}
+
+fn rules(context: &Context) -> String {
+    let texts = texts(&mut context.rng("vectors: rule texts"));
+    let said = rule_texts::ask(&context.oracle, &texts);
+    texts.iter().zip(said).map(|(text, said)| rule_line(text, said.answer(text))).collect()
+}
+
+/// The special masses, one sequence that goes on past a full table, then short ones.
+fn sequences(rng: &mut Rng) -> Vec<Vec<Modification>> {
+    let mut sequences = vec![special(), filling(rng, 262, 60)];
+    let mut lines: usize = sequences.iter().map(|sequence| sequence.len() + 1).sum();
+    while lines < LINES {
+        let (pool, len) = (1 + rng.below(40), rng.below(60));
+        sequences.push(from_pool(rng, pool, len));
+        lines += len + 1;
+    }
+    sequences
+}
+
+fn tables(context: &Context) -> String {
+    let sequences = sequences(&mut context.rng("vectors: insertions"));
+    let mut lines = String::new();
+    for (sequence, said) in sequences.iter().zip(table::ask(&context.oracle, &sequences)) {
+        lines += "N\n";
+        for (given, id) in sequence.iter().zip(said.ids) {
+            lines += &format!("I {:08x} {:08x} {}\n", given.mass_bits, given.name, id.unwrap_or(0));
+        }
+    }
+    lines
+}
