@@ -7,4 +7,5 @@ pub mod Room
 pub mod RoomLaws
 pub mod Search
 pub mod SearchLaws
+pub mod Cases
 pub mod Tests

@@ -8,5 +8,6 @@ pub use number::put_byte;
 pub use number::put_u32;
 pub use number::u32_at;
 pub use refusal::Checked;
+pub use refusal::Counted;
 pub use refusal::Refusal;
 pub use room::room_for;

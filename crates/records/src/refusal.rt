@@ -76,6 +76,12 @@ impl Refusal {
     }
 }
 
+// How many records were written, or why the call said no.
+pub enum Counted {
+    Count(u32),
+    Refused(Refusal),
+}
+
 // What the tests of an entry find: the first refusal, or none.
 pub enum Checked {
     Passed,
