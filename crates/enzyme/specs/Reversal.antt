@@ -1,0 +1,85 @@
+-- Document 01: `Digest::reverse` reverses the inner letters, on a record sets decoy to 1, and leaves decoys unchanged; a
+-- digest record with decoy 1 has its range's letters, all but first and last reversed.
+use Prim.Native.Nat.{ℕ, _-_}
+use mathlib.Core.Path.{_≡_}
+use mathlib.Core.Bool.{Bool, cond, _&&_, _||_}
+use mathlib.Core.List.{List, [], _∷_, _++_, reverse}
+use lib.ListN.{length, take, drop, getD, set}
+use lib.Dec.{ltb, leb, eqb}
+use Rattle.records.specs.declared.refusal.Refusal.the-variants.{Size, Letter, Length, Field, Room}
+use Rattle.records.specs.declared.refusal.Checked.{Checked}
+use Rattle.records.specs.declared.refusal.Checked.the-variants.{Passed, Refused}
+use Rattle.records.specs.Le.{numberAt}
+use Rattle.records.specs.Outcome.{Outcome, outcome, unlessRefused, only}
+use Rattle.records.specs.Room.{fits, fitted, bytewise}
+use Rattle.letters.specs.Letters.{firstBad}
+use Rattle.records.specs.declared.refusal.Counted.{Counted}
+use Rattle.records.specs.declared.refusal.Counted.the-variants.{Count, Refused as No}
+
+-- all but first and last reversed
+abbrev pub reversed : List ℕ → List ℕ
+reversed [] = []
+reversed (b ∷ bs) = let k = length bs - 1 in b ∷ (reverse (take k bs) ++ drop k bs)
+
+-- ---- of letters
+
+-- 1: no letters, or more than a protein's 65,536; then 2 at the first byte that is not A to Z
+abbrev pub stretchTested : List ℕ → Checked
+stretchTested s =
+    cond (eqb (length s) 0 || ltb 65536 (length s)) (Refused Size)
+    (cond (ltb (firstBad s) (length s)) (Refused (Letter (firstBad s))) Passed)
+
+abbrev pub reverseOutcome : List ℕ → Outcome Checked
+reverseOutcome s = unlessRefused (stretchTested s) Refused (s ∷ []) (outcome Passed (reversed s ∷ []))
+
+-- ---- of a record
+
+-- start below end, end within the longest protein there is, missed to 16, flags 0 or 1, position to 3
+abbrev pub goodRecord : List ℕ → Bool
+goodRecord r = ltb (numberAt 4 r 0) (numberAt 4 r 4) && leb (numberAt 4 r 4) 65536 && leb (getD r 8 0) 16 && leb (getD r 9 0) 1 && leb (getD r 10 0) 3 && leb (getD r 11 0) 1
+
+-- 8: not the 16 bytes of one record; then 9
+abbrev pub recordTested : List ℕ → Checked
+recordTested r = cond (eqb (length r) 16) (cond (goodRecord r) Passed (Refused (Field 0))) (Refused Length)
+
+-- decoy, the byte at 11, is 1: a decoy stays as it was
+abbrev pub reverseRecordOutcome : List ℕ → Outcome Checked
+reverseRecordOutcome r = unlessRefused (recordTested r) Refused (r ∷ []) (outcome Passed (set r 11 1 ∷ []))
+
+-- ---- the letters of a record
+
+abbrev pub lettersOf : Bool → List ℕ → List ℕ
+lettersOf decoy part = cond decoy (reversed part) part
+
+abbrev pub rangeLetters : List ℕ → ℕ → ℕ → List ℕ
+rangeLetters s start end = take (end - start) (drop start s)
+
+abbrev pub recordLetters : List ℕ → List ℕ → List ℕ
+recordLetters s r = lettersOf (eqb (getD r 11 0) 1) (rangeLetters s (numberAt 4 r 0) (numberAt 4 r 4))
+
+-- 1: more than a protein's letters; 8; 2; and 9 also where the end is not within this protein
+abbrev pub spellingTested : List ℕ → List ℕ → Checked
+spellingTested s r =
+    cond (ltb 65536 (length s)) (Refused Size)
+    (cond (eqb (length r) 16)
+    (cond (ltb (firstBad s) (length s)) (Refused (Letter (firstBad s)))
+    (cond (goodRecord r && leb (numberAt 4 r 4) (length s)) Passed (Refused (Field 0))))
+    (Refused Length))
+
+-- then 11: a text's record is a byte
+abbrev pub spelled : List ℕ → List ℕ → Outcome Counted
+spelled old text = outcome (cond (fits 1 65536 old (bytewise text)) (Count (length text)) (No Room)) (fitted 1 65536 old (bytewise text) ∷ [])
+
+abbrev pub lettersOutcome : List ℕ → List ℕ → List ℕ → Outcome Counted
+lettersOutcome s r old = unlessRefused (spellingTested s r) No (old ∷ []) (spelled old (recordLetters s r))
+
+-- ---- no second answer and no second contents meet the contracts
+
+pub reverse-only : (s : List ℕ) (r q : Checked) (k l : List ℕ) → outcome r (k ∷ []) ≡ reverseOutcome s → outcome q (l ∷ []) ≡ reverseOutcome s → (r ≡ q) × (k ∷ [] ≡ l ∷ [])
+reverse-only s r q k l = only r q (k ∷ []) (l ∷ []) (reverseOutcome s)
+
+pub reverse-record-only : (b : List ℕ) (r q : Checked) (k l : List ℕ) → outcome r (k ∷ []) ≡ reverseRecordOutcome b → outcome q (l ∷ []) ≡ reverseRecordOutcome b → (r ≡ q) × (k ∷ [] ≡ l ∷ [])
+reverse-record-only b r q k l = only r q (k ∷ []) (l ∷ []) (reverseRecordOutcome b)
+
+pub letters-only : (s b old : List ℕ) (r q : Counted) (k l : List ℕ) → outcome r (k ∷ []) ≡ lettersOutcome s b old → outcome q (l ∷ []) ≡ lettersOutcome s b old → (r ≡ q) × (k ∷ [] ≡ l ∷ [])
+letters-only s b old r q k l = only r q (k ∷ []) (l ∷ []) (lettersOutcome s b old)

@@ -1,0 +1,172 @@
+-- Laws of reversal. Assumes nothing.
+use Prim.Native.Nat.{ℕ, zero, suc, _+_, _-_, _≤_, _<_}
+use mathlib.Core.Path.{_≡_, refl, sym, ap, _∙_, subst}
+use mathlib.Core.Bool.{Bool, true, false, cond, _||_}
+use mathlib.Core.Logic.{_⊎_, inl, inr, ⊎-elim}
+use mathlib.Core.List.{List, [], _∷_, _++_, reverse, reverse-cons}
+use native.Mathlib.Omega.{arith}
+use lib.ListN.{length, take, drop, getD, set, length-append, length-drop, length-reverse, length-set}
+use lib.Seq.{getD-at, getD-take, getD-drop, getD-append-add, length-take-le, getD-set-same, getD-set-other, ext-getD}
+use lib.Dec.{ltb, eqb}
+use borrow.Author.Tests.{eqb-false}
+use Rattle.records.specs.declared.refusal.Refusal.the-variants.{Size}
+use Rattle.records.specs.declared.refusal.Checked.{Checked}
+use Rattle.records.specs.declared.refusal.Checked.the-variants.{Passed, Refused}
+use Rattle.records.specs.Tests.{below?, same?}
+use Rattle.enzyme.specs.Reversal.{reversed, stretchTested}
+
+get-front : (xs ys : List ℕ) (i : ℕ) → i < length xs → getD (xs ++ ys) i 0 ≡ getD xs i 0
+get-front [] ys i h = absurd (omega arith)
+get-front (x ∷ xs) ys zero h = refl
+get-front (x ∷ xs) ys (suc i) h = get-front xs ys i (omega arith)
+
+get-reverse : (l : List ℕ) (i : ℕ) → i < length l → getD (reverse l) i 0 ≡ getD l (length l - 1 - i) 0
+get-reverse [] i h = absurd (omega arith)
+get-reverse (x ∷ l) i h = ⊎-elim (λ (g : i < length l). inner g (get-reverse l i g)) last (below? i (length l))
+  where
+    inner : i < length l → getD (reverse l) i 0 ≡ getD l (length l - 1 - i) 0 → getD (reverse (x ∷ l)) i 0 ≡ getD (x ∷ l) (suc (length l) - 1 - i) 0
+    inner g ih =
+        let e : suc (length l) - 1 - i ≡ suc (length l - 1 - i) = omega arith in
+        ap (λ (q : List ℕ). getD q i 0) (reverse-cons x l) ∙ get-front (reverse l) (x ∷ []) i (omega (arith, length-reverse l)) ∙ ih ∙ sym (ap (λ (k : ℕ). getD (x ∷ l) k 0) e)
+
+    last : length l ≤ i → getD (reverse (x ∷ l)) i 0 ≡ getD (x ∷ l) (suc (length l) - 1 - i) 0
+    last g =
+        let e : suc (length l) - 1 - i ≡ 0 = omega arith in
+        ap (λ (q : List ℕ). getD q i 0) (reverse-cons x l) ∙ getD-at (reverse l) x [] 0 i (omega (arith, length-reverse l)) ∙ sym (ap (λ (k : ℕ). getD (x ∷ l) k 0) e)
+
+-- ---- the letters of a reversed list
+
+pub length-reversed : (s : List ℕ) → length (reversed s) ≡ length s
+length-reversed [] = refl
+length-reversed (b ∷ bs) =
+    let k : ℕ = length bs - 1 in
+    let t : length (take k bs) ≡ k = length-take-le k bs (omega arith) in
+    ap suc (length-append (reverse (take k bs)) (drop k bs) ∙ omega (arith, length-reverse (take k bs), t, length-drop k bs))
+
+module _ (b : ℕ) (bs : List ℕ) where
+  k : ℕ
+  k = length bs - 1
+
+  front : length (reverse (take k bs)) ≡ k
+  unfolding k
+  front = length-reverse (take k bs) ∙ length-take-le k bs (omega arith)
+
+  inner-at : (y : ℕ) → y < k → getD (reverse (take k bs) ++ drop k bs) y 0 ≡ getD bs (k - 1 - y) 0
+  unfolding k
+  inner-at y h =
+      let t : length (take k bs) ≡ k = length-take-le k bs (omega arith) in
+      get-front (reverse (take k bs)) (drop k bs) y (omega (arith, front))
+      ∙ get-reverse (take k bs) y (omega (arith, t))
+      ∙ ap (λ (n : ℕ). getD (take k bs) (n - 1 - y) 0) t
+      ∙ getD-take k bs (k - 1 - y) 0 (omega arith)
+
+  last-at : 0 < length bs → getD (reverse (take k bs) ++ drop k bs) k 0 ≡ getD bs k 0
+  unfolding k
+  last-at h =
+      let e : k ≡ length (reverse (take k bs)) + 0 = omega (arith, front) in
+      let z : k + 0 ≡ k = omega arith in
+      ap (λ (n : ℕ). getD (reverse (take k bs) ++ drop k bs) n 0) e
+      ∙ getD-append-add (reverse (take k bs)) (drop k bs) 0 0
+      ∙ getD-drop k bs 0 0
+      ∙ ap (λ (n : ℕ). getD bs n 0) z
+
+pub reversed-first : (s : List ℕ) → getD (reversed s) 0 0 ≡ getD s 0 0
+reversed-first [] = refl
+reversed-first (b ∷ bs) = refl
+
+pub reversed-last : (s : List ℕ) (x : ℕ) → x + 1 ≡ length s → getD (reversed s) x 0 ≡ getD s x 0
+unfolding k
+reversed-last [] x h = absurd (omega arith)
+reversed-last (b ∷ bs) zero h = refl
+reversed-last (b ∷ bs) (suc y) h =
+    let e : y ≡ length bs - 1 = omega arith in
+    subst (λ (n : ℕ). getD (reverse (take (length bs - 1) bs) ++ drop (length bs - 1) bs) n 0 ≡ getD bs n 0) (sym e) (at-end (omega arith))
+  where
+    at-end : 0 < length bs → getD (reverse (take (length bs - 1) bs) ++ drop (length bs - 1) bs) (length bs - 1) 0 ≡ getD bs (length bs - 1) 0
+    at-end g = last-at b bs g
+
+pub reversed-inner : (s : List ℕ) (x : ℕ) → 0 < x → x + 1 < length s → getD (reversed s) x 0 ≡ getD s (length s - 1 - x) 0
+unfolding k
+reversed-inner [] x h g = absurd (omega arith)
+reversed-inner (b ∷ bs) zero h g = absurd (omega arith)
+reversed-inner (b ∷ bs) (suc y) h g =
+    let e : suc (length bs) - 1 - suc y ≡ suc (length bs - 1 - 1 - y) = omega arith in
+    inner-at b bs y (omega arith) ∙ sym (ap (λ (n : ℕ). getD (b ∷ bs) n 0) e)
+
+-- ---- reversal in place: the places before i and from j on hold the reversed letters, those between them the old ones
+
+pub record Flipped (s : List ℕ) (i j : ℕ) (out : List ℕ) : Type 0 where
+  pub same-length : length out ≡ length s
+  pub some : 0 < i
+  pub sum : i + j ≡ length s
+  pub done : (x : ℕ) → (x < i) ⊎ (j ≤ x) → x < length s → getD out x 0 ≡ getD (reversed s) x 0
+  pub left : (x : ℕ) → i ≤ x → x < j → getD out x 0 ≡ getD s x 0
+
+pub flipped-start : (s : List ℕ) → 0 < length s → Flipped s 1 (length s - 1) s
+flipped-start s h = record {
+  same-length = refl;
+  some = omega arith;
+  sum = omega arith;
+  done = λ x e g. ⊎-elim (λ (l : x < 1). let z : x ≡ 0 = omega arith in rw z (sym (reversed-first s))) (λ (l : length s - 1 ≤ x). sym (reversed-last s x (omega arith))) e;
+  left = λ x l g. refl;
+}
+
+pub flipped-turn : (s : List ℕ) (i j : ℕ) (out : List ℕ) → Flipped s i j out → i + 1 < j
+    → Flipped s (i + 1) (j - 1) (set (set out i (getD out (j - 1) 0)) (j - 1) (getD out i 0))
+flipped-turn s i j out f h =
+    let n : i + j ≡ length s = f .sum in
+    record {
+      same-length = length-set (set out i (getD out (j - 1) 0)) (j - 1) (getD out i 0) ∙ length-set out i (getD out (j - 1) 0) ∙ f .same-length;
+      some = omega arith;
+      sum = omega arith;
+      done = λ x e g. at x e g (same? x i) (same? x (j - 1));
+      left = λ x l g. other x (λ (q : x ≡ i). omega arith) (λ (q : x ≡ j - 1). omega arith) ∙ f .left x (omega arith) (omega arith);
+    }
+  where
+    other : (x : ℕ) → (x ≡ i → ⊥) → (x ≡ j - 1 → ⊥) → getD (set (set out i (getD out (j - 1) 0)) (j - 1) (getD out i 0)) x 0 ≡ getD out x 0
+    other x p q = getD-set-other (set out i (getD out (j - 1) 0)) (j - 1) x (getD out i 0) 0 q ∙ getD-set-other out i x (getD out (j - 1) 0) 0 p
+
+    mirror : i + j ≡ length s → 0 < i → (x y : ℕ) → 0 < x → x + 1 < length s → y ≡ length s - 1 - x → getD s y 0 ≡ getD (reversed s) x 0
+    mirror n p x y q r e = ap (λ (z : ℕ). getD s z 0) e ∙ sym (reversed-inner s x q r)
+
+    at : (x : ℕ) → (x < i + 1) ⊎ (j - 1 ≤ x) → x < length s → (x ≡ i) ⊎ (x ≡ i → ⊥) → (x ≡ j - 1) ⊎ (x ≡ j - 1 → ⊥)
+        → getD (set (set out i (getD out (j - 1) 0)) (j - 1) (getD out i 0)) x 0 ≡ getD (reversed s) x 0
+    at x e g p (inl q) =
+        let n : i + j ≡ length s = f .sum in
+        let o : 0 < i = f .some in
+        rw q (getD-set-same (set out i (getD out (j - 1) 0)) (j - 1) (getD out i 0) 0 (omega (arith, length-set out i (getD out (j - 1) 0), f .same-length))
+        ∙ f .left i (omega arith) (omega arith) ∙ mirror n o (j - 1) i (omega arith) (omega arith) (omega arith))
+    at x e g (inl p) (inr q) =
+        let n : i + j ≡ length s = f .sum in
+        let o : 0 < i = f .some in
+        rw p (getD-set-other (set out i (getD out (j - 1) 0)) (j - 1) i (getD out i 0) 0 (λ (z : i ≡ j - 1). omega arith)
+        ∙ getD-set-same out i (getD out (j - 1) 0) 0 (omega (arith, f .same-length))
+        ∙ f .left (j - 1) (omega arith) (omega arith) ∙ mirror n o i (j - 1) (omega arith) (omega arith) (omega arith))
+    at x e g (inr p) (inr q) = other x p q ∙ f .done x (⊎-elim (λ (l : x < i + 1). inl (apart l p)) (λ (l : j - 1 ≤ x). inr (beyond l q)) e) g
+      where
+        apart : x < i + 1 → (x ≡ i → ⊥) → x < i
+        apart l p = ⊎-elim (λ (z : x < i). z) (λ (z : i ≤ x). absurd (p (omega arith))) (below? x i)
+
+        beyond : j - 1 ≤ x → (x ≡ j - 1 → ⊥) → j ≤ x
+        beyond l q = ⊎-elim (λ (z : x < j). absurd (q (omega arith))) (λ (z : j ≤ x). z) (below? x j)
+
+pub flipped-end : (s : List ℕ) (i j : ℕ) (out : List ℕ) → Flipped s i j out → j ≤ i + 1 → out ≡ reversed s
+flipped-end s i j out f h = ext-getD 0 out (reversed s) (f .same-length ∙ sym (length-reversed s)) (λ x g. at x (omega (arith, f .same-length)) (below? x i) (below? x j))
+  where
+    at : (x : ℕ) → x < length s → (x < i) ⊎ (i ≤ x) → (x < j) ⊎ (j ≤ x) → getD out x 0 ≡ getD (reversed s) x 0
+    at x g (inl l) e = f .done x (inl l) g
+    at x g (inr l) (inr m) = f .done x (inr m) g
+    at x g (inr l) (inl m) =
+        let n : i + j ≡ length s = f .sum in
+        let o : 0 < i = f .some in
+        let e : x ≡ length s - 1 - x = omega arith in
+        f .left x l m ∙ ap (λ (z : ℕ). getD s z 0) e ∙ sym (reversed-inner s x (omega arith) (omega arith))
+
+-- ---- what is known where the test passed
+
+pub stretch-passed : (s : List ℕ) → stretchTested s ≡ Passed → 0 < length s
+stretch-passed s e = go (eqb (length s) 0) (ltb 65536 (length s)) _ refl e
+  where
+    go : (a b : Bool) (rest : Checked) → eqb (length s) 0 ≡ a → cond (a || b) (Refused Size) rest ≡ Passed → 0 < length s
+    go true b rest f e = let z : _≡_ {A = ℕ} 0 1 = cc in absurd (omega arith)
+    go false b rest f e = ⊎-elim (λ (h : 0 < length s). h) (λ (h : length s ≤ 0). absurd (eqb-false (length s) 0 f (omega arith))) (below? 0 (length s))

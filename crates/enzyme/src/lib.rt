@@ -1,0 +1,18 @@
+// Digestion: the digests of a protein, their reversal, and their letters.
+mod checks;
+mod choosing;
+mod digesting;
+mod fields;
+mod reversal;
+mod settings;
+mod spelling;
+
+pub use checks::checked;
+pub use cutting_parts::Enzyme;
+pub use cutting_parts::Kind;
+pub use cutting_parts::Side;
+pub use digesting::digest;
+pub use reversal::reverse_letters;
+pub use reversal::reverse_record;
+pub use settings::Settings;
+pub use spelling::digest_letters;

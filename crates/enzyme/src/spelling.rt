@@ -1,0 +1,81 @@
+// The letters of a digest record.
+use crate::fields::is_good;
+use records::Checked;
+use records::Counted;
+use records::Refusal;
+ghost use mathlib.Core.Path.{_≡_};
+ghost use mathlib.Core.List.{[], _∷_};
+ghost use Prim.Native.Nat.{_≤_, _<_};
+ghost use lib.ListN.{length, getD};
+ghost use Rattle.records.specs.Outcome.{outcome};
+ghost use Rattle.enzyme.specs.Reversal.{lettersOf, spellingTested, spelled, lettersOutcome};
+
+// Letter i of a range's letters, of a decoy's reversed.
+fn letter_at(part: &[u8], decoy: bool, i: usize) -> u8
+    requires { ⌜ i < length (now part) ⌝ }
+    ensures { λ r. ⌜ r ≡ getD (lettersOf decoy (now (part .entry))) i 0 ⌝ }
+{
+    let n = part.len();
+    if decoy & (0 < i) & (i + 1 < n) {
+        part[n - 1 - i]
+    } else {
+        part[i]
+    }
+}
+
+// Writes a range's letters, a decoy's reversed, as far as there is room.
+fn spell(part: &[u8], decoy: bool, out: &mut [u8]) -> Counted
+    requires { ⌜ length (now part) ≤ 65536 ⌝ }
+    ensures { λ r. ⌜ outcome r (now (out .exit) ∷ []) ≡ spelled (now (out .entry)) (lettersOf decoy (now (part .entry))) ⌝ }
+{
+    let room = records::room_for(out.len(), 1, 65536);
+    let mut i = 0;
+    while i < part.len() {
+        if room <= i {
+            return Counted::Refused(Refusal::Room);
+        }
+        let letter = letter_at(part, decoy, i);
+        out[i] = letter;
+        i += 1;
+    }
+    let count = i as u32;
+    Counted::Count(count)
+}
+
+fn spelling_checked(letters: &[u8], bytes: &[u8]) -> Checked
+    ensures { λ r. ⌜ r ≡ spellingTested (now (letters .entry)) (now (bytes .entry)) ⌝ }
+{
+    let n = letters.len();
+    if 65536 < n {
+        return Checked::Refused(Refusal::Size);
+    }
+    if bytes.len() != 16 {
+        return Checked::Refused(Refusal::Length);
+    }
+    let bad = letters::first_bad(letters);
+    if bad < n {
+        return Checked::Refused(Refusal::Letter(bad));
+    }
+    let end = records::u32_at(bytes, 4) as usize;
+    if is_good(bytes) & (end <= n) {
+        Checked::Passed
+    } else {
+        Checked::Refused(Refusal::Field(0))
+    }
+}
+
+// Writes the letters of a digest record, whose range counts from the protein's first letter, into out.
+pub fn digest_letters(letters: &[u8], bytes: &[u8], out: &mut [u8]) -> Counted
+    ensures { λ r. ⌜ outcome r (now (out .exit) ∷ []) ≡ lettersOutcome (now (letters .entry)) (now (bytes .entry)) (now (out .entry)) ⌝ }
+{
+    let found = spelling_checked(letters, bytes);
+    match found {
+        Checked::Refused(why) => Counted::Refused(why),
+        Checked::Passed => {
+            let start = records::u32_at(bytes, 0) as usize;
+            let end = records::u32_at(bytes, 4) as usize;
+            let decoy = records::byte_at(bytes, 11) == 1;
+            spell(&letters[start..end], decoy, out)
+        }
+    }
+}
