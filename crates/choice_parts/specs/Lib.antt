@@ -1,0 +1,12 @@
+-- What a reader has to believe: Choices. Steps says what the counter answers, and the files named Laws what follows.
+pub mod Choices
+pub mod ListingLaws
+pub mod Steps
+pub mod OrderLaws
+pub mod PruneLaws
+pub mod KeepLaws
+pub mod StepLaws
+pub mod LoopLaws
+pub mod BoundLaws
+pub mod VisitLaws
+pub mod CostLaws

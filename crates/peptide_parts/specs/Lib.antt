@@ -1,0 +1,12 @@
+-- What a reader has to believe: Hits, Sites, Filling, Mirror. Overlays says what the code goes by, and the files named Laws
+-- what follows.
+pub mod Hits
+pub mod Sites
+pub mod Filling
+pub mod Mirror
+pub mod Overlays
+pub mod WroteLaws
+pub mod SiteLaws
+pub mod OverlayLaws
+pub mod FillLaws
+pub mod MirrorLaws
