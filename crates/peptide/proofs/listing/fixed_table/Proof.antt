@@ -1,0 +1,62 @@
+-- `fixed_table` meets its contract: the sites read back are those collected. Assumes nothing.
+use Prim.Native.Nat.{ℕ, _-_}
+use mathlib.Core.Path.{ap, _∙_}
+use native.Mathlib.Omega.{arith}
+use denote.Ref.{now}
+use mathlib.Core.List.{List}
+use native.Mathlib.Nat.{sub-zero}
+use lib.ListN.{take, replicate, length-replicate}
+use Rattle.peptide_parts.specs.Filling.{apply}
+use Rattle.peptide_parts.specs.SiteLaws.{all-few}
+use Rattle.peptide_parts.specs.WroteLaws.{wrote-length, wrote-taken}
+use borrow.Author.Needs.{needs}
+use Rattle.peptide.proofs.listing.fixed_table.Statement.{statement}
+use Rattle.peptide.proofs.listing.fixed_table.Tie as tie
+
+slice-aggregate-collect : tie.Need-slice-aggregate-collect
+slice-aggregate-collect c = search needs
+
+collect-requires : tie.Need-collect-requires
+collect-requires c κs = search needs
+
+empty-requires : tie.Need-empty-requires
+empty-requires c κs = search needs
+
+sub-with-all : tie.Need-sub-with-all
+sub-with-all c = search needs
+
+part-with-all-start : tie.Need-part-with-all-start
+part-with-all-start c = search needs
+
+part-with-all-end : tie.Need-part-with-all-end
+part-with-all-end c =
+    let a = c .before .before .before .before .before .before .args in
+    let k = c .before .before .before .collect in
+    omega (arith, k .ensures .next, wrote-length _ _ _ _ _ (k .ensures), length-replicate {A = ℕ} 2112 0, all-few (a .letters) (a .n) (a .position) (now (a .fixed)) (c .before .before .before .before .before .before .pre .0) (c .before .before .before .before .before .before .pre .1))
+
+with-all-requires : tie.Need-with-all-requires
+with-all-requires c κs = search needs
+
+returns : tie.Need-returns
+returns c =
+    let a = c .before .before .before .before .before .before .before .before .args in
+    let k = c .before .before .before .before .before .collect in
+    let new = k .last .1 .1 .1 .1 .0 in
+    let fixed = now (a .fixed) in
+    c .with-all .ensures
+    ∙ ap (λ (z : List ℕ). apply fixed z (take (k .result - 0) new)) (c .before .before .before .empty .ensures)
+    ∙ ap (λ (z : ℕ). apply fixed (replicate 66 0) (take z new)) (sub-zero (k .result))
+    ∙ ap (apply fixed (replicate 66 0)) (wrote-taken _ _ _ _ (omega (arith, length-replicate {A = ℕ} 2112 0, all-few (a .letters) (a .n) (a .position) fixed (c .before .before .before .before .before .before .before .before .pre .0) (c .before .before .before .before .before .before .before .before .pre .1))) (k .ensures))
+
+pub fixed-table-spec : {M : Type 1} → statement M
+fixed-table-spec =
+    tie.close
+    (tie.spec
+    slice-aggregate-collect
+    collect-requires
+    empty-requires
+    sub-with-all
+    part-with-all-start
+    part-with-all-end
+    with-all-requires
+    returns)

@@ -1,0 +1,78 @@
+-- `run` meets its contract: the forms by the table are the forms. Assumes nothing.
+use Prim.Native.Nat.{ℕ, _-_}
+use mathlib.Core.Path.{_≡_, ap, _∙_}
+use native.Mathlib.Omega.{arith}
+use denote.Ref.{now}
+use mathlib.Core.List.{List, map}
+use native.Mathlib.Nat.{sub-zero}
+use lib.ListN.{length, take, length-replicate}
+use Rattle.peptide_parts.specs.SiteLaws.{all-few}
+use Rattle.peptide_parts.specs.WroteLaws.{wrote-length, wrote-taken}
+use Rattle.forms_parts.specs.Enumeration.{choices}
+use Rattle.forms_parts.specs.RunLaws.{quick}
+use Rattle.peptide.specs.Forms.{listed, sitesOf}
+use Rattle.peptide.specs.FormLaws.{by-table}
+use borrow.Author.Needs.{needs}
+use Rattle.peptide.proofs.listing.run.Statement.{statement}
+use Rattle.peptide.proofs.listing.run.Tie as tie
+
+cast-n : tie.Need-cast-n
+cast-n c = search needs
+
+fixed-table-requires : tie.Need-fixed-table-requires
+fixed-table-requires c κs = search needs
+
+bare-requires : tie.Need-bare-requires
+bare-requires c κs = search needs
+
+slice-aggregate-collect : tie.Need-slice-aggregate-collect
+slice-aggregate-collect c = search needs
+
+collect-requires : tie.Need-collect-requires
+collect-requires c κs = search needs
+
+sub-list-all : tie.Need-sub-list-all
+sub-list-all c = search needs
+
+part-list-all-start : tie.Need-part-list-all-start
+part-list-all-start c = search needs
+
+part-list-all-end : tie.Need-part-list-all-end
+part-list-all-end c =
+    let a = c .before .before .before .before .before .before .before .before .before .before .before .before .args in
+    let k = c .before .before .collect in
+    omega (arith, k .ensures .next, wrote-length _ _ _ _ _ (k .ensures), length-replicate {A = ℕ} 2112 0, all-few (a .p .letters) (a .p .len) (a .p .position) (now (a .variable)) (c .before .before .before .before .before .before .before .before .before .before .before .before .pre .0) (c .before .before .before .before .before .before .before .before .before .before .before .before .pre .1))
+
+list-all-requires : tie.Need-list-all-requires
+list-all-requires c κs = search needs
+
+same-length : tie.Need-same-length
+same-length c = search needs
+
+returns : tie.Need-returns
+returns c =
+    let a = c .before .before .before .before .before .before .before .before .before .before .before .before .before .before .before .before .before .args in
+    let k = c .before .before .before .before .before .before .before .collect in
+    let table = c .before .before .before .before .before .before .before .before .before .before .fixed-table .result .slots in
+    let sites = take (k .result - 0) (k .last .1 .1 .1 .1 .0) in
+    let n : length (a .p .ids) ≡ 64 = search (needs, c .before .before .before .before .before .before .before .before .before .before .before .before .before .before .before .before .before .good .0) in
+    let e : sites ≡ sitesOf (a .p) (now (a .variable)) = ap (λ (z : ℕ). take z (k .last .1 .1 .1 .1 .0)) (sub-zero (k .result)) ∙ wrote-taken _ _ _ _ (omega (arith, length-replicate {A = ℕ} 2112 0, all-few (a .p .letters) (a .p .len) (a .p .position) (now (a .variable)) (c .before .before .before .before .before .before .before .before .before .before .before .before .before .before .before .before .before .pre .0) (c .before .before .before .before .before .before .before .before .before .before .before .before .before .before .before .before .before .pre .1))) (k .ensures) in
+    c .before .before .list-all .ensures
+    ∙ ap (λ (z : List ℕ). listed (now (a .out)) (map (quick z table sites (now (a .variable))) (choices sites (now (a .variable)) (a .limit) (a .cap)))) (c .before .before .before .before .before .before .before .before .before .bare .ensures)
+    ∙ ap (listed (now (a .out))) (by-table (a .p) (now (a .variable)) (now (a .fixed)) sites table (a .limit) (a .cap) n e (c .before .before .before .before .before .before .before .before .before .before .fixed-table .ensures))
+
+pub run-spec : {M : Type 1} → statement M
+run-spec =
+    tie.close
+    (tie.spec
+    cast-n
+    fixed-table-requires
+    bare-requires
+    slice-aggregate-collect
+    collect-requires
+    sub-list-all
+    part-list-all-start
+    part-list-all-end
+    list-all-requires
+    same-length
+    returns)

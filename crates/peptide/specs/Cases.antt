@@ -1,0 +1,58 @@
+-- Document 01, P6: "MAM, variable M without limit, combination limit 2: four forms; cap 3: the first three; cap 0: one." Then
+-- cases of the slips: a later fixed rule, `^M` and `^`, a rule's own limit, a slot used twice, protein rules off their end. Of
+-- each form the first five slots are shown: both ends, then the three residues.
+use Prim.Native.Nat.{ℕ}
+use mathlib.Core.Path.{refl}
+use mathlib.Core.Bool.{false}
+use mathlib.Core.List.{List, [], _∷_, _++_, map}
+use lib.ListN.{take}
+use Rattle.records.specs.Le.{numberAt}
+use Rattle.records.specs.Cases.{Case, Hold}
+use Rattle.choice_parts.specs.Choices.{choicesOf, bySize, keep}
+use Rattle.peptide_parts.specs.Sites.{ifHit, hitFrom, placesOf, slotsOf, sitesFrom, allSites}
+use Rattle.peptide_parts.specs.Filling.{apply}
+use Rattle.forms_parts.specs.Passing.{free, uses, slotsOnce, inLimits, passes}
+use Rattle.forms_parts.specs.Enumeration.{noCap, accepted, choices, chosen, formOf}
+use Rattle.peptide.specs.declared.peptide.Peptide.{Peptide}
+use Rattle.peptide.specs.Peptides.{given}
+use Rattle.peptide.specs.Forms.{formsOf}
+
+abbrev pub mam : ℕ → Peptide
+mam position = given (77 ∷ 65 ∷ 77 ∷ []) [] position false
+
+-- a rule of a kind on a letter, with an id, without limit
+abbrev pub rule : ℕ → ℕ → ℕ → List ℕ
+rule kind letter id = kind ∷ letter ∷ id ∷ 0 ∷ 255 ∷ 255 ∷ 255 ∷ 255 ∷ []
+
+abbrev pub onM : ℕ → List ℕ
+onM = rule 0 77
+
+-- variable and fixed rules, combination limit and cap on MAM
+abbrev forming : ℕ → List ℕ → List ℕ → ℕ → ℕ → List (List ℕ) → Case
+forming position variable fixed limit cap want = record { got = map (take 5) (formsOf (mam position) variable fixed limit cap); want = want }
+
+abbrev pub table : List Case
+table =
+    -- P6: four forms
+    forming 2 (onM 1) [] 2 noCap ((0 ∷ 0 ∷ 0 ∷ 0 ∷ 0 ∷ []) ∷ (0 ∷ 0 ∷ 1 ∷ 0 ∷ 0 ∷ []) ∷ (0 ∷ 0 ∷ 0 ∷ 0 ∷ 1 ∷ []) ∷ (0 ∷ 0 ∷ 1 ∷ 0 ∷ 1 ∷ []) ∷ [])
+    -- P6: cap 3
+    ∷ forming 2 (onM 1) [] 2 3 ((0 ∷ 0 ∷ 0 ∷ 0 ∷ 0 ∷ []) ∷ (0 ∷ 0 ∷ 1 ∷ 0 ∷ 0 ∷ []) ∷ (0 ∷ 0 ∷ 0 ∷ 0 ∷ 1 ∷ []) ∷ [])
+    -- P6: cap 0
+    ∷ forming 2 (onM 1) [] 2 0 ((0 ∷ 0 ∷ 0 ∷ 0 ∷ 0 ∷ []) ∷ [])
+    -- a later fixed rule leaves what is filled
+    ∷ forming 2 (onM 1) (onM 2) 1 noCap ((0 ∷ 0 ∷ 2 ∷ 0 ∷ 2 ∷ []) ∷ (0 ∷ 0 ∷ 1 ∷ 0 ∷ 2 ∷ []) ∷ (0 ∷ 0 ∷ 2 ∷ 0 ∷ 1 ∷ []) ∷ [])
+    -- `^M` hits residue 0, `^` the slot of the end
+    ∷ forming 2 (rule 1 77 3 ++ rule 1 0 4) [] 1 noCap ((0 ∷ 0 ∷ 0 ∷ 0 ∷ 0 ∷ []) ∷ (0 ∷ 0 ∷ 3 ∷ 0 ∷ 0 ∷ []) ∷ (4 ∷ 0 ∷ 0 ∷ 0 ∷ 0 ∷ []) ∷ [])
+    -- a rule's limit
+    ∷ forming 2 (0 ∷ 77 ∷ 1 ∷ 0 ∷ 1 ∷ 0 ∷ 0 ∷ 0 ∷ []) [] 2 noCap ((0 ∷ 0 ∷ 0 ∷ 0 ∷ 0 ∷ []) ∷ (0 ∷ 0 ∷ 1 ∷ 0 ∷ 0 ∷ []) ∷ (0 ∷ 0 ∷ 0 ∷ 0 ∷ 1 ∷ []) ∷ [])
+    -- a slot used twice
+    ∷ forming 2 (rule 4 77 5 ++ rule 2 77 6) [] 2 noCap ((0 ∷ 0 ∷ 0 ∷ 0 ∷ 0 ∷ []) ∷ (0 ∷ 0 ∷ 0 ∷ 0 ∷ 5 ∷ []) ∷ (0 ∷ 0 ∷ 0 ∷ 0 ∷ 6 ∷ []) ∷ [])
+    -- protein rules at the N end of a protein
+    ∷ forming 0 (rule 3 0 7 ++ rule 4 77 8) [] 1 noCap ((0 ∷ 0 ∷ 0 ∷ 0 ∷ 0 ∷ []) ∷ (7 ∷ 0 ∷ 0 ∷ 0 ∷ 0 ∷ []) ∷ [])
+    -- protein rules inside it
+    ∷ forming 3 (rule 3 0 7 ++ rule 4 0 8 ++ rule 2 0 9) [] 1 noCap ((0 ∷ 0 ∷ 0 ∷ 0 ∷ 0 ∷ []) ∷ (0 ∷ 9 ∷ 0 ∷ 0 ∷ 0 ∷ []) ∷ [])
+    ∷ []
+
+pub cases : Hold table
+unfolding formsOf choices accepted keep bySize choicesOf passes slotsOnce inLimits free uses numberAt allSites sitesFrom slotsOf placesOf hitFrom ifHit formOf apply chosen
+cases = refl

@@ -1,0 +1,209 @@
+-- What the tests of forms come to, from what was written to the answer, and the laws that document 01 asks of the forms.
+-- Assumes nothing.
+use Prim.Native.Nat.{ℕ, _/_, _%_, _≤_, _<_}
+use mathlib.Core.Path.{_≡_, refl, sym, ap, _∙_, subst}
+use mathlib.Core.Bool.{Bool, true, false, cond, _&&_, _||_}
+use mathlib.Core.List.{List, [], _∷_, map}
+use native.Mathlib.Omega.{arith}
+use lib.ListN.{length, getD, replicate}
+use lib.Seq.{sets}
+use lib.Dec.{ltb, eqb}
+use native.Mathlib.Nat.{min-le-right}
+use borrow.Author.Tests.{leb-true, lt-ltb, le-ltb, ltb-false, eqb-true, not-false}
+use Rattle.records.specs.declared.refusal.Refusal.{Refusal}
+use Rattle.records.specs.declared.refusal.Refusal.the-variants.{Size, Length, Field, Room}
+use Rattle.records.specs.declared.refusal.Checked.{Checked}
+use Rattle.records.specs.Outcome.{outcome, only}
+use Rattle.records.specs.Room.{roomOf, fits}
+use Rattle.records.specs.RoomLaws.{Sized, Standing, standing-none, standing-more, standing-full}
+use Rattle.records.specs.Tests.{both, neither}
+use Rattle.modification.specs.Rules.{firstBadRule}
+use Rattle.choice_parts.specs.Choices.{keep, bySize}
+use Rattle.choice_parts.specs.ListingLaws.{Complete, complete}
+use Rattle.peptide_parts.specs.Filling.{apply}
+use Rattle.peptide_parts.specs.FillLaws.{length-apply, filled-stays}
+use Rattle.peptide_parts.specs.Overlays.{overlay}
+use Rattle.peptide_parts.specs.OverlayLaws.{fixed-by-table}
+use Rattle.forms_parts.specs.declared.listing.Listed.{Listed}
+use Rattle.forms_parts.specs.Passing.{passes}
+use Rattle.forms_parts.specs.Enumeration.{mostForms, noCap, choices, chosen, formOf}
+use Rattle.forms_parts.specs.CapLaws.{accepted-all}
+use Rattle.forms_parts.specs.RunLaws.{todo, quick, length-quick, Finished}
+use Rattle.peptide.specs.declared.peptide.Peptide.{Peptide}
+use Rattle.records.specs.declared.refusal.Counted.{Counted}
+use Rattle.peptide.specs.Peptides.{andThen, wrongSize, testedContents}
+use Rattle.peptide.specs.PeptideLaws.{size-fits, not-passed}
+use Rattle.peptide.specs.Forms.{tooLarge, notWhole, testedLists, testedForms, bare, sitesOf, formsOf, listed, formsOutcome}
+
+-- ---- the records of both lists
+
+module _ (variable fixed : List ℕ) (v : ℕ) (first : v ≡ firstBadRule false variable) where
+  pub lists-variable : v < length variable / 8 → Checked.Refused (Field v) ≡ testedLists variable fixed
+  unfolding testedLists
+  lists-variable h = rw (first, lt-ltb (firstBadRule false variable) (length variable / 8) (subst (λ (x : ℕ). x < length variable / 8) first h))
+
+  module _ (on : length variable / 8 ≤ v) (f : ℕ) (next : f ≡ firstBadRule true fixed) where
+    pub lists-fixed : f < length fixed / 8 → Checked.Refused (Field f) ≡ testedLists variable fixed
+    unfolding testedLists
+    lists-fixed h = rw (le-ltb (firstBadRule false variable) (length variable / 8) (subst (λ (x : ℕ). length variable / 8 ≤ x) first on), next, lt-ltb (firstBadRule true fixed) (length fixed / 8) (subst (λ (x : ℕ). x < length fixed / 8) next h))
+
+    pub lists-passed : length fixed / 8 ≤ f → Checked.Passed ≡ testedLists variable fixed
+    unfolding testedLists
+    lists-passed h = rw (le-ltb (firstBadRule false variable) (length variable / 8) (subst (λ (x : ℕ). length variable / 8 ≤ x) first on), le-ltb (firstBadRule true fixed) (length fixed / 8) (subst (λ (x : ℕ). length fixed / 8 ≤ x) next h))
+
+-- ---- all tests
+
+module _ (p : Peptide) (variable fixed : List ℕ) (limit : ℕ) where
+  pub tested-large : tooLarge (p .len) variable fixed limit ≡ true → Checked.Refused Size ≡ testedForms p variable fixed limit
+  unfolding testedForms
+  tested-large e = rw e
+
+  module _ (sized : tooLarge (p .len) variable fixed limit ≡ false) where
+    pub large-fits : p .len ≤ 64
+    large-fits =
+        let a = neither (wrongSize (p .len) || ltb 16 (length variable / 8) || ltb 32 (length fixed / 8)) (ltb 8 limit) sized in
+        let b = neither (wrongSize (p .len) || ltb 16 (length variable / 8)) (ltb 32 (length fixed / 8)) (a .0) in
+        let c = neither (wrongSize (p .len)) (ltb 16 (length variable / 8)) (b .0) in
+        size-fits (p .len) (c .0)
+
+    pub tested-whole : notWhole variable fixed ≡ true → Checked.Refused Length ≡ testedForms p variable fixed limit
+    unfolding testedForms
+    tested-whole e = rw (sized, e)
+
+    module _ (whole : notWhole variable fixed ≡ false) where
+      pub tested-contents : (why : Refusal) → Checked.Refused why ≡ testedContents p → Checked.Refused why ≡ testedForms p variable fixed limit
+      unfolding testedForms
+      tested-contents why e = rw (sized, whole, ← e)
+
+      pub tested-lists : (r : Checked) → Checked.Passed ≡ testedContents p → r ≡ testedLists variable fixed → r ≡ testedForms p variable fixed limit
+      unfolding testedForms
+      tested-lists r e f = rw (sized, whole, ← e) f
+
+      all-fit : (p .len ≤ 64) × (length variable ≤ 256) × (length fixed ≤ 256) × (limit ≤ 8)
+      all-fit =
+          let a = neither (wrongSize (p .len) || ltb 16 (length variable / 8) || ltb 32 (length fixed / 8)) (ltb 8 limit) sized in
+          let b = neither (wrongSize (p .len) || ltb 16 (length variable / 8)) (ltb 32 (length fixed / 8)) (a .0) in
+          let c = neither (wrongSize (p .len)) (ltb 16 (length variable / 8)) (b .0) in
+          let w = both (eqb (length variable % 8) 0) (eqb (length fixed % 8) 0) (not-false (eqb (length variable % 8) 0 && eqb (length fixed % 8) 0) whole) in
+          let m : length fixed % 8 ≡ 0 = eqb-true (length fixed % 8) 0 (w .1) in
+          let j : length variable / 8 ≤ 16 = ltb-false 16 (length variable / 8) (c .1) in
+          let k : length fixed / 8 ≤ 32 = ltb-false 32 (length fixed / 8) (b .1) in
+          (size-fits (p .len) (c .0), omega arith, omega arith, ltb-false 8 limit (a .1))
+
+  -- what is known once they passed
+  pub passed-fit : testedForms p variable fixed limit ≡ Checked.Passed → (p .len ≤ 64) × (length variable ≤ 256) × (length fixed ≤ 256) × (limit ≤ 8)
+  unfolding testedForms
+  passed-fit h = go (tooLarge (p .len) variable fixed limit) refl (notWhole variable fixed) refl h
+    where
+      go : (x : Bool) → tooLarge (p .len) variable fixed limit ≡ x → (y : Bool) → notWhole variable fixed ≡ y
+          → cond x (Checked.Refused Size) (cond y (Checked.Refused Length) (andThen (testedContents p) (testedLists variable fixed))) ≡ Checked.Passed
+          → (p .len ≤ 64) × (length variable ≤ 256) × (length fixed ≤ 256) × (limit ≤ 8)
+      go true e y f q = absurd (not-passed Size q)
+      go false e true f q = absurd (not-passed Length q)
+      go false e false f q = all-fit e f
+
+  module _ (cap : ℕ) (old : List ℕ) where
+    pub forms-refused : (why : Refusal) → Checked.Refused why ≡ testedForms p variable fixed limit → outcome (Counted.Refused why) (old ∷ []) ≡ formsOutcome p variable fixed limit cap old
+    unfolding formsOutcome
+    forms-refused why e = rw (← e)
+
+    pub forms-passed : Checked.Passed ≡ testedForms p variable fixed limit → listed old (formsOf p variable fixed limit cap) ≡ formsOutcome p variable fixed limit cap old
+    unfolding formsOutcome
+    forms-passed e = rw (← e)
+
+    -- no second answer and no second contents fit
+    pub forms-only : (a b : Counted) (k l : List (List ℕ)) → outcome a k ≡ formsOutcome p variable fixed limit cap old → outcome b l ≡ formsOutcome p variable fixed limit cap old → (a ≡ b) × (k ≡ l)
+    forms-only a b k l = only a b k l (formsOutcome p variable fixed limit cap old)
+
+-- ---- the listing
+
+sized-map : (f : List ℕ → List ℕ) (xs : List (List ℕ)) → ((c : List ℕ) → length (f c) ≡ 66) → Sized 66 (map f xs)
+sized-map f [] h = tt
+sized-map f (x ∷ xs) h = (h x, sized-map f xs h)
+
+module _ (old form table sites rules : List ℕ) (limit cap : ℕ) (wide : length form ≡ 66) where
+  abbrev made : List ℕ → List ℕ
+  made = quick form table sites rules
+
+  abbrev rest : List (List ℕ)
+  rest = map made (todo (passes sites rules) cap 1 (bySize (length sites) 1 limit))
+
+  abbrev all : List (List ℕ)
+  all = made [] ∷ rest
+
+  all-sized : Sized 66 all
+  all-sized = (length-quick form table sites rules [] ∙ wide, sized-map made (todo (passes sites rules) cap 1 (bySize (length sites) 1 limit)) (λ c. length-quick form table sites rules c ∙ wide))
+
+  all-is : map made (choices sites rules limit cap) ≡ all
+  unfolding choices
+  all-is = refl
+
+  -- not even one has room
+  pub list-full : roomOf 66 mostForms old ≡ 0 → outcome (Counted.Refused Room) (old ∷ []) ≡ listed old (map made (choices sites rules limit cap))
+  unfolding listed
+  list-full e =
+      let d = standing-full 66 mostForms old all all-sized (made []) rest old 0 (standing-none 66 mostForms old all all-sized) (omega arith) in
+      rw (all-is, d .1) (ap (λ (z : List ℕ). outcome (Counted.Refused Room) (z ∷ [])) (d .0))
+
+  module _ (slots mid new : List ℕ) (room : ℕ) (r : Listed) (is : room ≡ roomOf 66 mostForms old) (some : 1 ≤ room) (bare-is : slots ≡ overlay table form) (stored : mid ≡ sets old 0 slots) (done : Finished room rest mid new r) where
+    first-is : slots ≡ made []
+    unfolding quick apply chosen
+    first-is = bare-is
+
+    begun : Standing 66 mostForms old all rest mid 1
+    begun = subst (λ (z : List ℕ). Standing 66 mostForms old all rest z 1) (sym (stored ∙ ap (sets old 0) first-is)) (standing-more 66 mostForms old all all-sized (made []) rest old 0 (standing-none 66 mostForms old all all-sized) (omega arith))
+
+    -- the first form stands, and the run has written what fits of the others
+    pub list-done : (b : Bool) → r .fits ≡ b → outcome (cond b (Counted.Count (r .count)) (Counted.Refused Room)) (new ∷ []) ≡ listed old (map made (choices sites rules limit cap))
+    unfolding listed
+    list-done b e =
+        let d = done .ends old all is all-sized begun in
+        rw (all-is, ← d .1, e) (go b e ∙ ap (λ (z : List ℕ). outcome (cond b (Counted.Count (length all)) (Counted.Refused Room)) (z ∷ [])) (d .0))
+      where
+        go : (t : Bool) → r .fits ≡ t → outcome (cond t (Counted.Count (r .count)) (Counted.Refused Room)) (new ∷ []) ≡ outcome (cond t (Counted.Count (length all)) (Counted.Refused Room)) (new ∷ [])
+        go true q = ap (λ (n : ℕ). outcome (Counted.Count n) (new ∷ [])) (done .ends old all is all-sized begun .2 q)
+        go false q = refl
+
+    -- all that are written are few
+    pub list-few : r .fits ≡ true → r .count ≤ mostForms
+    list-few q =
+        let d = done .ends old all is all-sized begun in
+        let h : length all ≤ roomOf 66 mostForms old = leb-true (length all) (roomOf 66 mostForms old) (sym (d .1) ∙ q) in
+        omega (arith, d .2 q, min-le-right (length old / 66) mostForms)
+
+-- ---- a form by the table is the form
+
+map-same : (f g : List ℕ → List ℕ) (xs : List (List ℕ)) → ((c : List ℕ) → f c ≡ g c) → map f xs ≡ map g xs
+map-same f g [] h = refl
+map-same f g (x ∷ xs) h = rw (h x, map-same f g xs h)
+
+pub by-table : (p : Peptide) (variable fixed sites table : List ℕ) (limit cap : ℕ) → length (p .ids) ≡ 64 → sites ≡ sitesOf p variable → table ≡ apply fixed (replicate 66 0) (sitesOf p fixed)
+    → map (quick (bare p) table sites variable) (choices sites variable limit cap) ≡ formsOf p variable fixed limit cap
+unfolding formsOf quick formOf
+by-table p variable fixed sites table limit cap l e t =
+    rw (← e)
+    (map-same (quick (bare p) table sites variable) (formOf (bare p) sites variable (sitesOf p fixed) fixed) (choices sites variable limit cap) same)
+  where
+    same : (c : List ℕ) → quick (bare p) table sites variable c ≡ formOf (bare p) sites variable (sitesOf p fixed) fixed c
+    same c =
+        let n : length (bare p) ≡ 66 = omega arith in
+        let k : length (apply variable (bare p) (chosen sites c)) ≡ 66 = length-apply variable (bare p) (chosen sites c) ∙ n in
+        ap (λ (z : List ℕ). overlay z (apply variable (bare p) (chosen sites c))) t
+        ∙ sym (fixed-by-table fixed (apply variable (bare p) (chosen sites c)) (sitesOf p fixed) k)
+
+-- ---- the laws
+
+-- a fixed rule never changes a slot that a variable one, or the peptide itself, has filled
+pub fixed-never-overwrites : (p : Peptide) (variable fixed c : List ℕ) (k : ℕ) → (getD (apply variable (bare p) (chosen (sitesOf p variable) c)) k 0 ≡ 0 → ⊥)
+    → getD (formOf (bare p) (sitesOf p variable) variable (sitesOf p fixed) fixed c) k 0 ≡ getD (apply variable (bare p) (chosen (sitesOf p variable) c)) k 0
+unfolding formOf
+fixed-never-overwrites p variable fixed c k h = filled-stays fixed (apply variable (bare p) (chosen (sitesOf p variable) c)) (sitesOf p fixed) k h
+
+-- without a cap the forms are those of the empty choice and of all choices that pass, in order, each once
+pub forms-complete : (p : Peptide) (variable : List ℕ) (limit : ℕ)
+    → (list : List (List ℕ)) × (choices (sitesOf p variable) variable limit noCap ≡ [] ∷ list) × Complete (passes (sitesOf p variable) variable) (length (sitesOf p variable)) limit list
+unfolding choices
+forms-complete p variable limit =
+    let sites : List ℕ = sitesOf p variable in
+    let list : List (List ℕ) = keep (passes sites variable) (bySize (length sites) 1 limit) in
+    (list, ap (λ (z : List (List ℕ)). [] ∷ z) (accepted-all 1 list), complete (passes sites variable) (length sites) limit)

@@ -1,0 +1,81 @@
+-- Document 01: "A peptide is a struct that holds its letters and ids in arrays of 64, places past the length 0 (else 9, place
+-- 0, after its letters)." "`Peptide::reverse` does so for letters and residue ids, terminals stay, and the decoy flag flips
+-- each time."
+use Prim.Native.Nat.{ℕ, min}
+use mathlib.Core.Bool.{Bool, cond, not, _&&_, _||_}
+use mathlib.Core.List.{List, _++_}
+use lib.ListN.{length, getD, take, drop, replicate}
+use lib.Dec.{leb, ltb, eqb}
+use Rattle.records.specs.declared.refusal.Refusal.the-variants.{Size, Letter, Field}
+use Rattle.records.specs.declared.refusal.Checked.{Checked}
+use Rattle.letters.specs.Letters.{firstBad}
+use Rattle.peptide_parts.specs.Mirror.{mirror, allZero}
+use Rattle.peptide.specs.declared.peptide.Peptide.{Peptide}
+use Rattle.peptide.specs.declared.peptide.Made.{Made}
+
+-- ---- the tests
+
+-- 1: an empty peptide, or one of more than 64 letters
+abbrev pub wrongSize : ℕ → Bool
+wrongSize n = eqb n 0 || ltb 64 n
+
+-- a test, and where it passed the next one
+abbrev pub andThen : Checked → Checked → Checked
+andThen Checked.Passed next = next
+andThen (Checked.Refused why) next = Checked.Refused why
+
+-- the letters that count
+abbrev pub lettersOf : Peptide → List ℕ
+lettersOf p = take (p .len) (p .letters)
+
+-- places past the length are 0, and the position is one of the four
+unfoldable pub clear : Peptide → Bool
+unfolding allZero
+clear p = allZero (drop (p .len) (p .letters)) && allZero (drop (p .len) (p .ids)) && leb (p .position) 3
+
+-- 2: a byte that is no letter, its index; 9: what does not lie clear
+unfoldable pub testedContents : Peptide → Checked
+unfolding firstBad clear
+testedContents p =
+    cond (ltb (firstBad (lettersOf p)) (p .len)) (Checked.Refused (Letter (firstBad (lettersOf p))))
+    (cond (clear p) Checked.Passed (Checked.Refused (Field 0)))
+
+unfoldable pub testedPeptide : Peptide → Checked
+unfolding testedContents
+testedPeptide p = cond (wrongSize (p .len)) (Checked.Refused Size) (testedContents p)
+
+-- the new peptide where the tests passed, else the other
+abbrev pub madeOr : Checked → Peptide → Peptide → Made
+madeOr Checked.Passed new other = record { checked = Checked.Passed; peptide = new }
+madeOr (Checked.Refused why) new other = record { checked = Checked.Refused why; peptide = other }
+
+-- ---- peptides
+
+-- the n places from one on; past the end stands 0
+abbrev pub window : ℕ → ℕ → List ℕ → List ℕ
+window n from xs = take n (drop from xs ++ replicate n 0)
+
+-- of some letters, with the ids of a form: both ends, then the residues. With no form it is unmodified
+abbrev pub given : List ℕ → List ℕ → ℕ → Bool → Peptide
+given letters form position decoy =
+    record {
+      letters = window 64 0 letters;
+      ids = window 64 2 form;
+      nterm = getD form 0 0;
+      cterm = getD form 1 0;
+      len = min (length letters) 255;
+      position = position;
+      decoy = decoy;
+    }
+
+abbrev pub reversed : Peptide → Peptide
+reversed p =
+    record {
+      letters = mirror (p .len) (p .letters);
+      ids = mirror (p .len) (p .ids);
+      nterm = p .nterm;
+      cterm = p .cterm;
+      len = p .len;
+      position = p .position;
+      decoy = not (p .decoy);
+    }
