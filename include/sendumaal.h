@@ -25,7 +25,8 @@ extern "C" {
 enum {
     SENDUMAAL_ACCEPTED = 0,
     SENDUMAAL_SIZE = 1,        /* a size above its limit, or an empty peptide: 0 */
-    SENDUMAAL_LETTER = 2,      /* in letters a byte that is not A to Z; in a rule text a byte of 128 or more: its index */
+    SENDUMAAL_LETTER = 2,      /* in letters a byte that is not A to Z, or where masses are lent a letter of mass zero; in
+                                  a rule text a byte of 128 or more: its index */
     SENDUMAAL_ALPHABET = 3,    /* alphabet bits above 25, or a letter of a set outside the alphabet: 0 */
     SENDUMAAL_EMPTY_TEXT = 4,  /* an empty rule text: 0 */
     SENDUMAAL_OUTSIDE = 5,     /* the letter of a rule text is not in the alphabet: its index */
@@ -43,6 +44,7 @@ enum {
 #define SENDUMAAL_ALL_LETTERS UINT32_C(0x03ffffff)
 #define SENDUMAAL_NO_LIMIT UINT32_C(0xffffffff) /* of a rule */
 #define SENDUMAAL_NO_NAME UINT32_C(0xffffffff)  /* of a modification */
+#define SENDUMAAL_NO_CAP UINT32_C(0xffffffff)   /* of a list of forms */
 
 /* ---- letters ---- */
 
@@ -98,6 +100,63 @@ static inline uint32_t sendumaal_mass_bits(float mass)
     memcpy(&bits, &mass, sizeof bits);
     return bits;
 }
+
+/* ---- digests ----
+ * A digest record is 16 bytes: start u32, end u32, missed u8, semi u8, position u8 (0 N-terminal, 1 C-terminal, 2 the whole
+ * protein, 3 internal), decoy u8, protein u32, all little-endian. Its letters are those from start up to end of its
+ * protein, with decoy 1 all but the first and the last of them reversed. */
+
+/* Cuts a protein, and writes a record for each digest that is kept to the front of out; the rest of out stays.
+ * kind: 0 none, 1 end, 2 set; cleave is the set of kind 2, skip the letters at which no set cuts; side: 0 C, 1 N;
+ * semi: 0 or 1. missed is at most 16, minimum, maximum and letters_len at most 65536, protein is any number.
+ * Refuses with 1; 3 (alphabet bits above 25, or a member of cleave, for kind 2, or of skip that is not in alphabet); 2; 9
+ * (a kind, side or semi that is none: 0); 11: the records that fit stand in order. Accepted: *count is their number. */
+uint32_t sendumaal_digest(const uint8_t *letters, size_t letters_len, uint32_t alphabet,
+                          uint32_t kind, uint32_t cleave, uint32_t skip, uint32_t side, uint32_t semi,
+                          uint32_t missed, uint32_t minimum, uint32_t maximum, uint32_t protein,
+                          uint8_t *out, size_t out_len, uint32_t *count, size_t *place);
+
+/* Reverses letters in place: all but the first and the last. Refuses with 1 (none, or more than 65536), 2. */
+uint32_t sendumaal_letters_reverse(uint8_t *letters, size_t letters_len, size_t *place);
+
+/* Makes a digest record that of its decoy; a decoy's stays. Refuses with 8 (not 16 bytes), 9 (a field out of range: 0). */
+uint32_t sendumaal_digest_reverse(uint8_t *record, size_t record_len, size_t *place);
+
+/* Writes the letters of a digest, reversed inside for a decoy, to the front of out; the rest of out stays. letters are
+ * those of its protein. Refuses with 1 (letters_len above 65536), 8 (the record is not 16 bytes), 2, 9 (a field out of
+ * range, or an end past the letters: 0), 11: the letters that fit stand in order. Accepted: *count is their number. */
+uint32_t sendumaal_digest_letters(const uint8_t *letters, size_t letters_len, const uint8_t *record, size_t record_len,
+                                  uint8_t *out, size_t out_len, uint32_t *count, size_t *place);
+
+/* ---- peptides ----
+ * A peptide passes as its letters, 1 to 64 of them, the ids of its residues, one for each letter, and the ids of its two
+ * ends; an id of 0 is none. position is that of a digest record, 0 to 3. masses are those of A to Z. */
+
+/* Adds water, then the mass of each letter, left to right in float, one rounding for each addition. Refuses with 1 (no
+ * letters, or more than 64), 8 (masses are not 26), 2 (not A to Z, or a letter whose mass is zero). Accepted: *mass. */
+uint32_t sendumaal_base_mass(const uint8_t *letters, size_t letters_len, const float *masses, size_t masses_len,
+                             float water, float *mass, size_t *place);
+
+/* Tests letters that are to be a peptide. Refuses with 1, 8, 2 as above, then 9 (position above 3: 0). */
+uint32_t sendumaal_peptide_test(const uint8_t *letters, size_t letters_len, const float *masses, size_t masses_len,
+                                uint8_t position, size_t *place);
+
+/* Reverses letters and ids in place, all but the first and the last, and flips *decoy between 0 and 1. Refuses with 1, 8
+ * (ids are not as many as letters), 2, 9 (*decoy is neither: 0). */
+uint32_t sendumaal_peptide_reverse(uint8_t *letters, size_t letters_len, uint8_t *ids, size_t ids_len,
+                                   uint32_t *decoy, size_t *place);
+
+/* Lists the forms of a peptide, 66 bytes each: the ids of its N and C terminus, then of 64 residues, places past the
+ * length 0. First the peptide as it is, then for n = 1 to limit (at most 8) every choice of n sites of the variable rules
+ * in lexicographic order that uses no slot twice and no rule above its own limit, until there are cap forms
+ * (SENDUMAAL_NO_CAP: all); the fixed rules then fill what is free in each. They stand at the front of out; the rest of
+ * out stays. Refuses with 1 (also more than 16 variable or 32 fixed rules), 8 (also rules that are not whole records), 2, 9
+ * (position: 0; then variable rules, then fixed ones: the record's index), 11: the forms that fit stand in order.
+ * Accepted: *count is their number, at most 1048576. */
+uint32_t sendumaal_forms(const uint8_t *letters, size_t letters_len, const uint8_t *ids, size_t ids_len,
+                         uint8_t nterm, uint8_t cterm, uint8_t position,
+                         const uint8_t *variable, size_t variable_len, const uint8_t *fixed, size_t fixed_len,
+                         uint32_t limit, uint32_t cap, uint8_t *out, size_t out_len, uint32_t *count, size_t *place);
 
 #ifdef __cplusplus
 }

@@ -12,7 +12,7 @@ use Rattle.records.specs.declared.refusal.Checked.{Checked}
 use Rattle.records.specs.declared.refusal.Checked.the-variants.{Passed, Refused}
 use Rattle.records.specs.Le.{le, numberAt}
 use Rattle.records.specs.Search.{seek}
-use Rattle.records.specs.Outcome.{Outcome, outcome}
+use Rattle.records.specs.Outcome.{Outcome, outcome, unlessRefused}
 use Rattle.modification.specs.declared.table.Entered.{Entered}
 
 abbrev pub massAt : List ℕ → ℕ → ℕ
@@ -66,11 +66,6 @@ enteredOutcome table count mass name =
     (cond (leb (length table / 8) count) (outcome (Entered.Refused Room) (table ∷ []))
     (outcome (Entered.Id (count + 1)) (sets table (count * 8) (entryBytes mass name) ∷ []))))
 
--- a refusal changes nothing
-abbrev pub afterTests : Checked → Outcome Entered → List ℕ → Outcome Entered
-afterTests Passed done table = done
-afterTests (Refused r) done table = outcome (Entered.Refused r) (table ∷ [])
-
 unfoldable pub insertOutcome : List ℕ → ℕ → ℕ → ℕ → Outcome Entered
 unfolding testedTable enteredOutcome
-insertOutcome table count mass name = afterTests (testedTable table count name) (enteredOutcome table count mass name) table
+insertOutcome table count mass name = unlessRefused (testedTable table count name) Entered.Refused (table ∷ []) (enteredOutcome table count mass name)

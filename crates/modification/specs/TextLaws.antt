@@ -21,17 +21,17 @@ use Rattle.records.specs.RoomLaws.{stored-text, fits-text}
 use Rattle.modification.specs.declared.specificity.Specificity.{Specificity}
 use Rattle.modification.specs.declared.specificity.Specificity.the-variants.{Residue, PeptideN, PeptideC, ProteinN, ProteinC}
 use Rattle.modification.specs.declared.text.Parsed.{Parsed}
-use Rattle.modification.specs.declared.text.Written.{Written}
+use Rattle.records.specs.declared.refusal.Counted.{Counted}
 use Rattle.modification.specs.Specificities.{kindOf, letterOf, specificity, sound}
 use Rattle.modification.specs.Texts.{firstWide, markOf, markByte, letterPlace, parsedLetter, parsed, textOf, textOutcome, writeOutcome}
 
 -- ---- a text of at most two bytes in a buffer
 
 module _ (t old out : List ℕ) (h : length t ≤ 2) (e : out ≡ sets old 0 t) where
-  pub text-short : length old < length t → outcome (Written.Refused Room) (out ∷ []) ≡ textOutcome t old
+  pub text-short : length old < length t → outcome (Counted.Refused Room) (out ∷ []) ≡ textOutcome t old
   text-short g = rw (e, stored-text 2 t old h, fits-text 2 t old h, lt-leb (length t) (length old) g)
 
-  pub text-long : length t ≤ length old → outcome (Written.Count (length t)) (out ∷ []) ≡ textOutcome t old
+  pub text-long : length t ≤ length old → outcome (Counted.Count (length t)) (out ∷ []) ≡ textOutcome t old
   text-long g = rw (e, stored-text 2 t old h, fits-text 2 t old h, le-leb (length t) (length old) g)
 
 -- ---- the text of a sound rule
@@ -249,7 +249,7 @@ module _ (s : Specificity) (old : List ℕ) (k l : ℕ) (ek : k ≡ kindOf s) (e
   is-sound : (x : Bool) → sound k l ≡ x → sound (kindOf s) (letterOf s) ≡ x
   is-sound x h = subst (λ (m : ℕ). sound m (letterOf s) ≡ x) ek (subst (λ (m : ℕ). sound k m ≡ x) el h)
 
-  pub write-bad : sound k l ≡ false → outcome (Written.Refused (Field 0)) (old ∷ []) ≡ writeOutcome s old
+  pub write-bad : sound k l ≡ false → outcome (Counted.Refused (Field 0)) (old ∷ []) ≡ writeOutcome s old
   unfolding writeOutcome
   write-bad h = rw (is-sound false h)
 
@@ -269,5 +269,5 @@ module _ (s : Specificity) (old : List ℕ) (k l : ℕ) (ek : k ≡ kindOf s) (e
       write-both p = to-text (m ∷ l ∷ []) (text-both s (λ e. n (ek ∙ e)) (λ e. p (el ∙ e)) ∙ ap₂ (λ (x y : ℕ). x ∷ y ∷ []) (sym (mark ∙ ap markByte ek)) (sym el))
 
 -- no second answer, and no second contents, meets what `write` ensures
-pub write-only : (s : Specificity) (old : List ℕ) (a b : Written) (k l : List (List ℕ)) → outcome a k ≡ writeOutcome s old → outcome b l ≡ writeOutcome s old → (a ≡ b) × (k ≡ l)
+pub write-only : (s : Specificity) (old : List ℕ) (a b : Counted) (k l : List (List ℕ)) → outcome a k ≡ writeOutcome s old → outcome b l ≡ writeOutcome s old → (a ≡ b) × (k ≡ l)
 write-only s old a b k l = only a b k l (writeOutcome s old)

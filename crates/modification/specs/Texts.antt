@@ -13,7 +13,7 @@ use Rattle.records.specs.Outcome.{Outcome, outcome}
 use Rattle.records.specs.Room.{fits, fitted, bytewise}
 use Rattle.modification.specs.declared.specificity.Specificity.{Specificity}
 use Rattle.modification.specs.declared.text.Parsed.{Parsed}
-use Rattle.modification.specs.declared.text.Written.{Written}
+use Rattle.records.specs.declared.refusal.Counted.{Counted}
 use Rattle.modification.specs.Specificities.{kindOf, letterOf, specificity, sound}
 
 -- ---- reading
@@ -64,10 +64,10 @@ textOf s =
     (markByte (kindOf s) ∷ letterOf s ∷ []))
 
 -- a text, whose record is a byte, in a lent buffer: how many bytes, or 11
-abbrev pub textOutcome : List ℕ → List ℕ → Outcome Written
+abbrev pub textOutcome : List ℕ → List ℕ → Outcome Counted
 textOutcome text old =
-    outcome (cond (fits 1 2 old (bytewise text)) (Written.Count (length text)) (Written.Refused Room)) (fitted 1 2 old (bytewise text) ∷ [])
+    outcome (cond (fits 1 2 old (bytewise text)) (Counted.Count (length text)) (Counted.Refused Room)) (fitted 1 2 old (bytewise text) ∷ [])
 
 -- 9: a kind with a letter that no rule has
-unfoldable pub writeOutcome : Specificity → List ℕ → Outcome Written
-writeOutcome s old = cond (sound (kindOf s) (letterOf s)) (textOutcome (textOf s) old) (outcome (Written.Refused (Field 0)) (old ∷ []))
+unfoldable pub writeOutcome : Specificity → List ℕ → Outcome Counted
+writeOutcome s old = cond (sound (kindOf s) (letterOf s)) (textOutcome (textOf s) old) (outcome (Counted.Refused (Field 0)) (old ∷ []))

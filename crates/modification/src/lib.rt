@@ -15,6 +15,5 @@ pub use specificity::specificity_of;
 pub use table::Entered;
 pub use table::insert;
 pub use text::Parsed;
-pub use text::Written;
 pub use text::parse;
 pub use text::write;

@@ -2,6 +2,7 @@
 use crate::specificity;
 use crate::specificity::Specificity;
 use letters::LetterSet;
+use records::Counted;
 use records::Refusal;
 ghost use mathlib.Core.Path.{_≡_};
 ghost use mathlib.Core.List.{List, [], _∷_};
@@ -12,11 +13,6 @@ ghost use Rattle.modification.specs.Texts.{firstWide, markOf, markByte, 
 
 pub enum Parsed {
     Rule(Specificity),
-    Refused(Refusal),
-}
-
-pub enum Written {
-    Count(u32),
     Refused(Refusal),
 }
 
@@ -111,31 +107,31 @@ fn mark_byte(kind: u8) -> u8
     93
 }
 
-fn put_one(out: &mut [u8], a: u8) -> Written
+fn put_one(out: &mut [u8], a: u8) -> Counted
     ensures { λ r. ⌜ outcome r (now (out .exit) ∷ []) ≡ textOutcome (a ∷ []) (now (out .entry)) ⌝ }
 {
     let room = out.len();
     records::put_byte(out, 0, a);
     if room < 1 {
-        return Written::Refused(Refusal::Room);
+        return Counted::Refused(Refusal::Room);
     }
-    Written::Count(1)
+    Counted::Count(1)
 }
 
-fn put_two(out: &mut [u8], a: u8, b: u8) -> Written
+fn put_two(out: &mut [u8], a: u8, b: u8) -> Counted
     ensures { λ r. ⌜ outcome r (now (out .exit) ∷ []) ≡ textOutcome (a ∷ b ∷ []) (now (out .entry)) ⌝ }
 {
     let room = out.len();
     records::put_byte(out, 0, a);
     records::put_byte(out, 1, b);
     if room < 2 {
-        return Written::Refused(Refusal::Room);
+        return Counted::Refused(Refusal::Room);
     }
-    Written::Count(2)
+    Counted::Count(2)
 }
 
 // Writes a rule as a text.
-pub fn write(rule: Specificity, out: &mut [u8]) -> Written
+pub fn write(rule: Specificity, out: &mut [u8]) -> Counted
     ensures { λ r. ⌜ outcome r (now (out .exit) ∷ []) ≡ writeOutcome rule (now (out .entry)) ⌝ }
 {
     let kind = rule.kind();
@@ -149,5 +145,5 @@ pub fn write(rule: Specificity, out: &mut [u8]) -> Written
         }
         return put_two(out, mark_byte(kind), letter);
     }
-    Written::Refused(Refusal::Field(0))
+    Counted::Refused(Refusal::Field(0))
 }

@@ -9,15 +9,15 @@ use borrow.Author.Tests.{leb-true}
 use Rattle.records.specs.declared.refusal.Refusal.{Refusal}
 use Rattle.records.specs.declared.refusal.Refusal.the-variants.{Field}
 use Rattle.records.specs.declared.refusal.Checked.{Checked}
+use Rattle.records.specs.declared.refusal.Counted.{Counted}
 use Rattle.records.specs.Refusals.{numberOf, placeOf}
 use Rattle.records.specs.Tests.{both}
 use Rattle.records.specs.Outcome.{Outcome, outcome}
-use Rattle.modification.specs.declared.text.Written.{Written}
 use Rattle.modification.specs.declared.table.Entered.{Entered}
 use Rattle.modification.specs.Specificities.{specificity}
 use Rattle.modification.specs.Texts.{writeOutcome}
 use Rattle.modification.specs.Rules.{writeRuleOutcome}
-use Rattle.sendumaal.specs.Calls.{accepted, refused, testCall, insertCall, writtenCall, writeCall, checkedCall, recordCall, isRule}
+use Rattle.sendumaal.specs.Calls.{accepted, refused, testCall, insertCall, withLent, countCall, countedCall, writeCall, checkedCall, recordCall, isRule}
 
 -- a refusal's number is returned and its place written
 pub said : (r : Refusal) (n p : ℕ) → n ≡ numberOf r → p ≡ placeOf r → (lent : List (List ℕ)) → outcome n ((p ∷ []) ∷ lent) ≡ refused r lent
@@ -30,12 +30,10 @@ module _ (o : Outcome Entered) (a : Entered) (lent : List (List ℕ)) (id : ℕ)
   pub insert-no : (r : Refusal) → a ≡ Entered.Refused r → refused r ((id ∷ []) ∷ lent) ≡ insertCall o id
   insert-no r f = ap (λ (x : Entered). insertCall (outcome x lent) id) (sym f) ∙ ap (λ (x : Outcome Entered). insertCall x id) e
 
-module _ (o : Outcome Written) (a : Written) (lent : List (List ℕ)) (count : ℕ) (e : outcome a lent ≡ o) where
-  pub write-count : (n : ℕ) → a ≡ Written.Count n → accepted ((n ∷ []) ∷ lent) ≡ writtenCall o count
-  write-count n f = ap (λ (x : Written). writtenCall (outcome x lent) count) (sym f) ∙ ap (λ (x : Outcome Written). writtenCall x count) e
-
-  pub write-no : (r : Refusal) → a ≡ Written.Refused r → refused r ((count ∷ []) ∷ lent) ≡ writtenCall o count
-  write-no r f = ap (λ (x : Written). writtenCall (outcome x lent) count) (sym f) ∙ ap (λ (x : Outcome Written). writtenCall x count) e
+-- what the answer of a list is told as
+pub count-said : (a : Counted) (n p q : ℕ) (count : ℕ) → outcome n ((p ∷ []) ∷ (q ∷ []) ∷ []) ≡ countCall a count → (lent : List (List ℕ)) (o : Outcome Counted) → outcome a lent ≡ o
+    → outcome n ((p ∷ []) ∷ (q ∷ []) ∷ lent) ≡ countedCall o count
+count-said a n p q count e lent o f = ap (λ (x : Outcome ℕ). withLent x lent) e ∙ ap (λ (x : Outcome Counted). countedCall x count) f
 
 -- the parts of a rule are bytes
 pub rule-bytes : (kind letter id : ℕ) → isRule kind letter id ≡ true → (kind ≤ 4) × (letter ≤ 255) × (id ≤ 255)
@@ -56,7 +54,7 @@ check-said (Checked.Refused r) n p e lent =
     rw (f, g)
 
 module _ (kind letter : ℕ) (out : List ℕ) where
-  pub write-rule : (count : ℕ) → isRule kind letter 0 ≡ true → writtenCall (writeOutcome (specificity kind letter) out) count ≡ writeCall kind letter out count
+  pub write-rule : (count : ℕ) → isRule kind letter 0 ≡ true → countedCall (writeOutcome (specificity kind letter) out) count ≡ writeCall kind letter out count
   write-rule count h = rw h
 
   pub write-none : (count : ℕ) → isRule kind letter 0 ≡ false → refused (Field 0) ((count ∷ []) ∷ out ∷ []) ≡ writeCall kind letter out count

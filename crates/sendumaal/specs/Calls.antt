@@ -3,14 +3,12 @@
 -- as they were.
 use Prim.Native.Nat.{ℕ}
 use mathlib.Core.Bool.{Bool, cond, _&&_}
-use mathlib.Core.List.{List, [], _∷_}
+use mathlib.Core.List.{List, [], _∷_, _++_}
 use lib.ListN.{length}
 use lib.Dec.{leb, ltb}
 use Rattle.letters.specs.declared.letter_set.LetterSet.{LetterSet}
 use Rattle.letters.specs.Letters.{firstBad}
 use Rattle.modification.specs.declared.text.Parsed.{Parsed}
-use Rattle.modification.specs.declared.text.Written.{Written}
-use Rattle.modification.specs.declared.text.Written.the-variants.{Count}
 use Rattle.modification.specs.declared.rule.Read.{Read}
 use Rattle.modification.specs.declared.table.Entered.{Entered}
 use Rattle.modification.specs.declared.table.Entered.the-variants.{Id}
@@ -20,6 +18,7 @@ use Rattle.modification.specs.Rules.{writeRuleOutcome}
 use Rattle.records.specs.declared.refusal.Refusal.{Refusal}
 use Rattle.records.specs.declared.refusal.Refusal.the-variants.{Letter, Field}
 use Rattle.records.specs.declared.refusal.Checked.{Checked}
+use Rattle.records.specs.declared.refusal.Counted.{Counted}
 use Rattle.records.specs.Refusals.{numberOf, placeOf}
 use Rattle.records.specs.Outcome.{Outcome, outcome}
 
@@ -33,6 +32,19 @@ accepted lent = outcome 0 ((0 ∷ []) ∷ lent)
 -- refused, with the results and slices as they were
 abbrev pub refused : Refusal → List (List ℕ) → Outcome ℕ
 refused r lent = outcome (numberOf r) ((placeOf r ∷ []) ∷ lent)
+
+-- the same number and results, with more lent behind them
+abbrev pub withLent : Outcome ℕ → List (List ℕ) → Outcome ℕ
+withLent o lent = outcome (o .answer) (o .lent ++ lent)
+
+-- how many records were written
+abbrev pub countCall : Counted → ℕ → Outcome ℕ
+countCall (Counted.Count n) count = accepted ((n ∷ []) ∷ [])
+countCall (Counted.Refused r) count = refused r ((count ∷ []) ∷ [])
+
+-- with the buffer that they were written to
+abbrev pub countedCall : Outcome Counted → ℕ → Outcome ℕ
+countedCall o count = withLent (countCall (o .answer) count) (o .lent)
 
 abbrev pub lettersCall : List ℕ → Outcome ℕ
 lettersCall letters = cond (ltb (firstBad letters) (length letters)) (refused (Letter (firstBad letters)) []) (accepted [])
@@ -56,15 +68,8 @@ insertCall o id = go (o .answer)
 abbrev pub isRule : ℕ → ℕ → ℕ → Bool
 isRule kind letter id = leb kind 4 && leb letter 255 && leb id 255
 
-abbrev pub writtenCall : Outcome Written → ℕ → Outcome ℕ
-writtenCall o count = go (o .answer)
-  where
-    go : Written → Outcome ℕ
-    go (Count n) = accepted ((n ∷ []) ∷ o .lent)
-    go (Written.Refused r) = refused r ((count ∷ []) ∷ o .lent)
-
 abbrev pub writeCall : ℕ → ℕ → List ℕ → ℕ → Outcome ℕ
-writeCall kind letter out count = cond (isRule kind letter 0) (writtenCall (writeOutcome (specificity kind letter) out) count) (refused (Field 0) ((count ∷ []) ∷ out ∷ []))
+writeCall kind letter out count = cond (isRule kind letter 0) (countedCall (writeOutcome (specificity kind letter) out) count) (refused (Field 0) ((count ∷ []) ∷ out ∷ []))
 
 abbrev pub readCall : Read → ℕ → ℕ → ℕ → ℕ → Outcome ℕ
 readCall (Read.Rule q) kind letter id limit = accepted ((kindOf (q .on) ∷ []) ∷ (letterOf (q .on) ∷ []) ∷ (q .id ∷ []) ∷ (q .limit ∷ []) ∷ [])

@@ -1,3 +1,9 @@
--- What a reader has to believe: Calls. The file named Laws says what follows from it.
+-- What a reader has to believe: Calls, DigestCalls, PeptideCalls. The files named Laws say what follows from them; Cases has
+-- document 01's examples.
 pub mod Calls
 pub mod CallLaws
+pub mod DigestCalls
+pub mod DigestCallLaws
+pub mod PeptideCalls
+pub mod PeptideCallLaws
+pub mod Cases

@@ -1,10 +1,10 @@
 // Rule texts and rule records.
+use crate::telling::counted;
+use crate::telling::told;
 use letters::LetterSet;
 use modification::Parsed;
 use modification::Read;
 use modification::Rule;
-use modification::Written;
-use records::Checked;
 ghost use mathlib.Core.Path.{_≡_};
 ghost use mathlib.Core.List.{List, [], _∷_};
 ghost use mathlib.Core.Bool.{true, false};
@@ -33,22 +33,6 @@ pub extern "C" fn sendumaal_rule_parse(
             0
         }
         Parsed::Refused(why) => {
-            *place = why.place();
-            why.number()
-        }
-    }
-}
-
-// The number and the place of what tests found.
-fn told(found: Checked, place: &mut usize) -> u32
-    ensures { λ r. ⌜ outcome r ((now (place .exit) ∷ []) ∷ []) ≡ testCall found ⌝ }
-{
-    match found {
-        Checked::Passed => {
-            *place = 0;
-            0
-        }
-        Checked::Refused(why) => {
             *place = why.place();
             why.number()
         }
@@ -89,17 +73,7 @@ pub extern "C" fn sendumaal_rule_write(
     if is_rule(kind, letter, 0) {
         let on = modification::specificity_of(kind as u8, letter as u8);
         let answer = modification::write(on, out);
-        match answer {
-            Written::Count(n) => {
-                *count = n;
-                *place = 0;
-                return 0;
-            }
-            Written::Refused(why) => {
-                *place = why.place();
-                return why.number();
-            }
-        }
+        return counted(answer, count, place);
     }
     *place = 0;
     9

@@ -6,7 +6,7 @@ use native.Mathlib.Omega.{arith}
 use Rattle.modification.specs.declared.specificity.Specificity.{Specificity}
 use Rattle.modification.specs.Specificities.{specificity}
 use Rattle.modification.specs.Texts.{writeOutcome}
-use Rattle.sendumaal.specs.CallLaws.{said, rule-bytes, write-count, write-no, write-rule, write-none}
+use Rattle.sendumaal.specs.CallLaws.{rule-bytes, count-said, write-rule, write-none}
 use borrow.Author.Needs.{needs}
 use Rattle.sendumaal.proofs.rules.sendumaal_rule_write.Statement.{statement}
 use Rattle.sendumaal.proofs.rules.sendumaal_rule_write.Tie as tie
@@ -30,8 +30,8 @@ specificity-of-requires c κs = search needs
 write-requires : tie.Need-write-requires
 write-requires c κs = search needs
 
-enum-known-answer : tie.Need-enum-known-answer
-enum-known-answer c = search needs
+counted-requires : tie.Need-counted-requires
+counted-requires c κs = search needs
 
 same-length : tie.Need-same-length
 same-length c = search needs
@@ -40,35 +40,12 @@ returns : tie.Need-returns
 returns c =
     let a = c .before .before .before .before .before .before .before .before .before .before .before .args in
     let w = c .before .before .before .before .before .write in
-    let n = c .before .answer in
-    write-count (writeOutcome (specificity (a .kind) (a .letter)) (now (a .out))) (w .result) (w .last .1 .0 ∷ []) (now (a .count))
-    (w .ensures ∙ ap (λ (s : Specificity). writeOutcome s (now (a .out))) (c .before .before .before .before .before .before .before .specificity-of .ensures)) (n .given .0 .0) (n .given .1)
+    count-said (w .result) (c .counted .result) (c .counted .last .1 .1 .0) (c .counted .last .1 .0) (now (a .count)) (c .counted .ensures) (w .last .1 .0 ∷ [])
+    (writeOutcome (specificity (a .kind) (a .letter)) (now (a .out))) (w .ensures ∙ ap (λ (s : Specificity). writeOutcome s (now (a .out))) (c .before .before .before .before .before .before .before .specificity-of .ensures))
     ∙ write-rule (a .kind) (a .letter) (now (a .out)) (now (a .count)) (sym (c .before .before .before .before .before .before .before .before .before .is-rule .ensures) ∙ c .before .before .before .before .before .before .before .before .if1 .taken)
-
-enum-known-answer-2 : tie.Need-enum-known-answer-2
-enum-known-answer-2 c = search needs
-
-place-requires : tie.Need-place-requires
-place-requires c κs = search needs
-
-number-requires : tie.Need-number-requires
-number-requires c κs = search needs
-
-same-length-2 : tie.Need-same-length-2
-same-length-2 c = search needs
 
 returns-2 : tie.Need-returns-2
 returns-2 c =
-    let a = c .before .before .before .before .before .before .before .before .before .before .before .before .before .args in
-    let w = c .before .before .before .before .before .before .before .write in
-    let n = c .before .before .before .answer2 in
-    said (n .given .0 .0) (c .number .result) (c .before .place .result) (c .number .ensures) (c .before .place .ensures) ((now (a .count) ∷ []) ∷ w .last .1 .0 ∷ [])
-    ∙ write-no (writeOutcome (specificity (a .kind) (a .letter)) (now (a .out))) (w .result) (w .last .1 .0 ∷ []) (now (a .count))
-    (w .ensures ∙ ap (λ (s : Specificity). writeOutcome s (now (a .out))) (c .before .before .before .before .before .before .before .before .before .specificity-of .ensures)) (n .given .0 .0) (n .given .1)
-    ∙ write-rule (a .kind) (a .letter) (now (a .out)) (now (a .count)) (sym (c .before .before .before .before .before .before .before .before .before .before .before .is-rule .ensures) ∙ c .before .before .before .before .before .before .before .before .before .before .if1 .taken)
-
-returns-3 : tie.Need-returns-3
-returns-3 c =
     let a = c .before .before .before .args in
     write-none (a .kind) (a .letter) (now (a .out)) (now (a .count)) (sym (c .before .is-rule .ensures) ∙ c .if1 .left)
 
@@ -81,12 +58,7 @@ sendumaal-rule-write-spec =
     cast-specificity-of-2
     specificity-of-requires
     write-requires
-    enum-known-answer
+    counted-requires
     same-length
     returns
-    enum-known-answer-2
-    place-requires
-    number-requires
-    same-length-2
-    returns-2
-    returns-3)
+    returns-2)

@@ -4,8 +4,8 @@ use mathlib.Core.List.{[]}
 use Rattle.sendumaal.specs.Calls.{testCall}
 use Rattle.sendumaal.specs.CallLaws.{said}
 use borrow.Author.Needs.{needs}
-use Rattle.sendumaal.proofs.rules.told.Statement.{statement}
-use Rattle.sendumaal.proofs.rules.told.Tie as tie
+use Rattle.sendumaal.proofs.telling.told.Statement.{statement}
+use Rattle.sendumaal.proofs.telling.told.Tie as tie
 
 enum-told : tie.Need-enum-told
 enum-told c = search needs

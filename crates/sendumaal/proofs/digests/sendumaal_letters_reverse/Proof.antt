@@ -1,0 +1,26 @@
+-- `sendumaal_letters_reverse` meets its contract. Assumes nothing.
+use mathlib.Core.Path.{ap, _∙_}
+use mathlib.Core.List.{[], _∷_}
+use Rattle.sendumaal.specs.Calls.{checkedCall}
+use Rattle.sendumaal.specs.CallLaws.{check-said}
+use borrow.Author.Needs.{needs}
+use Rattle.sendumaal.proofs.digests.sendumaal_letters_reverse.Statement.{statement}
+use Rattle.sendumaal.proofs.digests.sendumaal_letters_reverse.Tie as tie
+
+reverse-letters-requires : tie.Need-reverse-letters-requires
+reverse-letters-requires c κs = search needs
+
+told-requires : tie.Need-told-requires
+told-requires c κs = search needs
+
+same-length : tie.Need-same-length
+same-length c = search needs
+
+returns : tie.Need-returns
+returns c =
+    let w = c .before .before .before .before .reverse-letters in
+    check-said (w .result) (c .told .result) (c .told .last .1 .0) (c .told .ensures) (w .last .0 ∷ []) ∙ ap checkedCall (w .ensures)
+
+pub sendumaal-letters-reverse-spec : {M : Type 1} → statement M
+sendumaal-letters-reverse-spec =
+    tie.close (tie.spec reverse-letters-requires told-requires same-length returns)

@@ -1,0 +1,86 @@
+-- `sendumaal_peptide_reverse` meets its contract. Assumes nothing.
+use mathlib.Core.Path.{sym, _∙_}
+use mathlib.Core.List.{[], _∷_}
+use denote.Ref.{now}
+use lib.Dec.{eqb}
+use Rattle.sendumaal.specs.PeptideCalls.{peptideOf}
+use Rattle.sendumaal.specs.CallLaws.{said}
+use Rattle.sendumaal.specs.PeptideCallLaws.{reverse-fits, reverse-peptide, reverse-no, reverse-yes}
+use borrow.Author.Needs.{needs}
+use Rattle.sendumaal.proofs.peptides.sendumaal_peptide_reverse.Statement.{statement}
+use Rattle.sendumaal.proofs.peptides.sendumaal_peptide_reverse.Tie as tie
+
+peptide-of-requires : tie.Need-peptide-of-requires
+peptide-of-requires c κs = search needs
+
+test-reverse-requires : tie.Need-test-reverse-requires
+test-reverse-requires c κs = search needs
+
+enum-known-found : tie.Need-enum-known-found
+enum-known-found c = search needs
+
+place-requires : tie.Need-place-requires
+place-requires c κs = search needs
+
+number-requires : tie.Need-number-requires
+number-requires c κs = search needs
+
+enum-told : tie.Need-enum-told
+enum-told c = search needs
+
+turn-requires : tie.Need-turn-requires
+turn-requires c κs =
+    let a = c .before .before .before .before .before .before .before .before .before .before .before .before .before .args in
+    let t = sym (c .before .before .before .before .test-reverse .ensures) ∙ c .before .before .enum-told .given .1 in
+    let f = reverse-fits (now (a .letters)) (now (a .ids)) (c .before .before .before .before .before .before .before .peptide-of .result) (now (a .decoy)) t in
+    (f .0, f .1, reverse-peptide (now (a .letters)) (now (a .ids)) (c .before .before .before .before .before .before .before .peptide-of .result) (now (a .decoy)) t)
+
+flipped-requires : tie.Need-flipped-requires
+flipped-requires c κs = search needs
+
+same-length : tie.Need-same-length
+same-length c = search needs
+
+same-length-2 : tie.Need-same-length-2
+same-length-2 c = search needs
+
+returns : tie.Need-returns
+returns c =
+    let a = c .before .before .before .before .before .before .before .before .before .before .before .before .before .before .args in
+    let w = c .before .before .before .found in
+    let p = c .before .before .before .before .before .before .before .before .peptide-of in
+    said (w .given .0 .0) (c .number .result) (c .before .place .result) (c .number .ensures) (c .before .place .ensures) ((now (a .decoy) ∷ []) ∷ now (a .letters) ∷ now (a .ids) ∷ [])
+    ∙ reverse-no (p .result) (peptideOf (now (a .letters)) (now (a .ids)) 0 0 0 (eqb (now (a .decoy)) 1)) (now (a .letters)) (now (a .ids)) (now (a .decoy)) (p .ensures) (w .given .0 .0) (sym (c .before .before .before .before .before .test-reverse .ensures) ∙ w .given .1)
+
+same-length-3 : tie.Need-same-length-3
+same-length-3 c = search needs
+
+same-length-4 : tie.Need-same-length-4
+same-length-4 c = search needs
+
+returns-2 : tie.Need-returns-2
+returns-2 c =
+    let a = c .before .before .before .before .before .before .before .before .before .before .before .before .before .before .before .before .before .before .before .args in
+    let p = c .before .before .before .before .before .before .before .before .before .before .before .before .before .peptide-of in
+    let t = c .before .before .before .before .before .turn in
+    reverse-yes (p .result) (peptideOf (now (a .letters)) (now (a .ids)) 0 0 0 (eqb (now (a .decoy)) 1)) (now (a .letters)) (now (a .ids)) (now (a .decoy)) (p .ensures) (sym (c .before .before .before .before .before .before .before .before .before .before .test-reverse .ensures) ∙ c .before .before .before .before .before .before .before .before .enum-told .given .1)
+    (c .flipped .result) (t .last .0) (t .last .1 .0) (c .flipped .ensures) (t .ensures .0) (t .ensures .1)
+
+pub sendumaal-peptide-reverse-spec : {M : Type 1} → statement M
+sendumaal-peptide-reverse-spec =
+    tie.close
+    (tie.spec
+    peptide-of-requires
+    test-reverse-requires
+    enum-known-found
+    place-requires
+    number-requires
+    enum-told
+    turn-requires
+    flipped-requires
+    same-length
+    same-length-2
+    returns
+    same-length-3
+    same-length-4
+    returns-2)

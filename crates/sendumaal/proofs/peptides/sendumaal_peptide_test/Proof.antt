@@ -1,0 +1,30 @@
+-- `sendumaal_peptide_test` meets its contract. Assumes nothing.
+use mathlib.Core.List.{[]}
+use mathlib.Core.Bool.{false}
+use Rattle.peptide.specs.Peptides.{given}
+use Rattle.peptide.specs.Masses.{testedPart}
+use mathlib.Core.Path.{_≡_, ap, _∙_}
+use denote.Ref.{now}
+use Rattle.peptide.specs.declared.peptide.Made.{Made}
+use Rattle.sendumaal.specs.Calls.{testCall}
+use Rattle.sendumaal.specs.PeptideCallLaws.{checked-of}
+use borrow.Author.Needs.{needs}
+use Rattle.sendumaal.proofs.peptides.sendumaal_peptide_test.Statement.{statement}
+use Rattle.sendumaal.proofs.peptides.sendumaal_peptide_test.Tie as tie
+
+of-part-requires : tie.Need-of-part-requires
+of-part-requires c κs = search needs
+
+told-requires : tie.Need-told-requires
+told-requires c κs = search needs
+
+returns : tie.Need-returns
+returns c =
+    let a = c .before .before .before .before .before .args in
+    let found : c .before .before .of-part .result .checked ≡ testedPart (now (a .letters)) (now (a .masses)) (a .position) =
+    ap (λ (m : Made). m .checked) (c .before .before .of-part .ensures)
+    ∙ checked-of (testedPart (now (a .letters)) (now (a .masses)) (a .position)) (given (now (a .letters)) [] (a .position) false) (given [] [] 0 false) in
+    c .told .ensures ∙ ap testCall found
+
+pub sendumaal-peptide-test-spec : {M : Type 1} → statement M
+sendumaal-peptide-test-spec = tie.close (tie.spec of-part-requires told-requires returns)
