@@ -1,5 +1,9 @@
 // Replays answers of the original Rust against the library: rules.txt holds rule texts, table.txt insertions into tables
-// of modifications. Says how many cases were compared and how many differ, and the line of each that does.
+// of modifications, digest.txt digestions, forms.txt forms of peptides, masses.txt base masses. Says how many cases were
+// compared and how many differ, and the line of each that does.
+mod digests;
+mod forms;
+mod masses;
 mod rules;
 mod table;
 mod text;
@@ -79,10 +83,31 @@ fn replay_table(buffer: &mut [u8], table: &mut [u8]) {
     tally.report(b"table: ");
 }
 
+fn replay_digests(buffer: &mut [u8], out: &mut [u8]) {
+    let n = load(b"digest.txt", buffer);
+    let tally = digests::replay(&buffer[..n], out);
+    tally.report(b"digests: ");
+}
+
+fn replay_forms(buffer: &mut [u8], out: &mut [u8]) {
+    let n = load(b"forms.txt", buffer);
+    let tally = forms::replay(&buffer[..n], out);
+    tally.report(b"forms: ");
+}
+
+fn replay_masses(buffer: &mut [u8]) {
+    let n = load(b"masses.txt", buffer);
+    let tally = masses::replay(&buffer[..n]);
+    tally.report(b"base masses: ");
+}
+
 fn main() {
     let mut buffer = io::large_buffer();
-    replay_rules(&mut buffer);
-    let mut again = io::large_buffer();
     let mut table = [0u8; 2048];
-    replay_table(&mut again, &mut table);
+    let mut out = io::large_buffer();
+    replay_rules(&mut buffer);
+    replay_table(&mut buffer, &mut table);
+    replay_digests(&mut buffer, &mut out);
+    replay_forms(&mut buffer, &mut out);
+    replay_masses(&mut buffer);
 }

@@ -4,7 +4,6 @@ use crate::Tally;
 use crate::text;
 use letters::LetterSet;
 use modification::Parsed;
-ghost use Rattle.io.specs.Counts.{Counts};
 
 // The letters that the Rust takes: all but B, J, X and Z.
 const ALPHABET: LetterSet = LetterSet { mask: 0x017f_fdfd };
@@ -14,24 +13,6 @@ struct Answer {
     place: u32,
     kind: u32,
     letter: u32,
-}
-
-// The bytes that a field holds in hexadecimal, at the front of out: how many there are.
-fn unhex(line: &[u8], out: &mut [u8]) -> usize
-    ensures { λ r. ⌜ Counts r (now (out .exit)) ⌝ }
-{
-    let mut n: usize = 0;
-    while n < out.len() {
-        let at = 2 * n;
-        let high = records::byte_at(line, at);
-        if high < 48 {
-            return n;
-        }
-        let low = records::byte_at(line, at + 1);
-        out[n] = text::nibble(high) * 16 + text::nibble(low);
-        n += 1;
-    }
-    n
 }
 
 fn answer_of(parsed: Parsed) -> Answer {
@@ -54,7 +35,7 @@ fn answer_of(parsed: Parsed) -> Answer {
 // Whether the library answers a line as the Rust did.
 fn agrees(line: &[u8]) -> bool {
     let mut bytes = [0u8; 64];
-    let n = unhex(line, &mut bytes);
+    let n = text::unhex(line, &mut bytes);
     let ours = answer_of(modification::parse(&bytes[..n], ALPHABET));
     (ours.number == text::decimal(line, text::field(line, 1)))
         & (ours.place == text::decimal(line, text::field(line, 2)))

@@ -2,6 +2,7 @@
 ghost use mathlib.Core.Path.{_≡_};
 ghost use Prim.Native.Nat.{_+_, _≤_, _<_};
 ghost use lib.ListN.{length};
+ghost use Rattle.io.specs.Counts.{Counts};
 
 // Where the line that begins at a place ends.
 pub(crate) fn line_end(s: &[u8], at: usize) -> usize
@@ -46,9 +47,14 @@ fn is_digit(b: u8) -> bool {
     (48 <= b) & (b <= 57)
 }
 
-// A decimal number with one digit more, as far as it fits.
+// A decimal number with one digit more, or the greatest.
 fn longer(n: u32, b: u8) -> u32 {
-    (n % 400000000) * 10 + (b % 16) as u32
+    let wide = n as u64 * 10 + (b % 16) as u64;
+    if wide < 4294967295 {
+        wide as u32
+    } else {
+        4294967295
+    }
 }
 
 // The decimal number that begins at a place.
@@ -65,6 +71,42 @@ pub(crate) fn decimal(line: &[u8], at: usize) -> u32 {
         }
     }
     n
+}
+
+// Whether a byte is a digit of a decimal or a hexadecimal number.
+fn in_number(b: u8) -> bool {
+    is_digit(b) | (97 <= b)
+}
+
+// The place behind the number at a place and the byte that ends it.
+pub(crate) fn behind(line: &[u8], at: usize) -> usize
+    ensures { λ r. ⌜ r ≤ length (now (line .entry)) ⌝ }
+{
+    let mut i = at;
+    while i < line.len() {
+        let inside = in_number(line[i]);
+        i += 1;
+        if !inside {
+            return i;
+        }
+    }
+    line.len()
+}
+
+// A number that fits a byte, or the greatest that does.
+pub(crate) fn small(n: u32) -> u8 {
+    if n < 255 { n as u8 } else { 255 }
+}
+
+// How many letters field 0 has: `-` stands for none.
+pub(crate) fn letter_count(line: &[u8]) -> usize
+    ensures { λ r. ⌜ r ≤ length (now (line .entry)) ⌝ }
+{
+    if records::byte_at(line, 0) == 45 {
+        return 0;
+    }
+    let next = field(line, 1);
+    if 0 < next { next - 1 } else { 0 }
 }
 
 // What a hexadecimal digit stands for.
@@ -84,6 +126,29 @@ pub(crate) fn hex(line: &[u8], at: usize) -> u32
         let d = nibble(records::byte_at(line, at + k));
         n = (n % 268435456) * 16 + d as u32;
         k += 1;
+    }
+    n
+}
+
+// The byte of two hexadecimal digits.
+pub(crate) fn from_hex(high: u8, low: u8) -> u8 {
+    nibble(high) * 16 + nibble(low)
+}
+
+// The bytes that a field holds in hexadecimal, at the front of out: how many there are.
+pub(crate) fn unhex(line: &[u8], out: &mut [u8]) -> usize
+    ensures { λ r. ⌜ Counts r (now (out .exit)) ⌝ }
+{
+    let mut n: usize = 0;
+    while n < out.len() {
+        let at = 2 * n;
+        let high = records::byte_at(line, at);
+        if high < 48 {
+            return n;
+        }
+        let low = records::byte_at(line, at + 1);
+        out[n] = from_hex(high, low);
+        n += 1;
     }
     n
 }

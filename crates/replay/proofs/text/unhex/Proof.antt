@@ -5,8 +5,8 @@ use lib.ListN.{length, length-set}
 use lib.Seq.{length-take-le}
 use mathlib.Core.Path.{_≡_, sym}
 use native.Mathlib.Omega.{arith}
-use Rattle.replay.proofs.rules.unhex.Statement.{statement}
-use Rattle.replay.proofs.rules.unhex.Tie as tie
+use Rattle.replay.proofs.text.unhex.Statement.{statement}
+use Rattle.replay.proofs.text.unhex.Tie as tie
 
 abbrev Inv-loop : tie.InvT-loop
 Inv-loop line out₀ n₀ out n = (n ≤ length out) × (length out ≡ length out₀)
@@ -37,17 +37,8 @@ add-byte-at c = search needs
 byte-at-requires-2 : tie.Need-byte-at-requires-2 Inv-loop μ-loop
 byte-at-requires-2 c κs = search needs
 
-nibble-requires : tie.Need-nibble-requires Inv-loop μ-loop
-nibble-requires c κs = search needs
-
-mul-out : tie.Need-mul-out Inv-loop μ-loop
-mul-out c = search needs
-
-nibble-requires-2 : tie.Need-nibble-requires-2 Inv-loop μ-loop
-nibble-requires-2 c κs = search needs
-
-add-out : tie.Need-add-out Inv-loop μ-loop
-add-out c = search needs
+from-hex-requires : tie.Need-from-hex-requires Inv-loop μ-loop
+from-hex-requires c κs = search needs
 
 slice-write-out : tie.Need-slice-write-out Inv-loop μ-loop
 slice-write-out c = omega arith
@@ -82,10 +73,7 @@ unhex-spec =
     returns
     add-byte-at
     byte-at-requires-2
-    nibble-requires
-    mul-out
-    nibble-requires-2
-    add-out
+    from-hex-requires
     slice-write-out
     add-n
     loop-less

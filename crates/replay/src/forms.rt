@@ -1,0 +1,117 @@
+// Forms. A line is the letters, their ids in hexadecimal, the ids of the ends, the position, the variable and the fixed
+// rules in hexadecimal or `-` for none, the limit, the cap, the number of the Rust's forms, and these in hexadecimal: the
+// ids of the ends, then of the letters.
+use crate::Tally;
+use crate::text::behind;
+use crate::text::decimal;
+use crate::text::field;
+use crate::text::from_hex;
+use crate::text::letter_count;
+use crate::text::line_end;
+use crate::text::small;
+use crate::text::unhex;
+use peptide::Peptide;
+use records::Counted;
+use records::byte_at;
+use records::put_byte;
+ghost use mathlib.Core.Path.{_≡_};
+ghost use Prim.Native.Nat.{_≤_, _<_};
+ghost use lib.ListN.{length};
+
+// The ids that the peptide begins with.
+fn read_form(line: &[u8], form: &mut [u8])
+    requires { ⌜ length (now form) ≡ 66 ⌝ }
+{
+    let ids = field(line, 1);
+    unhex(&line[ids..], &mut form[2..66]);
+    put_byte(form, 0, small(decimal(line, field(line, 2))));
+    put_byte(form, 1, small(decimal(line, field(line, 3))));
+}
+
+fn peptide_of(line: &[u8]) -> Peptide {
+    let mut form = [0u8; 66];
+    read_form(line, &mut form);
+    let position = small(decimal(line, field(line, 4)));
+    let n = letter_count(line);
+    Peptide::of_form(&line[0..n], &form, position, false)
+}
+
+// The library's forms.
+fn answer_of(line: &[u8], out: &mut [u8]) -> Counted {
+    let p = peptide_of(line);
+    let mut variable = [0u8; 128];
+    let from_variable = field(line, 5);
+    let v = unhex(&line[from_variable..], &mut variable);
+    let mut fixed = [0u8; 256];
+    let from_fixed = field(line, 6);
+    let f = unhex(&line[from_fixed..], &mut fixed);
+    let limit = decimal(line, field(line, 7));
+    let cap = decimal(line, field(line, 8));
+    p.forms(&variable[..v], &fixed[..f], limit, cap, out)
+}
+
+// How many bytes of a form a line has: the ends', and one for each letter.
+fn size_of(line: &[u8]) -> usize
+    ensures { λ r. ⌜ r ≤ 66 ⌝ }
+{
+    let n = letter_count(line);
+    if n < 64 { n + 2 } else { 66 }
+}
+
+// Whether byte i of record k is that of the form at a place of a line.
+fn has_byte(line: &[u8], at: usize, out: &[u8], k: u32, i: usize) -> bool
+    requires { ⌜ (at ≤ length (now line)) × (i < 66) ⌝ }
+{
+    let high = byte_at(line, at + 2 * i);
+    let low = byte_at(line, at + 2 * i + 1);
+    from_hex(high, low) == byte_at(out, 66 * k as usize + i)
+}
+
+// Whether record k is the form at a place of a line.
+fn has_form(line: &[u8], at: usize, out: &[u8], k: u32) -> bool
+    requires { ⌜ at ≤ length (now line) ⌝ }
+{
+    let size = size_of(line);
+    let mut same = true;
+    let mut i = 0;
+    while i < size {
+        same = same & has_byte(line, at, out, k, i);
+        i += 1;
+    }
+    same
+}
+
+// Whether the first count records are the Rust's forms.
+fn are_forms(line: &[u8], out: &[u8], count: u32) -> bool {
+    let mut same = decimal(line, field(line, 9)) == count;
+    let mut at = field(line, 10);
+    let mut k: u32 = 0;
+    while k < count {
+        same = same & has_form(line, at, out, k);
+        at = behind(line, at);
+        k += 1;
+    }
+    same
+}
+
+// Whether the library answers a line as the Rust did.
+fn agrees(line: &[u8], out: &mut [u8]) -> bool {
+    match answer_of(line, out) {
+        Counted::Count(count) => are_forms(line, out, count),
+        Counted::Refused(_) => false,
+    }
+}
+
+// The output is lent; what it holds does not matter.
+pub(crate) fn replay(s: &[u8], out: &mut [u8]) -> Tally {
+    let mut tally = Tally::none();
+    let mut at = 0;
+    let mut number: u32 = 1;
+    while at < s.len() {
+        let end = line_end(s, at);
+        tally = tally.with(agrees(&s[at..end], out), number);
+        number = crate::more(number);
+        at = end + 1;
+    }
+    tally
+}
