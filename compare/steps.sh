@@ -1,9 +1,9 @@
-# The steps that run and planted share. All products stand in target/compare of the repository.
+# The steps that run, planted and bench/run share. Their products stand in target/compare of the repository.
 compare=$(dirname "$(realpath "${BASH_SOURCE[0]}")")
 root=$(dirname "$compare")
 products=$root/target/compare
 
-die() { echo "compare/$(basename "$0"): $*" >&2; exit 1; }
+die() { echo "$(basename "$(dirname "$(realpath "$0")")")/$(basename "$0"): $*" >&2; exit 1; }
 
 # need COMMAND WHY
 need() { command -v "$1" >/dev/null || die "$1 is missing: $2"; }
@@ -30,10 +30,10 @@ build_archive() {
     [ -f "$archive/libsendumaal.a" ] || die "$archive holds no libsendumaal.a"
 }
 
-# build_oracle SAGE_SRC: the original Rust as a program, its path in ORACLE
+# build_oracle SAGE_SRC: the original Rust as two programs, their paths in ORACLE and ORACLE_ALT
 build_oracle() {
     "$compare/oracle/setup" "$1" "$products/oracle" || exit 1
-    export ORACLE=$products/oracle/oracle
+    export ORACLE=$products/oracle/oracle ORACLE_ALT=$products/oracle/oracle-alt
 }
 
 # build_compare FOLDER NAME: target/compare/NAME, linked to the archive in FOLDER

@@ -3,6 +3,7 @@
 /// The numbers of document 01.
 pub const SIZE: u32 = 1;
 pub const LETTER: u32 = 2;
+pub const ALPHABET: u32 = 3;
 pub const EMPTY_TEXT: u32 = 4;
 pub const OUTSIDE: u32 = 5;
 pub const LONG_TEXT: u32 = 6;

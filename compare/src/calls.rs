@@ -1,20 +1,34 @@
 //! The library's functions as safe ones: each call is guarded, and what it did to memory is checked.
+pub mod peptides;
+
 use crate::answer::{Answer, Checked, Fault, Filled};
+use crate::digest::model::{Call, Enzyme};
 use crate::ffi;
-use crate::guard::{answer, Lent, May, Memory};
+use crate::guard::{answer, Element, Lent, May, Memory};
 use crate::model::{Record, Rule};
 use std::fmt::Debug;
 
-/// An empty slice may have any pointer: where one is lent, the call is made again with a null one, to the same end.
-fn lend<T: PartialEq + Debug>(contents: &[u8], call: impl Fn(Lent<u8>) -> Checked<T>) -> Checked<T> {
-    let first = call(Lent::new(contents))?;
-    if contents.is_empty() {
-        let second = call(Lent::null())?;
+/// An empty slice may have any pointer: where some are lent, the call is made again with null ones, to the same end.
+fn lend_all<E: Element, T: PartialEq + Debug, const N: usize>(
+    contents: [&[E]; N],
+    call: impl Fn([Lent<E>; N]) -> Checked<T>,
+) -> Checked<T> {
+    let first = call(contents.map(Lent::new))?;
+    if contents.iter().any(|slice| slice.is_empty()) {
+        let second =
+            call(contents.map(|slice| if slice.is_empty() { Lent::null() } else { Lent::new(slice) }))?;
         if second != first {
             return Err(Fault(format!("{first:?}, but {second:?} with a null pointer")));
         }
     }
     Ok(first)
+}
+
+fn lend<E: Element, T: PartialEq + Debug>(
+    contents: &[E],
+    call: impl Fn(Lent<E>) -> Checked<T>,
+) -> Checked<T> {
+    lend_all([contents], |[slice]| call(slice))
 }
 
 pub fn set_insert(set: u32, letter: u8) -> u32 {
@@ -124,5 +138,75 @@ pub fn modification_id(table: &[u8], count: u32, mass_bits: u32, name: u32) -> C
         };
         let said = answer(number, &place, &[("table", &table, May::Fill), ("id", &id, May::Answer)])?;
         Ok(Filled { answer: said.map(|()| id.value()), buffer: table.contents().to_vec() })
+    })
+}
+
+/// The answer is the number of records.
+pub fn digest(call: &Call, out: &[u8]) -> Checked<Filled<u32>> {
+    let Enzyme { kind, cleave, skip, side, semi, missed, minimum, maximum } = call.enzyme;
+    let (alphabet, protein) = (call.alphabet, call.protein);
+    lend(&call.letters, |mut letters| {
+        let (first, many) = (letters.pointer(), letters.len());
+        lend(out, |mut out| {
+            let (mut count, mut place) = (Lent::result(), Lent::result());
+            let (pointer, len) = (out.pointer(), out.len());
+            #[rustfmt::skip]
+            let number = unsafe {
+                ffi::sendumaal_digest(
+                    first, many, alphabet, kind, cleave, skip, side, semi, missed, minimum, maximum, protein,
+                    pointer, len, count.pointer(), place.pointer(),
+                )
+            };
+            let lent: [(&str, &dyn Memory, May); 3] =
+                [("letters", &letters, May::Read), ("out", &out, May::Fill), ("count", &count, May::Answer)];
+            let said = answer(number, &place, &lent)?;
+            Ok(Filled { answer: said.map(|()| count.value()), buffer: out.contents().to_vec() })
+        })
+    })
+}
+
+/// A function that changes a slice in place.
+type Change = unsafe extern "C" fn(*mut u8, usize, *mut usize) -> u32;
+
+fn change(function: Change, contents: &[u8]) -> Checked<Filled<()>> {
+    lend(contents, |mut slice| {
+        let mut place = Lent::result();
+        let number = unsafe { function(slice.pointer(), slice.len(), place.pointer()) };
+        let said = answer(number, &place, &[("the slice", &slice, May::Answer)])?;
+        Ok(Filled { answer: said, buffer: slice.contents().to_vec() })
+    })
+}
+
+pub fn letters_reverse(letters: &[u8]) -> Checked<Filled<()>> {
+    change(ffi::sendumaal_letters_reverse, letters)
+}
+
+pub fn digest_reverse(record: &[u8]) -> Checked<Filled<()>> {
+    change(ffi::sendumaal_digest_reverse, record)
+}
+
+/// The answer is the number of letters.
+pub fn digest_letters(letters: &[u8], record: &[u8], out: &[u8]) -> Checked<Filled<u32>> {
+    lend(letters, |mut letters| {
+        let (first, many) = (letters.pointer(), letters.len());
+        lend(record, |mut record| {
+            let (bytes, size) = (record.pointer(), record.len());
+            lend(out, |mut out| {
+                let (mut count, mut place) = (Lent::result(), Lent::result());
+                let (pointer, len) = (out.pointer(), out.len());
+                let number = unsafe {
+                    let (count, place) = (count.pointer(), place.pointer());
+                    ffi::sendumaal_digest_letters(first, many, bytes, size, pointer, len, count, place)
+                };
+                let lent: [(&str, &dyn Memory, May); 4] = [
+                    ("letters", &letters, May::Read),
+                    ("record", &record, May::Read),
+                    ("out", &out, May::Fill),
+                    ("count", &count, May::Answer),
+                ];
+                let said = answer(number, &place, &lent)?;
+                Ok(Filled { answer: said.map(|()| count.value()), buffer: out.contents().to_vec() })
+            })
+        })
     })
 }

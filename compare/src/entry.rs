@@ -6,6 +6,8 @@ use std::fmt::{self, Debug, Display};
 
 pub struct Context {
     pub oracle: Oracle,
+    /// Its masses can be set.
+    pub oracle_alt: Oracle,
     pub seed: u64,
 }
 

@@ -51,4 +51,80 @@ extern "C" {
         id: *mut u32,
         place: *mut usize,
     ) -> u32;
+
+    pub fn sendumaal_digest(
+        letters: *const u8,
+        letters_len: usize,
+        alphabet: u32,
+        kind: u32,
+        cleave: u32,
+        skip: u32,
+        side: u32,
+        semi: u32,
+        missed: u32,
+        minimum: u32,
+        maximum: u32,
+        protein: u32,
+        out: *mut u8,
+        out_len: usize,
+        count: *mut u32,
+        place: *mut usize,
+    ) -> u32;
+    pub fn sendumaal_letters_reverse(letters: *mut u8, letters_len: usize, place: *mut usize) -> u32;
+    pub fn sendumaal_digest_reverse(record: *mut u8, record_len: usize, place: *mut usize) -> u32;
+    pub fn sendumaal_digest_letters(
+        letters: *const u8,
+        letters_len: usize,
+        record: *const u8,
+        record_len: usize,
+        out: *mut u8,
+        out_len: usize,
+        count: *mut u32,
+        place: *mut usize,
+    ) -> u32;
+
+    pub fn sendumaal_base_mass(
+        letters: *const u8,
+        letters_len: usize,
+        masses: *const f32,
+        masses_len: usize,
+        water: f32,
+        mass: *mut f32,
+        place: *mut usize,
+    ) -> u32;
+    pub fn sendumaal_peptide_test(
+        letters: *const u8,
+        letters_len: usize,
+        masses: *const f32,
+        masses_len: usize,
+        position: u8,
+        place: *mut usize,
+    ) -> u32;
+    pub fn sendumaal_peptide_reverse(
+        letters: *mut u8,
+        letters_len: usize,
+        ids: *mut u8,
+        ids_len: usize,
+        decoy: *mut u32,
+        place: *mut usize,
+    ) -> u32;
+    pub fn sendumaal_forms(
+        letters: *const u8,
+        letters_len: usize,
+        ids: *const u8,
+        ids_len: usize,
+        nterm: u8,
+        cterm: u8,
+        position: u8,
+        variable: *const u8,
+        variable_len: usize,
+        fixed: *const u8,
+        fixed_len: usize,
+        limit: u32,
+        cap: u32,
+        out: *mut u8,
+        out_len: usize,
+        count: *mut u32,
+        place: *mut usize,
+    ) -> u32;
 }

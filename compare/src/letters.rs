@@ -30,7 +30,7 @@ fn random_letters(rng: &mut Rng, count: usize) -> Vec<u8> {
 }
 
 /// The bytes next to the letters, the ends of the range, and the bytes that a signed or a 7-bit comparison gets wrong.
-const NEAR_LETTERS: [u8; 14] =
+pub const NEAR_LETTERS: [u8; 14] =
     [0, 1, b'@', b'[', b'`', b'a', b'z', b'{', 127, 128, b'A' | 128, b'Z' | 128, 254, 255];
 
 /// Good stretches, and ones with a bad byte at one place and bytes of all kinds behind it.

@@ -1,57 +1,146 @@
 //! Runs the same cases through the original Rust and through the proved library, and says how often they differ.
 //!
-//! `compare [SEED]` prints a line for each entry and fails if there is a difference; `compare vectors FOLDER` writes a
-//! sample of the original's answers. ORACLE is the program that oracle/setup has built. `run` does it all.
+//! `compare [SEED]` prints a line for each entry and fails if there is a difference; `compare until SUBJECT` does so for
+//! the entries of one subject up to the first that differs; `compare vectors FOLDER` writes a sample of the original's
+//! answers. ORACLE and ORACLE_ALT are the programs that oracle/setup has built. `run` does it all.
 mod answer;
 mod calls;
+mod digest;
 mod entry;
 mod ffi;
+mod forms;
 mod guard;
 mod letters;
+mod masses;
 mod model;
 mod oracle;
+mod peptides;
+mod reversal;
 mod rng;
+mod room;
 mod rule_records;
 mod rule_texts;
 mod table;
 mod vectors;
 
 use entry::{Context, Entry};
+use oracle::Oracle;
 use std::process::ExitCode;
 
-/// A new entry is a module with functions of this type, each with its line here.
-const ENTRIES: &[Entry] = &[
-    letters::set_operations,
-    letters::first_bad_byte,
-    rule_texts::parse,
-    rule_texts::parse_alphabets,
-    rule_texts::write,
-    rule_texts::write_fields,
-    rule_texts::text_round_trip,
-    rule_texts::rule_round_trip,
-    rule_texts::model_parse,
-    rule_records::variable_test,
-    rule_records::fixed_test,
-    rule_records::read,
-    rule_records::write,
-    table::insertions,
-    table::single_calls,
-    table::model_insertions,
+/// The entries by subject. A new entry is a function of this type, with its line here; quick ones stand first.
+const SUBJECTS: &[(&str, &[Entry])] = &[
+    ("letters", &[letters::set_operations, letters::first_bad_byte]),
+    (
+        "rule texts",
+        &[
+            rule_texts::parse,
+            rule_texts::parse_alphabets,
+            rule_texts::write,
+            rule_texts::write_fields,
+            rule_texts::text_round_trip,
+            rule_texts::rule_round_trip,
+            rule_texts::model_parse,
+        ],
+    ),
+    (
+        "rule records",
+        &[rule_records::variable_test, rule_records::fixed_test, rule_records::read, rule_records::write],
+    ),
+    ("table", &[table::insertions, table::single_calls, table::model_insertions]),
+    (
+        "reversal",
+        &[
+            reversal::of_letters,
+            reversal::of_records,
+            reversal::beyond_the_rust,
+            reversal::any_letters,
+            reversal::any_record,
+            reversal::any_digest_letters,
+            reversal::model_letters,
+        ],
+    ),
+    (
+        "digest",
+        &[
+            digest::ranges,
+            digest::refusals::any_call,
+            digest::beyond::beyond_the_rust,
+            digest::small_proteins,
+            digest::random_proteins,
+            digest::repetitive_proteins,
+            digest::long_proteins,
+            digest::model_sites,
+            digest::model_digests,
+        ],
+    ),
+    (
+        "masses",
+        &[
+            masses::any_call,
+            masses::rust_table,
+            masses::any_table,
+            masses::beyond_the_rust,
+            masses::model_sums,
+        ],
+    ),
+    (
+        "peptides",
+        &[
+            peptides::any_test,
+            peptides::any_reversal,
+            peptides::reversal,
+            peptides::beyond_the_rust,
+            peptides::model_reversal,
+        ],
+    ),
+    (
+        "forms",
+        &[
+            forms::examples,
+            forms::refusals::any_call,
+            forms::beyond::beyond_the_rust,
+            forms::beyond::rules_without_use,
+            forms::small_peptides,
+            forms::random_peptides,
+            forms::long_peptides,
+            forms::model_forms,
+            forms::beyond::longest_lists,
+        ],
+    ),
 ];
 
 const SEED: u64 = 1;
 
+fn verdict(differences: u64) -> ExitCode {
+    ExitCode::from(u8::from(differences > 0))
+}
+
 fn compare(context: &Context) -> ExitCode {
     println!("seed {}", context.seed);
     let (mut cases, mut differences) = (0, 0);
-    for entry in ENTRIES {
+    for entry in SUBJECTS.iter().flat_map(|(_, entries)| *entries) {
         let tally = entry(context);
         println!("{tally}");
         cases += tally.cases;
         differences += tally.differences;
     }
     println!("{cases} cases, {differences} differences");
-    ExitCode::from(u8::from(differences > 0))
+    verdict(differences)
+}
+
+/// The line of the entry that differs is the last.
+fn compare_until(context: &Context, subject: &str) -> ExitCode {
+    let Some((_, entries)) = SUBJECTS.iter().find(|(name, _)| *name == subject) else {
+        return complain(&format!("there is no subject {subject}"));
+    };
+    for entry in *entries {
+        let tally = entry(context);
+        println!("{tally}");
+        if tally.differences > 0 {
+            return verdict(tally.differences);
+        }
+    }
+    verdict(0)
 }
 
 fn write_vectors(context: &Context, folder: &str) -> ExitCode {
@@ -66,20 +155,25 @@ fn complain(what: &str) -> ExitCode {
     ExitCode::from(2)
 }
 
+fn program(variable: &str) -> Option<Oracle> {
+    std::env::var(variable).ok().map(Oracle::new)
+}
+
 fn main() -> ExitCode {
-    let Ok(program) = std::env::var("ORACLE") else {
-        return complain("ORACLE does not name the program that oracle/setup has built");
+    let (Some(oracle), Some(oracle_alt)) = (program("ORACLE"), program("ORACLE_ALT")) else {
+        return complain("ORACLE and ORACLE_ALT do not name the programs that oracle/setup has built");
     };
-    let context = |seed| Context { oracle: oracle::Oracle::new(program), seed };
+    let context = |seed| Context { oracle, oracle_alt, seed };
     let words: Vec<String> = std::env::args().skip(1).collect();
     let words: Vec<&str> = words.iter().map(String::as_str).collect();
     match words[..] {
         [] => compare(&context(SEED)),
+        ["until", subject] => compare_until(&context(SEED), subject),
         ["vectors", folder] => write_vectors(&context(SEED), folder),
         [seed] => match seed.parse() {
             Ok(seed) => compare(&context(seed)),
             Err(_) => complain("the seed is a number"),
         },
-        _ => complain("[SEED], or: vectors FOLDER"),
+        _ => complain("[SEED], or: until SUBJECT, or: vectors FOLDER"),
     }
 }

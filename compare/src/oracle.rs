@@ -48,12 +48,30 @@ fn write_lines(pipe: impl Write, lines: &[String]) -> io::Result<()> {
     pipe.flush()
 }
 
+/// So many cases are asked about at a time: the answers to all would fill the memory.
+const AT_ONCE: usize = 5000;
+
+pub fn in_batches<T>(mut cases: impl Iterator<Item = T>, mut each: impl FnMut(&[T])) {
+    loop {
+        let batch: Vec<T> = cases.by_ref().take(AT_ONCE).collect();
+        match batch.is_empty() {
+            true => return,
+            false => each(&batch),
+        }
+    }
+}
+
+/// A text as a field of a line.
+pub fn or_dash(text: String) -> String {
+    match text.is_empty() {
+        true => "-".into(),
+        false => text,
+    }
+}
+
 /// Bytes as a field of a line.
 pub fn hex(bytes: &[u8]) -> String {
-    match bytes.is_empty() {
-        true => "-".into(),
-        false => bytes.iter().map(|byte| format!("{byte:02x}")).collect(),
-    }
+    or_dash(bytes.iter().map(|byte| format!("{byte:02x}")).collect())
 }
 
 pub fn unhex(field: &str) -> Vec<u8> {

@@ -18,7 +18,7 @@ fn good_record(rng: &mut Rng, fixed: bool) -> [u8; RECORD] {
 }
 
 /// Another value in one byte of a record, most often one at an end of what the field takes.
-fn damage(rng: &mut Rng, record: &mut [u8]) {
+pub fn damage(rng: &mut Rng, record: &mut [u8]) {
     let value = rng.pick(&[0, 1, 4, 5, b'@', b'A', b'Z', b'[', b'a', 127, 128, 254, 255]);
     let value = if rng.once_in(4) { rng.byte() } else { value };
     record[rng.below(RECORD)] = value;

@@ -2,7 +2,13 @@
 //!
 //! rules.txt: the text in hexadecimal (`-` if empty), the number of the answer, its place, kind and letter (0 unless
 //! accepted). table.txt: `N` starts an empty table, `I` inserts: the mass's bit pattern and the name's number in
-//! hexadecimal, and the id, 0 where the table is full.
+//! hexadecimal, and the id, 0 where the table is full. digest.txt: the letters (`-` if none), kind, cleave set and skip
+//! set in hexadecimal, side, semi, missed, minimum, maximum as the header numbers them, the number of digests, and each as
+//! `start.end.missed.semi.position`, divided by `;` (`-` if none); the alphabet is all letters. masses.txt: letters, and the
+//! bit pattern of their base mass in hexadecimal, by the original's own masses. forms.txt: the letters, their ids in
+//! hexadecimal, the ids of the two ends, the position, the variable rules, then the fixed ones in hexadecimal (`-` if none),
+//! the combination limit, the cap (4294967295 if none), the number of forms, and each in hexadecimal as the ids of the two
+//! ends and of the letters, divided by `;`.
 use crate::answer::Answer;
 use crate::entry::Context;
 use crate::model::{Modification, Rule, MARKS};
@@ -10,7 +16,7 @@ use crate::oracle::hex;
 use crate::rng::Rng;
 use crate::rule_texts::cases::{accepted_texts, distinct, near_miss};
 use crate::table::cases::{filling, from_pool, special};
-use crate::{rule_texts, table};
+use crate::{digest, forms, masses, rule_texts, table};
 use std::{fs, io, path::Path};
 
 /// About so many lines in each file.
@@ -19,7 +25,10 @@ const LINES: usize = 1500;
 pub fn write(context: &Context, folder: &Path) -> io::Result<()> {
     fs::create_dir_all(folder)?;
     fs::write(folder.join("rules.txt"), rules(context))?;
-    fs::write(folder.join("table.txt"), tables(context))
+    fs::write(folder.join("table.txt"), tables(context))?;
+    fs::write(folder.join("digest.txt"), digest::vectors::lines(context))?;
+    fs::write(folder.join("masses.txt"), masses::vectors::lines(context))?;
+    fs::write(folder.join("forms.txt"), forms::vectors::lines(context))
 }
 
 fn random_text(rng: &mut Rng, accepted: &[Vec<u8>]) -> Vec<u8> {

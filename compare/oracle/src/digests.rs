@@ -1,10 +1,12 @@
 //! SITES, DIGEST, GROUPD and REVD: enzyme.rs.
 use crate::fields::*;
 use oracle::enzyme::{group_digests, probe, Digest, DigestGroup, Enzyme, EnzymeParameters};
+use std::cell::RefCell;
+use std::rc::Rc;
 use std::sync::Arc;
 
 /// The enzyme's fields: kind, cleave, skip, side, semi, missed, min, max.
-fn parameters(f: &[&str]) -> EnzymeParameters {
+fn read_parameters(f: &[&str]) -> EnzymeParameters {
     let cleave = match f[0] {
         "none" => "",
         "end" => "$",
@@ -16,6 +18,20 @@ fn parameters(f: &[&str]) -> EnzymeParameters {
         max_len: number(f[7]),
         enzyme: Enzyme::new(cleave, text(f[2]), f[3] == "C", flag(f[4])),
     }
+}
+
+/// The parameters of the fields. Those of the line before are kept: making a regular expression takes longer than most
+/// digestions.
+fn parameters(f: &[&str]) -> Rc<EnzymeParameters> {
+    thread_local!(static LAST: RefCell<Option<(String, Rc<EnzymeParameters>)>> = const { RefCell::new(None) });
+    let fields = f.join("\t");
+    let known = |(last, parameters): &(String, Rc<_>)| (*last == fields).then(|| Rc::clone(parameters));
+    if let Some(parameters) = LAST.with_borrow(|last| last.as_ref().and_then(known)) {
+        return parameters;
+    }
+    let parameters = Rc::new(read_parameters(f));
+    LAST.set(Some((fields, Rc::clone(&parameters))));
+    parameters
 }
 
 pub fn sites(f: &[&str]) -> String {

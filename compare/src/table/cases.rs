@@ -3,7 +3,7 @@ use crate::model::{Modification, NO_NAME, RECORD};
 use crate::rng::Rng;
 
 /// Zeros, not-a-numbers of both signs, quiet and signalling, infinities, subnormals and the numbers at their ends.
-const SPECIAL_MASSES: [u32; 20] = [
+pub const SPECIAL_MASSES: [u32; 20] = [
     0x0000_0000,
     0x8000_0000,
     0x7fc0_0000,

@@ -1,0 +1,163 @@
+//! Cutting a protein: against the original as far as it shows its digests, and byte for byte against the model.
+pub mod beyond;
+pub mod cases;
+pub mod model;
+pub mod refusals;
+pub mod said;
+pub mod vectors;
+
+use crate::answer::*;
+use crate::calls;
+use crate::entry::{Against, Context, Tally};
+use crate::oracle::in_batches;
+use crate::rng::Rng;
+use crate::room;
+use cases::*;
+use model::{Call, DIGEST};
+use said::{ask_digests, ask_sites, read_digests, read_sites, Seen};
+
+/// What can be told of a call where ranges are not known.
+#[derive(Debug, PartialEq)]
+struct Outcome<'a> {
+    answer: Answer<u32>,
+    digests: Vec<Seen<'a>>,
+    /// The bytes behind the records.
+    rest: Vec<u8>,
+}
+
+impl<'a> Outcome<'a> {
+    fn ours(call: &'a Call, out: &[u8]) -> Checked<Outcome<'a>> {
+        let Filled { answer, buffer } = calls::digest(call, out)?;
+        let records = match answer {
+            Ok(count) => count as usize,
+            Err(Refusal { number: NO_ROOM, .. }) => model::room(out),
+            Err(_) => 0,
+        };
+        let wrong = || Fault(format!("it wrote {records} records"));
+        let (records, rest) = buffer.split_at_checked(records * DIGEST).ok_or_else(wrong)?;
+        Ok(Outcome { answer, digests: Seen::all(records, &call.letters)?, rest: rest.to_vec() })
+    }
+
+    /// That all of these stand in the buffer, or those that fit.
+    fn wanted(all: &[Seen<'a>], out: &[u8]) -> Outcome<'a> {
+        let fitting = all.len().min(model::room(out));
+        let answer = if fitting < all.len() { refuse(NO_ROOM, 0) } else { Ok(all.len() as u32) };
+        Outcome { answer, digests: all[..fitting].to_vec(), rest: out[fitting * DIGEST..].to_vec() }
+    }
+}
+
+/// Takes off what two lists have in common at their fronts, and what is more than can be read.
+fn narrow<T: PartialEq>(ours: &mut Vec<T>, wanted: &mut Vec<T>) {
+    let common = ours.iter().zip(wanted.iter()).take_while(|(ours, wanted)| ours == wanted).count();
+    for list in [ours, wanted] {
+        list.drain(..common);
+        list.truncate(4);
+    }
+}
+
+/// Holds one call against the digests that the original has.
+fn hold(tally: &mut Tally, call: &Call, all: &[Seen<'_>], out: &[u8]) {
+    let mut wanted = Outcome::wanted(all, out);
+    let mut ours = Outcome::ours(call, out);
+    if let Ok(ours) = &mut ours {
+        narrow(&mut ours.digests, &mut wanted.digests);
+        narrow(&mut ours.rest, &mut wanted.rest);
+    }
+    tally.case(&(call, out.len()), &ours, &wanted);
+}
+
+/// Holds a call with room and, once in four times, one without enough.
+fn hold_with_rooms(tally: &mut Tally, rng: &mut Rng, call: &Call, all: &[Seen<'_>]) {
+    let len = room::enough(rng, all.len(), DIGEST);
+    let out = rng.bytes(len);
+    hold(tally, call, all, &out);
+    if !all.is_empty() && rng.once_in(4) {
+        let len = room::short(rng, all.len(), DIGEST);
+        hold(tally, call, all, &out[..len]);
+    }
+}
+
+fn against_rust(tally: &mut Tally, context: &Context, calls: impl Iterator<Item = Call>) {
+    let rooms = &mut context.rng("digest, rooms");
+    in_batches(calls, |batch| {
+        for (call, answer) in batch.iter().zip(ask_digests(&context.oracle, batch)) {
+            hold_with_rooms(tally, rooms, call, &read_digests(&answer, call.protein));
+        }
+    });
+}
+
+pub fn small_proteins(context: &Context) -> Tally {
+    let mut tally = Tally::new("digest: all small proteins", Against::Rust);
+    let rng = &mut context.rng("small proteins");
+    let enzymes = small_enzymes(rng);
+    against_rust(&mut tally, context, crossed(rng, &enzymes, &all_proteins(SMALL_LETTERS, 7)));
+    against_rust(&mut tally, context, crossed(rng, &few_enzymes(), &all_proteins(SMALL_LETTERS, 9)));
+    tally
+}
+
+pub fn random_proteins(context: &Context) -> Tally {
+    let mut tally = Tally::new("digest: random proteins", Against::Rust);
+    against_rust(&mut tally, context, random_calls(&mut context.rng("random proteins"), 8000, 40));
+    tally
+}
+
+pub fn repetitive_proteins(context: &Context) -> Tally {
+    let mut tally = Tally::new("digest: repetitive proteins", Against::Rust);
+    for calls in repetitive_calls(&mut context.rng("repetitive proteins")).chunks(100) {
+        against_rust(&mut tally, context, calls.iter().cloned());
+    }
+    tally
+}
+
+pub fn long_proteins(context: &Context) -> Tally {
+    let mut tally = Tally::new("digest: long proteins", Against::Rust);
+    for call in long_calls(&mut context.rng("long proteins")) {
+        against_rust(&mut tally, context, std::iter::once(call));
+    }
+    tally
+}
+
+/// Calls that the model is quick with.
+fn model_calls(rng: &mut Rng) -> Vec<Call> {
+    let enzymes = small_enzymes(rng);
+    let mut calls: Vec<Call> = crossed(rng, &enzymes, &all_proteins(SMALL_LETTERS, 5)).collect();
+    calls.extend(random_calls(rng, 3000, 20));
+    calls
+}
+
+/// Records byte for byte.
+pub fn ranges(context: &Context) -> Tally {
+    let mut tally = Tally::new("digest: ranges", Against::Model);
+    let rng = &mut context.rng("ranges");
+    for call in model_calls(rng) {
+        let len = room::enough(rng, model::kept(&call.letters, &call.enzyme).len(), DIGEST);
+        let out = rng.bytes(len);
+        tally.case(&(&call, len), &calls::digest(&call, &out), &model::digest(&call, &out));
+    }
+    tally
+}
+
+pub fn model_sites(context: &Context) -> Tally {
+    let mut tally = Tally::new("model: digest, sites", Against::Rust);
+    in_batches(model_calls(&mut context.rng("model of cutting")).into_iter(), |batch| {
+        for (call, answer) in batch.iter().zip(ask_sites(&context.oracle, batch)) {
+            let mut ours = model::sites(&call.letters, &call.enzyme);
+            let mut wanted = read_sites(&answer, call.letters.len());
+            narrow(&mut ours, &mut wanted);
+            tally.case(call, &Ok(ours), &wanted);
+        }
+    });
+    tally
+}
+
+pub fn model_digests(context: &Context) -> Tally {
+    let mut tally = Tally::new("model: digest, what is kept", Against::Rust);
+    in_batches(model_calls(&mut context.rng("model of cutting")).into_iter(), |batch| {
+        for (call, answer) in batch.iter().zip(ask_digests(&context.oracle, batch)) {
+            let wanted = read_digests(&answer, call.protein);
+            let filled = model::digest(call, &vec![0; wanted.len() * DIGEST]);
+            tally.case(call, &Seen::all(&filled.buffer, &call.letters), &wanted);
+        }
+    });
+    tally
+}

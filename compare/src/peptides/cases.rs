@@ -1,0 +1,74 @@
+//! The peptides that are tried.
+use super::model::{Peptide, MOST_LETTERS};
+use crate::letters::NEAR_LETTERS;
+use crate::rng::Rng;
+
+pub fn any_letter(rng: &mut Rng) -> u8 {
+    b'A' + rng.below(26) as u8
+}
+
+pub fn of_len(rng: &mut Rng, len: usize, pool: &[u8]) -> Vec<u8> {
+    (0..len).map(|_| rng.pick(pool)).collect()
+}
+
+/// From 1 to 64, small ones and the ends more often.
+pub fn len(rng: &mut Rng) -> usize {
+    match rng.below(8) {
+        0 => rng.pick(&[1, 2, 3, 4, 63, 64]),
+        1..=4 => 1 + rng.below(12),
+        _ => 1 + rng.below(MOST_LETTERS),
+    }
+}
+
+/// None, some or all are not 0.
+pub fn ids(rng: &mut Rng, len: usize) -> Vec<u8> {
+    let filled = rng.pick(&[0, 0, 1, 4, 8]);
+    (0..len).map(|_| if rng.below(8) < filled { rng.byte() } else { 0 }).collect()
+}
+
+fn peptide(rng: &mut Rng, len: usize) -> Peptide {
+    let letters = (0..len).map(|_| any_letter(rng)).collect();
+    Peptide { letters, ids: ids(rng, len), decoy: rng.below(2) as u32 }
+}
+
+/// Peptides that are no reason for a refusal: every length, and more of the small ones.
+pub fn good(rng: &mut Rng) -> Vec<Peptide> {
+    let mut peptides = Vec::new();
+    for len in 1..=MOST_LETTERS {
+        peptides.extend((0..400).map(|_| peptide(rng, len)));
+    }
+    for _ in 0..20_000 {
+        let len = len(rng);
+        peptides.push(peptide(rng, len));
+    }
+    peptides
+}
+
+/// Those that the original takes and document 01 does not.
+pub fn wrong_sizes(rng: &mut Rng) -> Vec<Peptide> {
+    let lens = [0; 40].into_iter().chain(65..=130);
+    lens.map(|len| peptide(rng, len)).collect()
+}
+
+/// A peptide with the reasons for a refusal of which the choice has the bit.
+pub fn spoiled(rng: &mut Rng, choice: usize) -> Peptide {
+    let len = len(rng);
+    let mut spoiled = peptide(rng, len);
+    if choice & 1 == 1 {
+        let len = rng.pick(&[0, 65, 66, 128, 256, 257, 320]);
+        spoiled = peptide(rng, len);
+    }
+    if choice & 2 == 2 {
+        let len = spoiled.ids.len();
+        let len = rng.pick(&[0, len.saturating_sub(1), len + 1, MOST_LETTERS, len + 256]);
+        spoiled.ids.resize(len, 0);
+    }
+    if choice & 4 == 4 && !spoiled.letters.is_empty() {
+        let place = rng.below(spoiled.letters.len());
+        spoiled.letters[place] = rng.pick(&NEAR_LETTERS);
+    }
+    if choice & 8 == 8 {
+        spoiled.decoy = rng.pick(&[2, 3, 255, 256, 257, 1 << 31, u32::MAX]);
+    }
+    spoiled
+}
