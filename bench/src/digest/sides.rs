@@ -1,0 +1,80 @@
+//! The two sides: each answers how many digests a protein has, after it has made all of them.
+use super::rows::Cutting;
+use crate::ffi::sendumaal_digest;
+use oracle::enzyme::{Digest, Enzyme, EnzymeParameters};
+use std::hint::black_box;
+use std::sync::Arc;
+
+const CLEAVE: &str = "KR";
+const SKIP: &str = "P";
+
+pub struct Rust {
+    parameters: EnzymeParameters,
+    name: Arc<str>,
+}
+
+impl Rust {
+    pub fn new(cutting: &Cutting) -> Rust {
+        let cleave = if cutting.set { CLEAVE } else { "" };
+        let parameters = EnzymeParameters {
+            missed_cleavages: cutting.missed,
+            min_len: cutting.minimum as usize,
+            max_len: cutting.maximum as usize,
+            enzyme: Enzyme::new(cleave, SKIP, true, cutting.semi),
+        };
+        Rust { parameters, name: Arc::from("P") }
+    }
+
+    pub fn digests(&self, protein: &str) -> Vec<Digest> {
+        self.parameters.digest(black_box(protein), self.name.clone())
+    }
+
+    /// The list is freed here: it is part of the time.
+    pub fn count(&self, protein: &str) -> usize {
+        black_box(self.digests(protein)).len()
+    }
+}
+
+const RECORD: usize = 16;
+const MOST_DIGESTS: usize = 1_048_576;
+const ALL_LETTERS: u32 = 0x03ff_ffff;
+
+/// Ours writes into one buffer, which is made once and not cleared between calls.
+pub struct Ours {
+    out: Vec<u8>,
+}
+
+fn set_of(letters: &str) -> u32 {
+    letters.bytes().fold(0, |set, letter| set | 1 << (letter - b'A'))
+}
+
+impl Ours {
+    /// Filled with ones: memory that is only reserved would have to be found in the time of the first call.
+    pub fn new() -> Ours {
+        Ours { out: vec![1; MOST_DIGESTS * RECORD] }
+    }
+
+    pub fn count(&mut self, cutting: &Cutting, protein: &str) -> usize {
+        let (mut count, mut place) = (0, 0);
+        let kind = if cutting.set { 2 } else { 0 };
+        let letters = black_box(protein);
+        #[rustfmt::skip]
+        let number = unsafe {
+            sendumaal_digest(
+                letters.as_ptr(), letters.len(), ALL_LETTERS, kind, set_of(CLEAVE), set_of(SKIP), 0, cutting.semi.into(),
+                cutting.missed.into(), cutting.minimum, cutting.maximum, 1,
+                self.out.as_mut_ptr(), self.out.len(), &mut count, &mut place,
+            )
+        };
+        assert_eq!(number, 0, "ours refuses");
+        black_box(&self.out);
+        count as usize
+    }
+
+    /// The letters of the digests that stand in the buffer.
+    pub fn letters<'a>(&'a self, count: usize, protein: &'a str) -> impl Iterator<Item = &'a str> {
+        let word = |bytes: &[u8]| u32::from_le_bytes(bytes.try_into().expect("four bytes")) as usize;
+        let records = self.out[..count * RECORD].chunks(RECORD);
+        records.map(move |record| &protein[word(&record[..4])..word(&record[4..8])])
+    }
+}

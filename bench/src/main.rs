@@ -1,0 +1,23 @@
+//! Times the original Rust and the proved library on the same proteins and peptides, in turns, and prints tables of both:
+//! `bench digest`, `bench forms`.
+mod clock;
+mod digest;
+#[path = "../../compare/src/ffi.rs"]
+#[allow(dead_code)]
+mod ffi;
+mod forms;
+mod proteins;
+#[path = "../../compare/src/rng.rs"]
+#[allow(dead_code)]
+mod rng;
+mod turns;
+
+const SEED: u64 = 1;
+
+fn main() {
+    match std::env::args().nth(1).as_deref() {
+        Some("digest") => digest::print(),
+        Some("forms") => forms::print(),
+        _ => panic!("digest or forms"),
+    }
+}
