@@ -3,7 +3,7 @@
 use Prim.Native.Nat.{ℕ, _-_}
 use mathlib.Core.Path.{_≡_}
 use mathlib.Core.Bool.{Bool, cond, _&&_, _||_}
-use mathlib.Core.List.{List, [], _∷_, _++_, reverse}
+use mathlib.Core.List.{List, [], _∷_}
 use lib.ListN.{length, take, drop, getD, set}
 use lib.Dec.{ltb, leb, eqb}
 use Rattle.records.specs.declared.refusal.Refusal.the-variants.{Size, Letter, Length, Field, Room}
@@ -13,13 +13,9 @@ use Rattle.records.specs.Le.{numberAt}
 use Rattle.records.specs.Outcome.{Outcome, outcome, unlessRefused, only}
 use Rattle.records.specs.Room.{fits, fitted, bytewise}
 use Rattle.letters.specs.Letters.{firstBad}
+use Rattle.letters.specs.Reversal.{reversed, lettersOf}
 use Rattle.records.specs.declared.refusal.Counted.{Counted}
 use Rattle.records.specs.declared.refusal.Counted.the-variants.{Count, Refused as No}
-
--- all but first and last reversed
-abbrev pub reversed : List ℕ → List ℕ
-reversed [] = []
-reversed (b ∷ bs) = let k = length bs - 1 in b ∷ (reverse (take k bs) ++ drop k bs)
 
 -- ---- of letters
 
@@ -47,9 +43,6 @@ abbrev pub reverseRecordOutcome : List ℕ → Outcome Checked
 reverseRecordOutcome r = unlessRefused (recordTested r) Refused (r ∷ []) (outcome Passed (set r 11 1 ∷ []))
 
 -- ---- the letters of a record
-
-abbrev pub lettersOf : Bool → List ℕ → List ℕ
-lettersOf decoy part = cond decoy (reversed part) part
 
 abbrev pub rangeLetters : List ℕ → ℕ → ℕ → List ℕ
 rangeLetters s start end = take (end - start) (drop start s)

@@ -1,97 +1,21 @@
 -- Laws of reversal. Assumes nothing.
-use Prim.Native.Nat.{ℕ, zero, suc, _+_, _-_, _≤_, _<_}
-use mathlib.Core.Path.{_≡_, refl, sym, ap, _∙_, subst}
+use Prim.Native.Nat.{ℕ, _+_, _-_, _≤_, _<_}
+use mathlib.Core.Path.{_≡_, refl, sym, ap, _∙_}
 use mathlib.Core.Bool.{Bool, true, false, cond, _||_}
 use mathlib.Core.Logic.{_⊎_, inl, inr, ⊎-elim}
-use mathlib.Core.List.{List, [], _∷_, _++_, reverse, reverse-cons}
+use mathlib.Core.List.{List}
 use native.Mathlib.Omega.{arith}
-use lib.ListN.{length, take, drop, getD, set, length-append, length-drop, length-reverse, length-set}
-use lib.Seq.{getD-at, getD-take, getD-drop, getD-append-add, length-take-le, getD-set-same, getD-set-other, ext-getD}
+use lib.ListN.{length, getD, set, length-set}
+use lib.Seq.{getD-set-same, getD-set-other, ext-getD}
 use lib.Dec.{ltb, eqb}
 use borrow.Author.Tests.{eqb-false}
 use Rattle.records.specs.declared.refusal.Refusal.the-variants.{Size}
 use Rattle.records.specs.declared.refusal.Checked.{Checked}
 use Rattle.records.specs.declared.refusal.Checked.the-variants.{Passed, Refused}
 use Rattle.records.specs.Tests.{below?, same?}
-use Rattle.enzyme.specs.Reversal.{reversed, stretchTested}
-
-get-front : (xs ys : List ℕ) (i : ℕ) → i < length xs → getD (xs ++ ys) i 0 ≡ getD xs i 0
-get-front [] ys i h = absurd (omega arith)
-get-front (x ∷ xs) ys zero h = refl
-get-front (x ∷ xs) ys (suc i) h = get-front xs ys i (omega arith)
-
-get-reverse : (l : List ℕ) (i : ℕ) → i < length l → getD (reverse l) i 0 ≡ getD l (length l - 1 - i) 0
-get-reverse [] i h = absurd (omega arith)
-get-reverse (x ∷ l) i h = ⊎-elim (λ (g : i < length l). inner g (get-reverse l i g)) last (below? i (length l))
-  where
-    inner : i < length l → getD (reverse l) i 0 ≡ getD l (length l - 1 - i) 0 → getD (reverse (x ∷ l)) i 0 ≡ getD (x ∷ l) (suc (length l) - 1 - i) 0
-    inner g ih =
-        let e : suc (length l) - 1 - i ≡ suc (length l - 1 - i) = omega arith in
-        ap (λ (q : List ℕ). getD q i 0) (reverse-cons x l) ∙ get-front (reverse l) (x ∷ []) i (omega (arith, length-reverse l)) ∙ ih ∙ sym (ap (λ (k : ℕ). getD (x ∷ l) k 0) e)
-
-    last : length l ≤ i → getD (reverse (x ∷ l)) i 0 ≡ getD (x ∷ l) (suc (length l) - 1 - i) 0
-    last g =
-        let e : suc (length l) - 1 - i ≡ 0 = omega arith in
-        ap (λ (q : List ℕ). getD q i 0) (reverse-cons x l) ∙ getD-at (reverse l) x [] 0 i (omega (arith, length-reverse l)) ∙ sym (ap (λ (k : ℕ). getD (x ∷ l) k 0) e)
-
--- ---- the letters of a reversed list
-
-pub length-reversed : (s : List ℕ) → length (reversed s) ≡ length s
-length-reversed [] = refl
-length-reversed (b ∷ bs) =
-    let k : ℕ = length bs - 1 in
-    let t : length (take k bs) ≡ k = length-take-le k bs (omega arith) in
-    ap suc (length-append (reverse (take k bs)) (drop k bs) ∙ omega (arith, length-reverse (take k bs), t, length-drop k bs))
-
-module _ (b : ℕ) (bs : List ℕ) where
-  k : ℕ
-  k = length bs - 1
-
-  front : length (reverse (take k bs)) ≡ k
-  unfolding k
-  front = length-reverse (take k bs) ∙ length-take-le k bs (omega arith)
-
-  inner-at : (y : ℕ) → y < k → getD (reverse (take k bs) ++ drop k bs) y 0 ≡ getD bs (k - 1 - y) 0
-  unfolding k
-  inner-at y h =
-      let t : length (take k bs) ≡ k = length-take-le k bs (omega arith) in
-      get-front (reverse (take k bs)) (drop k bs) y (omega (arith, front))
-      ∙ get-reverse (take k bs) y (omega (arith, t))
-      ∙ ap (λ (n : ℕ). getD (take k bs) (n - 1 - y) 0) t
-      ∙ getD-take k bs (k - 1 - y) 0 (omega arith)
-
-  last-at : 0 < length bs → getD (reverse (take k bs) ++ drop k bs) k 0 ≡ getD bs k 0
-  unfolding k
-  last-at h =
-      let e : k ≡ length (reverse (take k bs)) + 0 = omega (arith, front) in
-      let z : k + 0 ≡ k = omega arith in
-      ap (λ (n : ℕ). getD (reverse (take k bs) ++ drop k bs) n 0) e
-      ∙ getD-append-add (reverse (take k bs)) (drop k bs) 0 0
-      ∙ getD-drop k bs 0 0
-      ∙ ap (λ (n : ℕ). getD bs n 0) z
-
-pub reversed-first : (s : List ℕ) → getD (reversed s) 0 0 ≡ getD s 0 0
-reversed-first [] = refl
-reversed-first (b ∷ bs) = refl
-
-pub reversed-last : (s : List ℕ) (x : ℕ) → x + 1 ≡ length s → getD (reversed s) x 0 ≡ getD s x 0
-unfolding k
-reversed-last [] x h = absurd (omega arith)
-reversed-last (b ∷ bs) zero h = refl
-reversed-last (b ∷ bs) (suc y) h =
-    let e : y ≡ length bs - 1 = omega arith in
-    subst (λ (n : ℕ). getD (reverse (take (length bs - 1) bs) ++ drop (length bs - 1) bs) n 0 ≡ getD bs n 0) (sym e) (at-end (omega arith))
-  where
-    at-end : 0 < length bs → getD (reverse (take (length bs - 1) bs) ++ drop (length bs - 1) bs) (length bs - 1) 0 ≡ getD bs (length bs - 1) 0
-    at-end g = last-at b bs g
-
-pub reversed-inner : (s : List ℕ) (x : ℕ) → 0 < x → x + 1 < length s → getD (reversed s) x 0 ≡ getD s (length s - 1 - x) 0
-unfolding k
-reversed-inner [] x h g = absurd (omega arith)
-reversed-inner (b ∷ bs) zero h g = absurd (omega arith)
-reversed-inner (b ∷ bs) (suc y) h g =
-    let e : suc (length bs) - 1 - suc y ≡ suc (length bs - 1 - 1 - y) = omega arith in
-    inner-at b bs y (omega arith) ∙ sym (ap (λ (n : ℕ). getD (b ∷ bs) n 0) e)
+use Rattle.letters.specs.Reversal.{reversed}
+use Rattle.letters.specs.ReversalLaws.{length-reversed, reversed-first, reversed-last, reversed-inner}
+use Rattle.enzyme.specs.Reversal.{stretchTested}
 
 -- ---- reversal in place: the places before i and from j on hold the reversed letters, those between them the old ones
 

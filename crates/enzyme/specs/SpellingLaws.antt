@@ -1,7 +1,7 @@
 -- Laws of the letters of a digest record. Assumes nothing.
 use Prim.Native.Nat.{ℕ, suc, _+_, _-_, _≤_, _<_}
 use mathlib.Core.Path.{_≡_, refl, sym, ap, _∙_}
-use mathlib.Core.Bool.{Bool, true, false, cond, _&&_, true≢false}
+use mathlib.Core.Bool.{Bool, true, false, cond, _&&_}
 use mathlib.Core.List.{List, [], _∷_}
 use native.Mathlib.Omega.{arith}
 use native.Mathlib.Nat.{one-mul}
@@ -19,28 +19,7 @@ use Rattle.records.specs.RoomLaws.{Sized, Standing, standing-none, standing-mor
 use Rattle.records.specs.Tests.{both}
 use Rattle.letters.specs.Letters.{firstBad}
 use Rattle.records.specs.declared.refusal.Counted.the-variants.{Count, Refused}
-use Rattle.enzyme.specs.Reversal.{reversed, lettersOf, goodRecord, spellingTested, spelled}
-use Rattle.enzyme.specs.ReversalLaws.{length-reversed, reversed-first, reversed-last, reversed-inner}
-
--- ---- one letter
-
-pub length-letters : (decoy : Bool) (part : List ℕ) → length (lettersOf decoy part) ≡ length part
-length-letters true part = length-reversed part
-length-letters false part = refl
-
-pub letter-inner : (decoy : Bool) (part : List ℕ) (i : ℕ) → (decoy && ltb 0 i && ltb (i + 1) (length part)) ≡ true → getD (lettersOf decoy part) i 0 ≡ getD part (length part - 1 - i) 0
-letter-inner true part i e =
-    let x = both (ltb 0 i) (ltb (i + 1) (length part)) e in
-    reversed-inner part i (ltb-true _ _ (x .0)) (ltb-true _ _ (x .1))
-letter-inner false part i e = absurd (true≢false (sym e))
-
-pub letter-outer : (decoy : Bool) (part : List ℕ) (i : ℕ) → i < length part → (decoy && ltb 0 i && ltb (i + 1) (length part)) ≡ false → getD (lettersOf decoy part) i 0 ≡ getD part i 0
-letter-outer true part i h e = go (ltb 0 i) refl e
-  where
-    go : (b : Bool) → ltb 0 i ≡ b → (b && ltb (i + 1) (length part)) ≡ false → getD (reversed part) i 0 ≡ getD part i 0
-    go true f g = reversed-last part i (omega (arith, ltb-false (i + 1) (length part) g))
-    go false f g = let z : i ≡ 0 = omega (arith, ltb-false 0 i f) in rw z (reversed-first part)
-letter-outer false part i h e = refl
+use Rattle.enzyme.specs.Reversal.{goodRecord, spellingTested, spelled}
 
 -- ---- the letters written one after the other
 

@@ -7,7 +7,8 @@ ghost use mathlib.Core.List.{[], _∷_};
 ghost use Prim.Native.Nat.{_<_};
 ghost use lib.ListN.{length};
 ghost use Rattle.records.specs.Outcome.{outcome};
-ghost use Rattle.enzyme.specs.Reversal.{reversed, stretchTested, recordTested, reverseOutcome, reverseRecordOutcome};
+ghost use Rattle.letters.specs.Reversal.{reversed};
+ghost use Rattle.enzyme.specs.Reversal.{stretchTested, recordTested, reverseOutcome, reverseRecordOutcome};
 
 // Reverses all letters but the first and the last.
 fn flip(letters: &mut [u8])

@@ -6,22 +6,10 @@ use records::Refusal;
 ghost use mathlib.Core.Path.{_≡_};
 ghost use mathlib.Core.List.{[], _∷_};
 ghost use Prim.Native.Nat.{_≤_, _<_};
-ghost use lib.ListN.{length, getD};
+ghost use lib.ListN.{length};
 ghost use Rattle.records.specs.Outcome.{outcome};
-ghost use Rattle.enzyme.specs.Reversal.{lettersOf, spellingTested, spelled, lettersOutcome};
-
-// Letter i of a range's letters, of a decoy's reversed.
-fn letter_at(part: &[u8], decoy: bool, i: usize) -> u8
-    requires { ⌜ i < length (now part) ⌝ }
-    ensures { λ r. ⌜ r ≡ getD (lettersOf decoy (now (part .entry))) i 0 ⌝ }
-{
-    let n = part.len();
-    if decoy & (0 < i) & (i + 1 < n) {
-        part[n - 1 - i]
-    } else {
-        part[i]
-    }
-}
+ghost use Rattle.letters.specs.Reversal.{lettersOf};
+ghost use Rattle.enzyme.specs.Reversal.{spellingTested, spelled, lettersOutcome};
 
 // Writes a range's letters, a decoy's reversed, as far as there is room.
 fn spell(part: &[u8], decoy: bool, out: &mut [u8]) -> Counted
@@ -34,7 +22,7 @@ fn spell(part: &[u8], decoy: bool, out: &mut [u8]) -> Counted
         if room <= i {
             return Counted::Refused(Refusal::Room);
         }
-        let letter = letter_at(part, decoy, i);
+        let letter = letters::letter_at(part, decoy, i);
         out[i] = letter;
         i += 1;
     }

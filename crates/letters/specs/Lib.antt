@@ -1,4 +1,6 @@
--- What a reader has to believe: Letters. The files named Laws say what follows from it.
+-- What a reader has to believe: Letters, Reversal. The files named Laws say what follows from them.
 pub mod Letters
+pub mod Reversal
 pub mod BitLaws
 pub mod LetterLaws
+pub mod ReversalLaws

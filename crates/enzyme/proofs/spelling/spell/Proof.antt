@@ -7,8 +7,9 @@ use mathlib.Core.Path.{_≡_, refl, _∙_}
 use lib.ListN.{length, length-set}
 use denote.Ref.{now}
 use Rattle.records.specs.Room.{roomOf}
-use Rattle.enzyme.specs.Reversal.{lettersOf}
-use Rattle.enzyme.specs.SpellingLaws.{length-letters, Spelling, spelling-start, spelling-turn, spelling-full, spelling-done}
+use Rattle.letters.specs.Reversal.{lettersOf}
+use Rattle.letters.specs.ReversalLaws.{length-letters}
+use Rattle.enzyme.specs.SpellingLaws.{Spelling, spelling-start, spelling-turn, spelling-full, spelling-done}
 use Rattle.enzyme.proofs.spelling.spell.Statement.{statement}
 use Rattle.enzyme.proofs.spelling.spell.Tie as tie
 
