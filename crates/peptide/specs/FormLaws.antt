@@ -31,7 +31,8 @@ use Rattle.forms_parts.specs.CapLaws.{accepted-all}
 use Rattle.forms_parts.specs.RunLaws.{todo, quick, length-quick, Finished}
 use Rattle.peptide.specs.declared.peptide.Peptide.{Peptide}
 use Rattle.records.specs.declared.refusal.Counted.{Counted}
-use Rattle.peptide.specs.Peptides.{andThen, wrongSize, testedContents}
+use Rattle.records.specs.Tested.{andThen}
+use Rattle.peptide.specs.Peptides.{wrongSize, testedContents}
 use Rattle.peptide.specs.PeptideLaws.{size-fits, not-passed}
 use Rattle.peptide.specs.Forms.{tooLarge, notWhole, testedLists, testedForms, bare, sitesOf, formsOf, listed, formsOutcome}
 

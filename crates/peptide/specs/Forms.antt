@@ -14,7 +14,8 @@ use Rattle.peptide_parts.specs.Sites.{allSites}
 use Rattle.forms_parts.specs.Enumeration.{mostForms, choices, formOf}
 use Rattle.peptide.specs.declared.peptide.Peptide.{Peptide}
 use Rattle.records.specs.declared.refusal.Counted.{Counted}
-use Rattle.peptide.specs.Peptides.{andThen, wrongSize, testedContents}
+use Rattle.records.specs.Tested.{andThen}
+use Rattle.peptide.specs.Peptides.{wrongSize, testedContents}
 
 -- ---- the tests
 

@@ -12,7 +12,8 @@ use Rattle.records.specs.declared.refusal.Checked.{Checked}
 use Rattle.records.specs.Search.{seek}
 use Rattle.letters.specs.Letters.{isLetter}
 use Rattle.peptide.specs.declared.mass.Weighed.{Weighed}
-use Rattle.peptide.specs.Peptides.{wrongSize, andThen}
+use Rattle.records.specs.Tested.{andThen}
+use Rattle.peptide.specs.Peptides.{wrongSize}
 
 -- the mass of a letter, of the 26 from A on
 abbrev pub massOf : List Float → ℕ → Float

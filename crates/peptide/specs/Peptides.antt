@@ -19,11 +19,6 @@ use Rattle.peptide.specs.declared.peptide.Made.{Made}
 abbrev pub wrongSize : ℕ → Bool
 wrongSize n = eqb n 0 || ltb 64 n
 
--- a test, and where it passed the next one
-abbrev pub andThen : Checked → Checked → Checked
-andThen Checked.Passed next = next
-andThen (Checked.Refused why) next = Checked.Refused why
-
 -- the letters that count
 abbrev pub lettersOf : Peptide → List ℕ
 lettersOf p = take (p .len) (p .letters)

@@ -1,7 +1,11 @@
 -- Worked cases: what a definition gives and what is said of it, so that the cases of every crate stand in one table.
 use Prim.Native.Nat.{ℕ}
 use mathlib.Core.Path.{_≡_, sym, ap, _∙_}
-use mathlib.Core.List.{List, _++_, map, map-append}
+use mathlib.Core.List.{List, [], _∷_, _++_, map, map-append}
+use Rattle.records.specs.declared.refusal.Counted.{Counted}
+use Rattle.records.specs.declared.refusal.Counted.the-variants.{Count, Refused}
+use Rattle.records.specs.Refusals.{numberOf, placeOf}
+use Rattle.records.specs.Outcome.{Outcome}
 
 pub record Case : Type 0 where
   pub got : List (List ℕ)
@@ -23,3 +27,18 @@ joined cs ds p q =
     ∙ ap (λ (x : List (List (List ℕ))). x ++ map given ds) p
     ∙ ap (λ (x : List (List (List ℕ))). map said cs ++ x) q
     ∙ sym (map-append said cs ds)
+
+-- ---- what a call leaves, in numbers: the answer's, refusal 0 being none, and then each lent slice
+
+abbrev pub counted : ℕ → List ℕ
+counted n = 0 ∷ 0 ∷ n ∷ []
+
+abbrev pub refused : ℕ → ℕ → List ℕ
+refused number place = number ∷ place ∷ []
+
+abbrev pub numbers : Counted → List ℕ
+numbers (Count n) = counted n
+numbers (Refused why) = refused (numberOf why) (placeOf why)
+
+abbrev pub told : Outcome Counted → List (List ℕ)
+told o = numbers (o .answer) ∷ o .lent

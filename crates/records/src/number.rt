@@ -21,6 +21,22 @@ pub fn put_byte(out: &mut [u8], at: usize, b: u8)
     }
 }
 
+// Stores bytes from a place on, and nothing else.
+pub fn put_bytes(out: &mut [u8], at: usize, bytes: &[u8])
+    ensures { λ _. ⌜ now (out .exit) ≡ sets (now (out .entry)) at (now (bytes .entry)) ⌝ }
+{
+    let mut i = 0;
+    let mut k = at;
+    while i < bytes.len() {
+        if out.len() <= k {
+            return;
+        }
+        out[k] = bytes[i];
+        i += 1;
+        k += 1;
+    }
+}
+
 fn joined(a: u8, b: u8, c: u8, d: u8) -> u32
     ensures { λ r. ⌜ r ≡ a + 256 * (b + 256 * (c + 256 * d)) ⌝ }
 {
