@@ -1,0 +1,54 @@
+-- `repeat_among` meets its contract. Assumes nothing.
+use Prim.Native.Nat.{ℕ, _+_}
+use mathlib.Core.Path.{ap, _∙_}
+use mathlib.Core.List.{List, _++_}
+use native.Mathlib.Omega.{arith}
+use lib.ListN.{replicate}
+use Rattle.sorting.specs.LeastLaws.{repeated, repeated-rest}
+use Rattle.sorting.specs.SortingLaws.{cleared-front}
+use borrow.Author.Needs.{needs}
+use Rattle.sorting.proofs.repeats.repeat_among.Statement.{statement}
+use Rattle.sorting.proofs.repeats.repeat_among.Tie as tie
+
+add-e : tie.Need-add-e
+add-e c = search needs
+
+count-up-requires : tie.Need-count-up-requires
+count-up-requires c κs = search needs
+
+sort-range-requires : tie.Need-sort-range-requires
+sort-range-requires c κs = search needs
+
+least-repeat-requires : tie.Need-least-repeat-requires
+least-repeat-requires c κs = search needs
+
+clear-requires : tie.Need-clear-requires
+clear-requires c κs = search needs
+
+same-length : tie.Need-same-length
+same-length c = search needs
+
+returns : tie.Need-returns
+returns c =
+    let a = c .before .before .before .before .before .before .before .before .before .before .before .before .before .before .before .before .args in
+    let up = c .before .before .before .before .before .before .before .before .before .before .before .before .count-up in
+    let so = c .before .before .before .before .before .before .before .before .sort-range in
+    let cl = c .before .before .clear in
+    let n = a .n in
+    let names = a .names .now in (
+      repeated names (up .last .0) (so .last .1 .1 .0) n (c .before .before .before .before .least-repeat .result) (up .ensures .0) (so .ensures) (c .before .before .before .before .least-repeat .ensures),
+      cleared-front (so .last .1 .1 .0) (cl .last .0) (n + n) (omega (arith, so .kept .1 .1 .0, up .kept .0, c .before .before .before .before .before .before .before .before .before .before .before .before .before .before .before .before .pre)) (cl .ensures)
+          ∙ ap (λ (x : List ℕ). replicate (n + n) 0 ++ x) (repeated-rest names (a .w .now) (up .last .0) (so .last .1 .1 .0) n (up .kept .0) (so .kept .1 .1 .0) (up .ensures .1) (so .ensures)),
+    )
+
+pub repeat-among-spec : {M : Type 1} → statement M
+repeat-among-spec =
+    tie.close
+    (tie.spec
+    add-e
+    count-up-requires
+    sort-range-requires
+    least-repeat-requires
+    clear-requires
+    same-length
+    returns)

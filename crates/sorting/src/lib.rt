@@ -1,0 +1,14 @@
+// One stable sort inside one lent slice of numbers, and what is read off a sorted stretch.
+mod repeats;
+mod runs;
+mod sorting;
+mod stretches;
+
+pub use repeats::Repeated;
+pub use repeats::first_repeated;
+pub use runs::Numbered;
+pub use runs::number_runs;
+pub use runs::run_end;
+pub use sorting::sort;
+pub use sorting_parts::By;
+pub use stretches::sort_each;

@@ -1,0 +1,11 @@
+-- What a reader has to believe: Sort, Lex, Text. The files named Laws say what follows from them.
+pub mod Sort
+pub mod SortLaws
+pub mod Lex
+pub mod LexLaws
+pub mod Text
+pub mod TextLaws
+pub mod PartLaws
+pub mod MergeLaws
+pub mod TurnLaws
+pub mod RangeLaws

@@ -1,0 +1,9 @@
+// What numbers stand for, their order, and the merge sort of a stretch. Only crates of this repository call these.
+mod comparing;
+mod merging;
+mod text;
+
+pub use comparing::le;
+pub use merging::sort_range;
+pub use text::By;
+pub use text::number_at;
