@@ -1,17 +1,25 @@
 -- What is ahead of each loop of the code: one turn, and the end. Assumes nothing.
-use Prim.Native.Nat.{ℕ, suc, _+_, _-_, _≤_, _<_}
+use Prim.Native.Nat.{ℕ, zero, suc, _+_, _-_, _≤_, _<_}
 use mathlib.Core.Path.{_≡_, ap, _∙_}
 use mathlib.Core.List.{List, [], _∷_, _++_}
 use native.Mathlib.Omega.{arith}
 use native.Mathlib.Numerals.{add-one}
 use mathlib.Core.Bool.{Bool}
-use lib.ListN.{length, drop}
+use lib.ListN.{length, take, drop, length-drop}
+use lib.Seq.{length-take-le}
 use Rattle.cutting_parts.specs.declared.enzyme.Knife.{Knife}
 use Rattle.cutting_parts.specs.declared.scan.Site.the-variants.{Cut, Last}
-use Rattle.cutting_parts.specs.Cutting.{Range, range, site, setSites, zip, windows, halves, starting, ofLength, ofLengths}
+use Rattle.cutting_parts.specs.Cutting.{Range, range, site, part, setSites, zip, windows, halves, starting, ofLength, ofLengths}
 use Rattle.cutting_parts.specs.Scan.{findCut}
 use Rattle.cutting_parts.specs.Work.{spread, tailOf}
 use Rattle.cutting_parts.specs.ScanLaws.{cut-at, last-at, zip-nil, zip-head}
+use Rattle.cutting_parts.specs.InsideLaws.{length-inside}
+use Rattle.offering_parts.specs.declared.offering.Step.the-variants.{Kept}
+use Rattle.offering_parts.specs.declared.offering.Terms.{Terms}
+use Rattle.offering_parts.specs.Buffer.{rangesIn}
+use Rattle.offering_parts.specs.Table.{New}
+use Rattle.offering_parts.specs.Steps.{Ran, Shorter}
+use Rattle.offering_parts.specs.StepLaws.{ran-shorter, shorter-new}
 
 module _ (r : Range) (c : ℕ) where
   pub halves-on : c < r .to → halves r c (r .to - c) ≡ range (r .from) c (r .missed) 1 ∷ range c (r .to) (r .missed) 1 ∷ halves r (c + 1) (r .to - (c + 1))
@@ -33,6 +41,36 @@ module _ (n len top : ℕ) where
 
   pub lengths-end : top < len → ofLengths n len (suc top - len) ≡ []
   lengths-end h = let g : suc top - len ≡ 0 = omega arith in rw g
+
+-- ---- the ranges of a length, behind records that are shorter
+
+-- letters of that length are new to them
+pub length-new : (s : List ℕ) (past : ℕ) (ks : List Range) (r : Range) (len : ℕ) → r .to ≡ r .from + len → r .to ≤ length s → Shorter len (take past ks) → New s past ks (part s r)
+length-new s past ks r len e h x =
+    let d : r .to - r .from ≡ len = omega arith in
+    let l : length (part s r) ≡ len = length-take-le (r .to - r .from) (drop (r .from) s) (omega (arith, length-drop (r .from) s)) ∙ d in
+    shorter-new s (take past ks) (part s r) (rw l x)
+
+pub shorter-take : (n m : ℕ) (ks : List Range) → Shorter n ks → Shorter n (take m ks)
+shorter-take n zero ks x = tt
+shorter-take n (suc m) [] x = tt
+shorter-take n (suc m) (k ∷ ks) x = (x .0, shorter-take n m ks (x .1))
+
+shorter-on : (n : ℕ) (ks : List Range) → Shorter n ks → Shorter (n + 1) ks
+shorter-on n [] x = tt
+shorter-on n (k ∷ ks) x = (omega (arith, x .0), shorter-on n ks (x .1))
+
+length-shorter : (n len : ℕ) → Shorter (len + 1) (ofLength n len)
+length-shorter n len = go 0 (suc n - len)
+  where
+    go : (i m : ℕ) → Shorter (len + 1) (starting len i m)
+    go i zero = tt
+    go i (suc m) = (omega arith, go (suc i) m)
+
+-- with the ranges of a length all are shorter than the next
+pub lengths-shorter : {past : ℕ} {s : List ℕ} {t : Terms} {count : ℕ} {out tab : List ℕ} {k : ℕ} {o b : List ℕ} → (len : ℕ) → length s ≤ 65536
+    → Ran past s t (ofLength (length s) len) count out tab (Kept k) o b → Shorter len (rangesIn count out) → Shorter (len + 1) (rangesIn k o)
+lengths-shorter {past} {s} {t} {count} {out} len small x h = ran-shorter small (length-inside (length s) len) x (len + 1) (shorter-on len (rangesIn count out) h) (length-shorter (length s) len)
 
 -- the windows ahead, where the left site starts at `start` and its cut is sought from left on, and the right site's cut from right on
 module _ (k : Knife) (s : List ℕ) (m start left x right : ℕ) (h : right ≤ length s) where

@@ -8,7 +8,7 @@ use offering_parts::Step;
 use offering_parts::Terms;
 ghost use Prim.Native.Nat.{_≤_};
 ghost use Rattle.cutting_parts.specs.Work.{setWork, work};
-ghost use Rattle.offering_parts.specs.Steps.{Held, Ran};
+ghost use Rattle.offering_parts.specs.Steps.{Held, Ran, Ended};
 
 // Offers the sites of a set of letters: all windows, and with semi all their parts behind them.
 fn offer_set(
@@ -20,8 +20,8 @@ fn offer_set(
     out: &mut [u8],
     tab: &mut [u32],
 ) -> Step
-    requires { ⌜ Held (now letters) 0 (now out) (now tab) × (missed ≤ 16) ⌝ }
-    ensures { λ r. ⌜ Ran (now (letters .entry)) terms (setWork knife semi missed (now (letters .entry))) 0 (now (out .entry)) (now (tab .entry)) r (now (out .exit)) (now (tab .exit)) ⌝ }
+    requires { ⌜ Held 0 (now letters) 0 (now out) (now tab) × (missed ≤ 16) ⌝ }
+    ensures { λ r. ⌜ Ran 0 (now (letters .entry)) terms (setWork knife semi missed (now (letters .entry))) 0 (now (out .entry)) (now (tab .entry)) r (now (out .exit)) (now (tab .exit)) ⌝ }
 {
     let Step::Kept(k) = offer_sizes(letters, knife, missed, false, terms, out, tab, 0) else {
         return Step::Full;
@@ -42,8 +42,8 @@ pub fn offer_all(
     out: &mut [u8],
     tab: &mut [u32],
 ) -> Step
-    requires { ⌜ Held (now letters) 0 (now out) (now tab) × (missed ≤ 16) × (terms .maximum ≤ 65536) ⌝ }
-    ensures { λ r. ⌜ Ran (now (letters .entry)) terms (work enzyme missed (terms .minimum) (terms .maximum) (now (letters .entry))) 0 (now (out .entry)) (now (tab .entry)) r (now (out .exit)) (now (tab .exit)) ⌝ }
+    requires { ⌜ Held 0 (now letters) 0 (now out) (now tab) × (missed ≤ 16) × (terms .maximum ≤ 65536) ⌝ }
+    ensures { λ r. ⌜ Ended (now (letters .entry)) terms (work enzyme missed (terms .minimum) (terms .maximum) (now (letters .entry))) 0 (now (out .entry)) (now (tab .entry)) r (now (out .exit)) (now (tab .exit)) ⌝ }
 {
     let kind = enzyme.kind;
     match kind {

@@ -18,8 +18,8 @@ fn offer_inner(
     tab: &mut [u32],
     count: usize,
 ) -> Step
-    requires { ⌜ Held (now letters) count (now out) (now tab) × (a ≤ e) × (e ≤ length (now letters)) ⌝ }
-    ensures { λ r. ⌜ Ran (now (letters .entry)) terms (inner (range a e missed 0)) count (now (out .entry)) (now (tab .entry)) r (now (out .exit)) (now (tab .exit)) ⌝ }
+    requires { ⌜ Held 0 (now letters) count (now out) (now tab) × (a ≤ e) × (e ≤ length (now letters)) ⌝ }
+    ensures { λ r. ⌜ Ran 0 (now (letters .entry)) terms (inner (range a e missed 0)) count (now (out .entry)) (now (tab .entry)) r (now (out .exit)) (now (tab .exit)) ⌝ }
 {
     let mut c = a + 1;
     let mut k = count;
@@ -50,8 +50,8 @@ pub(crate) fn offer_site(
     tab: &mut [u32],
     count: usize,
 ) -> Step
-    requires { ⌜ Held (now letters) count (now out) (now tab) × (a ≤ e) × (e ≤ length (now letters)) ⌝ }
-    ensures { λ r. ⌜ Ran (now (letters .entry)) terms (partsOf semi (range a e missed 0)) count (now (out .entry)) (now (tab .entry)) r (now (out .exit)) (now (tab .exit)) ⌝ }
+    requires { ⌜ Held 0 (now letters) count (now out) (now tab) × (a ≤ e) × (e ≤ length (now letters)) ⌝ }
+    ensures { λ r. ⌜ Ran 0 (now (letters .entry)) terms (partsOf semi (range a e missed 0)) count (now (out .entry)) (now (tab .entry)) r (now (out .exit)) (now (tab .exit)) ⌝ }
 {
     if semi {
         offer_inner(letters, a, e, missed, terms, out, tab, count)

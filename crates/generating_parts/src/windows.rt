@@ -19,8 +19,8 @@ fn offer_sites(
     tab: &mut [u32],
     count: usize,
 ) -> Step
-    requires { ⌜ Held (now letters) count (now out) (now tab) ⌝ }
-    ensures { λ r. ⌜ Ran (now (letters .entry)) terms (spread semi (setSites knife 0 0 (now (letters .entry)))) count (now (out .entry)) (now (tab .entry)) r (now (out .exit)) (now (tab .exit)) ⌝ }
+    requires { ⌜ Held 0 (now letters) count (now out) (now tab) ⌝ }
+    ensures { λ r. ⌜ Ran 0 (now (letters .entry)) terms (spread semi (setSites knife 0 0 (now (letters .entry)))) count (now (out .entry)) (now (tab .entry)) r (now (out .exit)) (now (tab .exit)) ⌝ }
 {
     let n = letters.len();
     let mut start = 0;
@@ -50,8 +50,8 @@ fn offer_windows(
     tab: &mut [u32],
     count: usize,
 ) -> Step
-    requires { ⌜ Held (now letters) count (now out) (now tab) ⌝ }
-    ensures { λ r. ⌜ Ran (now (letters .entry)) terms (spread semi (windows missed (setSites knife 0 0 (now (letters .entry))))) count (now (out .entry)) (now (tab .entry)) r (now (out .exit)) (now (tab .exit)) ⌝ }
+    requires { ⌜ Held 0 (now letters) count (now out) (now tab) ⌝ }
+    ensures { λ r. ⌜ Ran 0 (now (letters .entry)) terms (spread semi (windows missed (setSites knife 0 0 (now (letters .entry))))) count (now (out .entry)) (now (tab .entry)) r (now (out .exit)) (now (tab .exit)) ⌝ }
 {
     let n = letters.len();
     let mut right = 0;
@@ -94,8 +94,8 @@ fn offer_size(
     tab: &mut [u32],
     count: usize,
 ) -> Step
-    requires { ⌜ Held (now letters) count (now out) (now tab) ⌝ }
-    ensures { λ r. ⌜ Ran (now (letters .entry)) terms (spread semi (windows missed (setSites knife 0 0 (now (letters .entry))))) count (now (out .entry)) (now (tab .entry)) r (now (out .exit)) (now (tab .exit)) ⌝ }
+    requires { ⌜ Held 0 (now letters) count (now out) (now tab) ⌝ }
+    ensures { λ r. ⌜ Ran 0 (now (letters .entry)) terms (spread semi (windows missed (setSites knife 0 0 (now (letters .entry))))) count (now (out .entry)) (now (tab .entry)) r (now (out .exit)) (now (tab .exit)) ⌝ }
 {
     if missed == 0 {
         offer_sites(letters, knife, semi, terms, out, tab, count)
@@ -115,8 +115,8 @@ pub(crate) fn offer_sizes(
     tab: &mut [u32],
     count: usize,
 ) -> Step
-    requires { ⌜ Held (now letters) count (now out) (now tab) × (missed ≤ 16) ⌝ }
-    ensures { λ r. ⌜ Ran (now (letters .entry)) terms (spread semi (setWindows knife missed (now (letters .entry)))) count (now (out .entry)) (now (tab .entry)) r (now (out .exit)) (now (tab .exit)) ⌝ }
+    requires { ⌜ Held 0 (now letters) count (now out) (now tab) × (missed ≤ 16) ⌝ }
+    ensures { λ r. ⌜ Ran 0 (now (letters .entry)) terms (spread semi (setWindows knife missed (now (letters .entry)))) count (now (out .entry)) (now (tab .entry)) r (now (out .exit)) (now (tab .exit)) ⌝ }
 {
     let mut k = count;
     let mut m: u8 = 0;

@@ -3,8 +3,8 @@ use Prim.Native.Nat.{ℕ, zero, suc, _+_, _-_, _*_, _/_, _%_, _≤_, _<_}
 use mathlib.Core.Path.{_≡_}
 use mathlib.Core.Bool.{Bool, false, cond}
 use mathlib.Core.List.{List, [], _∷_}
-use lib.ListN.{length, getD}
-use lib.Dec.{eqb}
+use lib.ListN.{length, take, getD}
+use lib.Dec.{leb}
 use Rattle.records.specs.Le.{numberAt}
 use Rattle.cutting_parts.specs.Cutting.{Range, same, part, seenIn}
 use Rattle.offering_parts.specs.declared.table.Probe.{Probe}
@@ -31,21 +31,26 @@ hasAt s [] new j = false
 hasAt s (k ∷ ks) new zero = same (part s k) new
 hasAt s (k ∷ ks) new (suc j) = hasAt s ks new j
 
--- the search along a chain that begins at t, `left` steps at most: t stands for range t - 1, and 0 for the end
-unfoldable pub look : List ℕ → List Range → List ℕ → List ℕ → ℕ → ℕ → Probe
-look s ks ls new t zero = Unknown
-look s ks ls new t (suc left) = cond (eqb t 0) Free (cond (hasAt s ks new (t - 1)) Same (look s ks ls new (getD ls (t - 1) 0) left))
+-- the search along a chain that begins at t, `left` steps at most: t stands for range t - 1, and the chain ends at the
+-- first `past` ranges
+unfoldable pub look : List ℕ → ℕ → List Range → List ℕ → List ℕ → ℕ → ℕ → Probe
+look s past ks ls new t zero = Unknown
+look s past ks ls new t (suc left) = cond (leb t past) Free (cond (hasAt s ks new (t - 1)) Same (look s past ks ls new (getD ls (t - 1) 0) left))
 
 -- what some number of steps comes to
-abbrev pub Looked : List ℕ → List Range → List ℕ → List ℕ → ℕ → Probe → Type 0
-Looked s ks ls new t r = (left : ℕ) × (r ≡ look s ks ls new t left)
+abbrev pub Looked : List ℕ → ℕ → List Range → List ℕ → List ℕ → ℕ → Probe → Type 0
+Looked s past ks ls new t r = (left : ℕ) × (r ≡ look s past ks ls new t left)
 
 -- if the chain from t on comes to its end, no range has the letters new
-abbrev pub Told : List ℕ → List Range → List ℕ → List ℕ → ℕ → Type 0
-Told s ks ls new t = (left : ℕ) → look s ks ls new t left ≡ Free → seenIn s ks new ≡ false
+abbrev pub Told : List ℕ → ℕ → List Range → List ℕ → List ℕ → ℕ → Type 0
+Told s past ks ls new t = (left : ℕ) → look s past ks ls new t left ≡ Free → seenIn s ks new ≡ false
 
--- the table tells of all letters
-pub record Covers (s : List ℕ) (ks : List Range) (ls : List ℕ) (tab : List ℕ) : Type 0 where
+-- none of the first `past` ranges has the letters new
+abbrev pub New : List ℕ → ℕ → List Range → List ℕ → Type 0
+New s past ks new = seenIn s (take past ks) new ≡ false
+
+-- the table tells of all letters that the first `past` ranges do not have
+pub record Covers (s : List ℕ) (past : ℕ) (ks : List Range) (ls : List ℕ) (tab : List ℕ) : Type 0 where
   pub some : 0 < length tab
   pub few : length tab ≤ 4294967296
-  pub told : (new : List ℕ) → Told s ks ls new (getD tab (slotOf new tab) 0)
+  pub told : (new : List ℕ) → New s past ks new → Told s past ks ls new (getD tab (slotOf new tab) 0)

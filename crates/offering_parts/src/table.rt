@@ -1,6 +1,7 @@
 // Earlier records found by their letters. A table's entry h is the number of the last record whose letters have their
 // place there, and each record's link, which stands where its protein will stand, the number of the one before it; 0
-// ends the chain. Whatever stands in the table and in the links, the answer is exact.
+// ends the chain, and so does one of the first records where it is known that these have other letters: then nothing has
+// to be cleared to search the later ones only. Whatever stands in the table and in the links, the answer is exact.
 ghost use mathlib.Core.Path.{_≡_};
 ghost use Prim.Native.Nat.{_*_, _/_, _≤_, _<_};
 ghost use lib.ListN.{length, getD, set};
@@ -111,13 +112,14 @@ fn seen(letters: &[u8], new: &[u8], out: &[u8], count: usize) -> bool
     false
 }
 
-// Looks for the letters new along the chain from `first` on, for as long as its links fall.
-fn follow(letters: &[u8], new: &[u8], out: &[u8], count: usize, first: usize) -> Probe
+// Looks for the letters new along the chain from `first` on, down to the first `past` records, for as long as its links
+// fall.
+fn follow(letters: &[u8], new: &[u8], out: &[u8], count: usize, past: usize, first: usize) -> Probe
     requires { ⌜ (16 * count ≤ length (now out)) × Inside (length (now letters)) (rangesIn count (now out)) ⌝ }
-    ensures { λ r. ⌜ Looked (now (letters .entry)) (rangesIn count (now (out .entry))) (linksIn count (now (out .entry))) (now (new .entry)) first r ⌝ }
+    ensures { λ r. ⌜ Looked (now (letters .entry)) past (rangesIn count (now (out .entry))) (linksIn count (now (out .entry))) (now (new .entry)) first r ⌝ }
 {
     let mut t = first;
-    while 0 < t {
+    while past < t {
         if is_record(letters, new, out, count, t - 1) {
             return Probe::Same;
         }
@@ -130,12 +132,19 @@ fn follow(letters: &[u8], new: &[u8], out: &[u8], count: usize, first: usize) ->
     Probe::Free
 }
 
-// Whether one of the first count records has the letters new, whose chain begins at `first`.
-pub(crate) fn seen_from(letters: &[u8], new: &[u8], out: &[u8], count: usize, first: usize) -> bool
-    requires { ⌜ (16 * count ≤ length (now out)) × Inside (length (now letters)) (rangesIn count (now out)) × Told (now letters) (rangesIn count (now out)) (linksIn count (now out)) (now new) first ⌝ }
+// Whether one of the first count records has the letters new, whose chain begins at `first` and ends at the first `past`.
+pub(crate) fn seen_from(
+    letters: &[u8],
+    new: &[u8],
+    out: &[u8],
+    count: usize,
+    past: usize,
+    first: usize,
+) -> bool
+    requires { ⌜ (16 * count ≤ length (now out)) × Inside (length (now letters)) (rangesIn count (now out)) × Told (now letters) past (rangesIn count (now out)) (linksIn count (now out)) (now new) first ⌝ }
     ensures { λ r. ⌜ r ≡ seenIn (now (letters .entry)) (rangesIn count (now (out .entry))) (now (new .entry)) ⌝ }
 {
-    let found = follow(letters, new, out, count, first);
+    let found = follow(letters, new, out, count, past, first);
     match found {
         Probe::Unknown => seen(letters, new, out, count),
         Probe::Free => false,

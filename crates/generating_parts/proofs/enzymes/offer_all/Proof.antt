@@ -2,6 +2,7 @@
 use mathlib.Core.Path.{_≡_}
 use borrow.Author.Tests.{eq-eqb, ne-eqb}
 use Rattle.cutting_parts.specs.declared.enzyme.Kind.the-variants.{None, End, Set}
+use Rattle.offering_parts.specs.StepLaws.{ran-ended}
 use borrow.Author.Needs.{needs}
 use Rattle.generating_parts.proofs.enzymes.offer_all.Statement.{statement}
 use Rattle.generating_parts.proofs.enzymes.offer_all.Tie as tie
@@ -53,7 +54,7 @@ same-length-6 : tie.Need-same-length-6
 same-length-6 c = search needs
 
 returns-3 : tie.Need-returns-3
-returns-3 c = let k : c .before .before .before .before .before .before .before .before .before .before .before .before .args .enzyme .kind ≡ End = c .before .before .before .before .before .before .before .enum-told2 .given .1 in rw k (c .before .before .before .before .offer .ensures)
+returns-3 c = let k : c .before .before .before .before .before .before .before .before .before .before .before .before .args .enzyme .kind ≡ End = c .before .before .before .before .before .before .before .enum-told2 .given .1 in rw k (ran-ended _ (c .before .before .before .before .offer .ensures))
 
 same-length-7 : tie.Need-same-length-7
 same-length-7 c = search needs
@@ -63,7 +64,7 @@ same-length-8 c = search needs
 
 returns-4 : tie.Need-returns-4
 returns-4 c = let k : c .before .before .before .before .before .before .before .before .before .before .before .before .before .before .before .before .args .enzyme .kind ≡ Set (c .before .before .before .before .before .before .before .before .before .before .before .kind .given .0 .0) = c .before .before .before .before .before .before .before .before .before .before .before .kind .given .1 in
-    rw (k, ne-eqb (c .before .before .before .before .before .before .before .before .before .before .before .kind .given .0 .0 .mask) 0 (c .before .before .before .before .before .before .before .before .if1 .left)) (c .before .before .before .before .offer-set .ensures)
+    rw (k, ne-eqb (c .before .before .before .before .before .before .before .before .before .before .before .kind .given .0 .0 .mask) 0 (c .before .before .before .before .before .before .before .before .if1 .left)) (ran-ended _ (c .before .before .before .before .offer-set .ensures))
 
 pub offer-all-spec : {M : Type 1} → statement M
 offer-all-spec =

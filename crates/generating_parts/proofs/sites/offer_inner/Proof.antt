@@ -3,7 +3,7 @@ use native.Mathlib.Omega.{arith}
 use borrow.Author.Needs.{needs}
 use lib.ListN.{length}
 use denote.Ref.{now}
-use mathlib.Core.Path.{_≡_, refl}
+use mathlib.Core.Path.{_≡_, refl, subst}
 use mathlib.Core.List.{List, [], _∷_}
 use Prim.Native.Nat.{_+_, _-_, _<_}
 use mathlib.Core.List.{_++_}
@@ -18,8 +18,8 @@ use Rattle.generating_parts.proofs.sites.offer_inner.Statement.{stateme
 use Rattle.generating_parts.proofs.sites.offer_inner.Tie as tie
 
 abbrev Inv-loop : tie.InvT-loop
-Inv-loop letters a e missed terms out₀ tab₀ count c₀ k₀ out tab c k = (a < c) × (length out ≡ length out₀) × (length tab ≡ length tab₀) × Held letters k out tab
-    × Ahead letters terms (Ran letters terms (inner (range a e missed 0)) count out₀ tab₀) (halves (range a e missed 0) c (e - c)) k out tab
+Inv-loop letters a e missed terms out₀ tab₀ count c₀ k₀ out tab c k = (a < c) × (length out ≡ length out₀) × (length tab ≡ length tab₀) × Held 0 letters k out tab
+    × Ahead 0 letters terms (Ran 0 letters terms (inner (range a e missed 0)) count out₀ tab₀) (halves (range a e missed 0) c (e - c)) k out tab
 
 abbrev μ-loop : tie.MeasureT-loop
 μ-loop letters a e missed terms out₀ tab₀ count c₀ k₀ out tab c k = e - c
@@ -34,18 +34,21 @@ two c = range (c .before .loop .c) (c .before .before .before .before .before .a
 abbrev rest : tie.In-loop Inv-loop μ-loop → List Range
 rest c = halves (range (c .before .before .before .before .before .args .a) (c .before .before .before .before .before .args .e) (c .before .before .before .before .before .args .missed) 0) (c .before .loop .c + 1) (c .before .before .before .before .before .args .e - (c .before .loop .c + 1))
 
-ahead : (c : tie.In-loop Inv-loop μ-loop) → Ahead (now (c .before .before .before .before .before .args .letters)) (c .before .before .before .before .before .args .terms) (Ran (now (c .before .before .before .before .before .args .letters)) (c .before .before .before .before .before .args .terms) (inner (range (c .before .before .before .before .before .args .a) (c .before .before .before .before .before .args .e) (c .before .before .before .before .before .args .missed) 0)) (c .before .before .before .before .before .args .count) (now (c .before .before .before .before .before .args .out)) (now (c .before .before .before .before .before .args .tab))) (one c ++ (two c ++ rest c)) (c .before .loop .k) (c .before .loop .out) (c .before .loop .tab)
+ahead : (c : tie.In-loop Inv-loop μ-loop) → Ahead 0 (now (c .before .before .before .before .before .args .letters)) (c .before .before .before .before .before .args .terms) (Ran 0 (now (c .before .before .before .before .before .args .letters)) (c .before .before .before .before .before .args .terms) (inner (range (c .before .before .before .before .before .args .a) (c .before .before .before .before .before .args .e) (c .before .before .before .before .before .args .missed) 0)) (c .before .before .before .before .before .args .count) (now (c .before .before .before .before .before .args .out)) (now (c .before .before .before .before .before .args .tab))) (one c ++ (two c ++ rest c)) (c .before .loop .k) (c .before .loop .out) (c .before .loop .tab)
 ahead c = rw (halves-on (range (c .before .before .before .before .before .args .a) (c .before .before .before .before .before .args .e) (c .before .before .before .before .before .args .missed) 0) (c .before .loop .c) (omega arith)) at (c .before .loop .inv .4)
 
 -- the first part was kept or passed over
-after-one : (c : tie.After-known-told Inv-loop μ-loop) → Ran (now (c .before .before .before .before .before .before .before .before .before .before .before .before .before .before .before .args .letters)) (c .before .before .before .before .before .before .before .before .before .before .before .before .before .before .before .args .terms) (one (c .before .before .before .before .before .before .before .before .before .before)) (c .before .before .before .before .before .before .before .before .before .before .before .loop .k) (c .before .before .before .before .before .before .before .before .before .before .before .loop .out) (c .before .before .before .before .before .before .before .before .before .before .before .loop .tab) (Kept (c .before .x .given .0 .0)) (c .before .before .before .before .before .before .before .offer .last .1 .1 .1 .1 .1 .1 .0) (c .before .before .before .before .before .before .before .offer .last .1 .1 .1 .1 .1 .1 .1 .0)
+after-one : (c : tie.After-known-told Inv-loop μ-loop) → Ran 0 (now (c .before .before .before .before .before .before .before .before .before .before .before .before .before .before .before .args .letters)) (c .before .before .before .before .before .before .before .before .before .before .before .before .before .before .before .args .terms) (one (c .before .before .before .before .before .before .before .before .before .before)) (c .before .before .before .before .before .before .before .before .before .before .before .loop .k) (c .before .before .before .before .before .before .before .before .before .before .before .loop .out) (c .before .before .before .before .before .before .before .before .before .before .before .loop .tab) (Kept (c .before .x .given .0 .0)) (c .before .before .before .before .before .before .before .offer .last .1 .1 .1 .1 .1 .1 .0) (c .before .before .before .before .before .before .before .offer .last .1 .1 .1 .1 .1 .1 .1 .0)
 after-one c = rw (c .before .x .given .1) at (c .before .before .before .before .before .before .before .offer .ensures)
 
 add-c : tie.Need-add-c Inv-loop μ-loop
 add-c c = omega (arith, c .before .before .before .pre .0 .small)
 
 loop-holds : tie.Need-loop-holds Inv-loop μ-loop
-loop-holds c = (omega arith, refl, refl, c .before .before .before .pre .0, λ r o b x. rw (add-one (c .before .before .before .args .a)) at x)
+loop-holds c = let a = c .before .before .before .args in
+    let site = range (a .a) (a .e) (a .missed) 0 in
+    let f : halves site (a .a + 1) (a .e - (a .a + 1)) ≡ inner site = rw (add-one (a .a)) in
+    (omega arith, refl, refl, c .before .before .before .pre .0, λ r o b x. subst (λ (rs : List Range). Ran 0 (now (a .letters)) (a .terms) rs (a .count) (now (a .out)) (now (a .tab)) r o b) f x)
 
 offer-requires : tie.Need-offer-requires Inv-loop μ-loop
 offer-requires c κs = let l = c .before .before .before .loop in (l .inv .3, omega arith, omega arith)

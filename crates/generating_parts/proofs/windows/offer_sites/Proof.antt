@@ -15,8 +15,8 @@ use Rattle.generating_parts.proofs.windows.offer_sites.Statement.{state
 use Rattle.generating_parts.proofs.windows.offer_sites.Tie as tie
 
 abbrev Inv-loop : tie.InvT-loop
-Inv-loop letters knife semi terms out₀ tab₀ count n start₀ at₀ k₀ out tab start at k = (start ≤ at) × (at ≤ length letters) × (length out ≡ length out₀) × (length tab ≡ length tab₀) × Held letters k out tab
-    × Ahead letters terms (Ran letters terms (spread semi (setSites knife 0 0 letters)) count out₀ tab₀) (spread semi (setSites knife start at (drop at letters))) k out tab
+Inv-loop letters knife semi terms out₀ tab₀ count n start₀ at₀ k₀ out tab start at k = (start ≤ at) × (at ≤ length letters) × (length out ≡ length out₀) × (length tab ≡ length tab₀) × Held 0 letters k out tab
+    × Ahead 0 letters terms (Ran 0 letters terms (spread semi (setSites knife 0 0 letters)) count out₀ tab₀) (spread semi (setSites knife start at (drop at letters))) k out tab
 
 abbrev μ-loop : tie.MeasureT-loop
 μ-loop letters knife semi terms out₀ tab₀ count n start₀ at₀ k₀ out tab start at k = length letters - at
@@ -32,7 +32,7 @@ these c = partsOf (c .before .before .before .before .before .before .before .be
 abbrev rest : tie.After-known-told Inv-loop μ-loop → List Range
 rest c = spread (c .before .before .before .before .before .before .before .before .args .semi) (setSites (c .before .before .before .before .before .before .before .before .args .knife) (c .before .place .given .0 .0) (c .before .place .given .0 .1 .0) (drop (c .before .place .given .0 .1 .0) (now (c .before .before .before .before .before .before .before .before .args .letters))))
 
-ahead : (c : tie.After-known-told Inv-loop μ-loop) → Ahead (now (c .before .before .before .before .before .before .before .before .args .letters)) (c .before .before .before .before .before .before .before .before .args .terms) (Ran (now (c .before .before .before .before .before .before .before .before .args .letters)) (c .before .before .before .before .before .before .before .before .args .terms) (spread (c .before .before .before .before .before .before .before .before .args .semi) (setSites (c .before .before .before .before .before .before .before .before .args .knife) 0 0 (now (c .before .before .before .before .before .before .before .before .args .letters)))) (c .before .before .before .before .before .before .before .before .args .count) (now (c .before .before .before .before .before .before .before .before .args .out)) (now (c .before .before .before .before .before .before .before .before .args .tab))) (these c ++ rest c) (c .before .before .before .before .loop .k) (c .before .before .before .before .loop .out) (c .before .before .before .before .loop .tab)
+ahead : (c : tie.After-known-told Inv-loop μ-loop) → Ahead 0 (now (c .before .before .before .before .before .before .before .before .args .letters)) (c .before .before .before .before .before .before .before .before .args .terms) (Ran 0 (now (c .before .before .before .before .before .before .before .before .args .letters)) (c .before .before .before .before .before .before .before .before .args .terms) (spread (c .before .before .before .before .before .before .before .before .args .semi) (setSites (c .before .before .before .before .before .before .before .before .args .knife) 0 0 (now (c .before .before .before .before .before .before .before .before .args .letters)))) (c .before .before .before .before .before .before .before .before .args .count) (now (c .before .before .before .before .before .before .before .before .args .out)) (now (c .before .before .before .before .before .before .before .before .args .tab))) (these c ++ rest c) (c .before .before .before .before .loop .k) (c .before .before .before .before .loop .out) (c .before .before .before .before .loop .tab)
 ahead c = rw (cut c .sites (c .before .before .before .before .loop .start)) at (c .before .before .before .before .loop .inv .5)
 
 loop-holds : tie.Need-loop-holds Inv-loop μ-loop

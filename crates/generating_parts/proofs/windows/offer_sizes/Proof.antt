@@ -16,8 +16,8 @@ use Rattle.generating_parts.proofs.windows.offer_sizes.Statement.{state
 use Rattle.generating_parts.proofs.windows.offer_sizes.Tie as tie
 
 abbrev Inv-loop : tie.InvT-loop
-Inv-loop letters knife missed semi terms out₀ tab₀ count k₀ m₀ left₀ out tab k m left = (m + left ≡ suc missed) × (length out ≡ length out₀) × (length tab ≡ length tab₀) × Held letters k out tab
-    × Ahead letters terms (Ran letters terms (spread semi (setWindows knife missed letters)) count out₀ tab₀) (spread semi (windowsFrom m left (setSites knife 0 0 letters))) k out tab
+Inv-loop letters knife missed semi terms out₀ tab₀ count k₀ m₀ left₀ out tab k m left = (m + left ≡ suc missed) × (length out ≡ length out₀) × (length tab ≡ length tab₀) × Held 0 letters k out tab
+    × Ahead 0 letters terms (Ran 0 letters terms (spread semi (setWindows knife missed letters)) count out₀ tab₀) (spread semi (windowsFrom m left (setSites knife 0 0 letters))) k out tab
 
 abbrev μ-loop : tie.MeasureT-loop
 μ-loop letters knife missed semi terms out₀ tab₀ count k₀ m₀ left₀ out tab k m left = left
@@ -29,7 +29,7 @@ these c = spread (c .before .before .before .before .before .args .semi) (window
 abbrev rest : tie.In-loop Inv-loop μ-loop → List Range
 rest c = spread (c .before .before .before .before .before .args .semi) (windowsFrom (c .before .loop .m + 1) (c .before .loop .left - 1) (setSites (c .before .before .before .before .before .args .knife) 0 0 (now (c .before .before .before .before .before .args .letters))))
 
-ahead : (c : tie.In-loop Inv-loop μ-loop) → Ahead (now (c .before .before .before .before .before .args .letters)) (c .before .before .before .before .before .args .terms) (Ran (now (c .before .before .before .before .before .args .letters)) (c .before .before .before .before .before .args .terms) (spread (c .before .before .before .before .before .args .semi) (setWindows (c .before .before .before .before .before .args .knife) (c .before .before .before .before .before .args .missed) (now (c .before .before .before .before .before .args .letters)))) (c .before .before .before .before .before .args .count) (now (c .before .before .before .before .before .args .out)) (now (c .before .before .before .before .before .args .tab))) (these c ++ rest c) (c .before .loop .k) (c .before .loop .out) (c .before .loop .tab)
+ahead : (c : tie.In-loop Inv-loop μ-loop) → Ahead 0 (now (c .before .before .before .before .before .args .letters)) (c .before .before .before .before .before .args .terms) (Ran 0 (now (c .before .before .before .before .before .args .letters)) (c .before .before .before .before .before .args .terms) (spread (c .before .before .before .before .before .args .semi) (setWindows (c .before .before .before .before .before .args .knife) (c .before .before .before .before .before .args .missed) (now (c .before .before .before .before .before .args .letters)))) (c .before .before .before .before .before .args .count) (now (c .before .before .before .before .before .args .out)) (now (c .before .before .before .before .before .args .tab))) (these c ++ rest c) (c .before .loop .k) (c .before .loop .out) (c .before .loop .tab)
 ahead c =
     let a = c .before .before .before .before .before .args in
     let l = c .before .loop in

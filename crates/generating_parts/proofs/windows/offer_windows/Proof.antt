@@ -27,8 +27,8 @@ abbrev μ-skip : tie.MeasureT-skip
 μ-skip letters knife missed semi terms out tab count n right₀ ahead₀ right ahead = ahead
 
 abbrev Inv-slide : tie.InvT-slide
-Inv-slide letters knife missed semi terms out₀ tab₀ count n right₀ ahead start₀ left₀ k₀ out tab right start left k = (start ≤ left) × (left ≤ right) × (right ≤ length letters) × (length out ≡ length out₀) × (length tab ≡ length tab₀) × Held letters k out tab
-    × ((x : ℕ) × Ahead letters terms (Ran letters terms (spread semi (windows missed (setSites knife 0 0 letters))) count out₀ tab₀)
+Inv-slide letters knife missed semi terms out₀ tab₀ count n right₀ ahead start₀ left₀ k₀ out tab right start left k = (start ≤ left) × (left ≤ right) × (right ≤ length letters) × (length out ≡ length out₀) × (length tab ≡ length tab₀) × Held 0 letters k out tab
+    × ((x : ℕ) × Ahead 0 letters terms (Ran 0 letters terms (spread semi (windows missed (setSites knife 0 0 letters))) count out₀ tab₀)
     (spread semi (zip missed (setSites knife start left (drop left letters)) (setSites knife x right (drop right letters)))) k out tab)
 
 abbrev μ-slide : tie.MeasureT-slide
@@ -59,19 +59,19 @@ lefts c = tailOf (setSites (c .before .before .before .before .before .before .b
 
 -- what is to be shown in the end
 abbrev Whole : (c : tie.Start Inv-skip μ-skip Inv-slide μ-slide) → Step → List ℕ → List ℕ → Type 0
-Whole c = Ran (now (c .args .letters)) (c .args .terms) (spread (c .args .semi) (windows (c .args .missed) (setSites (c .args .knife) 0 0 (now (c .args .letters))))) (c .args .count) (now (c .args .out)) (now (c .args .tab))
+Whole c = Ran 0 (now (c .args .letters)) (c .args .terms) (spread (c .args .semi) (windows (c .args .missed) (setSites (c .args .knife) 0 0 (now (c .args .letters))))) (c .args .count) (now (c .args .out)) (now (c .args .tab))
 
-ahead : (c : tie.After-known-told2 Inv-skip μ-skip Inv-slide μ-slide) → Ahead (now (c .before .before .before .before .before .before .before .before .before .before .args .letters)) (c .before .before .before .before .before .before .before .before .before .before .args .terms) (Whole (c .before .before .before .before .before .before .before .before .before .before)) (these c ++ others c (lefts c)) (c .before .before .before .before .slide .k) (c .before .before .before .before .slide .out) (c .before .before .before .before .slide .tab)
+ahead : (c : tie.After-known-told2 Inv-skip μ-skip Inv-slide μ-slide) → Ahead 0 (now (c .before .before .before .before .before .before .before .before .before .before .args .letters)) (c .before .before .before .before .before .before .before .before .before .before .args .terms) (Whole (c .before .before .before .before .before .before .before .before .before .before)) (these c ++ others c (lefts c)) (c .before .before .before .before .slide .k) (c .before .before .before .before .slide .out) (c .before .before .before .before .slide .tab)
 ahead c =
     let a = c .before .before .before .before .before .before .before .before .before .before .args in
     let l = c .before .before .before .before .slide in
     rw (window-on (a .knife) (now (a .letters)) (a .missed) (l .start) (l .left) (l .inv .6 .0) (l .right) (omega arith) (place c) (next c) (found c)) at (l .inv .6 .1)
 
 -- the first window was kept or passed over
-after-window : (c : tie.After-known-told3 Inv-skip μ-skip Inv-slide μ-slide) → Ran (now (c .before .before .before .before .before .before .before .before .before .before .before .before .before .before .before .before .before .before .before .before .args .letters)) (c .before .before .before .before .before .before .before .before .before .before .before .before .before .before .before .before .before .before .before .before .args .terms) (these (c .before .before .before .before .before .before .before .before .before .before)) (c .before .before .before .before .before .before .before .before .before .before .before .before .before .before .slide .k) (c .before .before .before .before .before .before .before .before .before .before .before .before .before .before .slide .out) (c .before .before .before .before .before .before .before .before .before .before .before .before .before .before .slide .tab) (Kept (c .before .c .given .0 .0)) (c .before .before .before .before .before .before .before .offer-site2 .last .1 .1 .1 .1 .1 .1 .0) (c .before .before .before .before .before .before .before .offer-site2 .last .1 .1 .1 .1 .1 .1 .1 .0)
+after-window : (c : tie.After-known-told3 Inv-skip μ-skip Inv-slide μ-slide) → Ran 0 (now (c .before .before .before .before .before .before .before .before .before .before .before .before .before .before .before .before .before .before .before .before .args .letters)) (c .before .before .before .before .before .before .before .before .before .before .before .before .before .before .before .before .before .before .before .before .args .terms) (these (c .before .before .before .before .before .before .before .before .before .before)) (c .before .before .before .before .before .before .before .before .before .before .before .before .before .before .slide .k) (c .before .before .before .before .before .before .before .before .before .before .before .before .before .before .slide .out) (c .before .before .before .before .before .before .before .before .before .before .before .before .before .before .slide .tab) (Kept (c .before .c .given .0 .0)) (c .before .before .before .before .before .before .before .offer-site2 .last .1 .1 .1 .1 .1 .1 .0) (c .before .before .before .before .before .before .before .offer-site2 .last .1 .1 .1 .1 .1 .1 .1 .0)
 after-window c = rw (c .before .c .given .1) at (c .before .before .before .before .before .before .before .offer-site2 .ensures)
 
-then : (c : tie.After-known-told3 Inv-skip μ-skip Inv-slide μ-slide) → Ahead (now (c .before .before .before .before .before .before .before .before .before .before .before .before .before .before .before .before .before .before .before .before .args .letters)) (c .before .before .before .before .before .before .before .before .before .before .before .before .before .before .before .before .before .before .before .before .args .terms) (Whole (c .before .before .before .before .before .before .before .before .before .before .before .before .before .before .before .before .before .before .before .before)) (others (c .before .before .before .before .before .before .before .before .before .before) (lefts (c .before .before .before .before .before .before .before .before .before .before))) (c .before .c .given .0 .0) (c .before .before .before .before .before .before .before .offer-site2 .last .1 .1 .1 .1 .1 .1 .0) (c .before .before .before .before .before .before .before .offer-site2 .last .1 .1 .1 .1 .1 .1 .1 .0)
+then : (c : tie.After-known-told3 Inv-skip μ-skip Inv-slide μ-slide) → Ahead 0 (now (c .before .before .before .before .before .before .before .before .before .before .before .before .before .before .before .before .before .before .before .before .args .letters)) (c .before .before .before .before .before .before .before .before .before .before .before .before .before .before .before .before .before .before .before .before .args .terms) (Whole (c .before .before .before .before .before .before .before .before .before .before .before .before .before .before .before .before .before .before .before .before)) (others (c .before .before .before .before .before .before .before .before .before .before) (lefts (c .before .before .before .before .before .before .before .before .before .before))) (c .before .c .given .0 .0) (c .before .before .before .before .before .before .before .offer-site2 .last .1 .1 .1 .1 .1 .1 .0) (c .before .before .before .before .before .before .before .offer-site2 .last .1 .1 .1 .1 .1 .1 .1 .0)
 then c = ahead-on (these (c .before .before .before .before .before .before .before .before .before .before)) (others (c .before .before .before .before .before .before .before .before .before .before) (lefts (c .before .before .before .before .before .before .before .before .before .before))) (ahead (c .before .before .before .before .before .before .before .before .before .before)) (after-window c)
 
 skip-holds : tie.Need-skip-holds Inv-skip μ-skip Inv-slide μ-slide

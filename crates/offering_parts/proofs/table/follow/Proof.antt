@@ -12,10 +12,10 @@ use Rattle.offering_parts.proofs.table.follow.Statement.{statement}
 use Rattle.offering_parts.proofs.table.follow.Tie as tie
 
 abbrev Inv-loop : tie.InvT-loop
-Inv-loop letters new out count first t₀ t = (r : Probe) → Looked letters (rangesIn count out) (linksIn count out) new t r → Looked letters (rangesIn count out) (linksIn count out) new first r
+Inv-loop letters new out count past first t₀ t = (r : Probe) → Looked letters past (rangesIn count out) (linksIn count out) new t r → Looked letters past (rangesIn count out) (linksIn count out) new first r
 
 abbrev μ-loop : tie.MeasureT-loop
-μ-loop letters new out count first t₀ t = t
+μ-loop letters new out count past first t₀ t = t
 
 loop-holds : tie.Need-loop-holds Inv-loop μ-loop
 loop-holds c = λ r x. x
@@ -29,7 +29,7 @@ is-record-requires c κs = search needs
 returns : tie.Need-returns Inv-loop μ-loop
 returns c = let a = c .before .before .before .before .before .before .before .args in
     let l = c .before .before .before .loop in
-    l .inv Same (looked-same (now (a .letters)) (rangesIn (a .count) (now (a .out))) (linksIn (a .count) (now (a .out))) (now (a .new)) (l .t) (omega arith) (sym (c .before .is-record .ensures) ∙ c .if1 .taken))
+    l .inv Same (looked-same (now (a .letters)) (a .past) (rangesIn (a .count) (now (a .out))) (linksIn (a .count) (now (a .out))) (now (a .new)) (l .t) (omega arith) (sym (c .before .is-record .ensures) ∙ c .if1 .taken))
 
 sub-link : tie.Need-sub-link Inv-loop μ-loop
 sub-link c = omega arith
@@ -38,7 +38,7 @@ link-requires : tie.Need-link-requires Inv-loop μ-loop
 link-requires c κs = search needs
 
 returns-2 : tie.Need-returns-2 Inv-loop μ-loop
-returns-2 c = let a = c .before .before .before .before .before .before .before .before .before .args in c .before .before .before .before .before .loop .inv Unknown (looked-up (now (a .letters)) (rangesIn (a .count) (now (a .out))) (linksIn (a .count) (now (a .out))) (now (a .new)) (c .before .before .before .before .before .loop .t))
+returns-2 c = let a = c .before .before .before .before .before .before .before .before .before .args in c .before .before .before .before .before .loop .inv Unknown (looked-up (now (a .letters)) (a .past) (rangesIn (a .count) (now (a .out))) (linksIn (a .count) (now (a .out))) (now (a .new)) (c .before .before .before .before .before .loop .t))
 
 loop-less : tie.Need-loop-less Inv-loop μ-loop
 loop-less c = omega arith
@@ -46,10 +46,10 @@ loop-less c = omega arith
 loop-again : tie.Need-loop-again Inv-loop μ-loop
 loop-again c = λ r x. let a = c .before .before .before .before .before .before .before .before .before .args in
     let l = c .before .before .before .before .before .loop in
-    l .inv r (looked-on (now (a .letters)) (rangesIn (a .count) (now (a .out))) (linksIn (a .count) (now (a .out))) (now (a .new)) (l .t) (omega arith) (sym (c .before .before .before .is-record .ensures) ∙ c .before .before .if1 .left) (c .before .link .result) (c .before .link .ensures) r x)
+    l .inv r (looked-on (now (a .letters)) (a .past) (rangesIn (a .count) (now (a .out))) (linksIn (a .count) (now (a .out))) (now (a .new)) (l .t) (omega arith) (sym (c .before .before .before .is-record .ensures) ∙ c .before .before .if1 .left) (c .before .link .result) (c .before .link .ensures) r x)
 
 returns-3 : tie.Need-returns-3 Inv-loop μ-loop
-returns-3 c = let a = c .before .before .before .before .before .args in c .before .loop .inv Free (looked-free (now (a .letters)) (rangesIn (a .count) (now (a .out))) (linksIn (a .count) (now (a .out))) (now (a .new)) (c .before .loop .t) (omega arith))
+returns-3 c = let a = c .before .before .before .before .before .args in c .before .loop .inv Free (looked-free (now (a .letters)) (a .past) (rangesIn (a .count) (now (a .out))) (linksIn (a .count) (now (a .out))) (now (a .new)) (c .before .loop .t) (omega arith))
 
 pub follow-spec : {M : Type 1} → statement M
 follow-spec =

@@ -31,7 +31,7 @@ returns-2 c = let x = c .before .before .follow .ensures in sym (c .before .befo
 returns-3 : tie.Need-returns-3
 returns-3 c = let a = c .before .before .before .before .before .before .args in
     let x = c .before .before .follow .ensures in
-    sym (look-hit (now (a .letters)) (rangesIn (a .count) (now (a .out))) (linksIn (a .count) (now (a .out))) (now (a .new)) (x .0) (a .first) (sym (x .1) ∙ c .enum-told3 .given .1))
+    sym (look-hit (now (a .letters)) (a .past) (rangesIn (a .count) (now (a .out))) (linksIn (a .count) (now (a .out))) (now (a .new)) (x .0) (a .first) (sym (x .1) ∙ c .enum-told3 .given .1))
 
 pub seen-from-spec : {M : Type 1} → statement M
 seen-from-spec =

@@ -1,4 +1,4 @@
--- `offer` meets its contract: one law for each way out. Assumes nothing.
+-- `offer_past` meets its contract: one law for each way out. Assumes nothing.
 use native.Mathlib.Omega.{arith}
 use Prim.Native.Nat.{_-_}
 use mathlib.Core.Path.{_≡_, sym, _∙_}
@@ -12,8 +12,8 @@ use Rattle.offering_parts.specs.Buffer.{rangesIn}
 use Rattle.offering_parts.specs.TableLaws.{slot-lt}
 use Rattle.offering_parts.specs.StepLaws.{ran-unwanted, ran-no-room, ran-kept}
 use borrow.Author.Needs.{needs}
-use Rattle.offering_parts.proofs.offering.offer.Statement.{statement}
-use Rattle.offering_parts.proofs.offering.offer.Tie as tie
+use Rattle.offering_parts.proofs.offering.offer_past.Statement.{statement}
+use Rattle.offering_parts.proofs.offering.offer_past.Tie as tie
 
 -- the range, and its letters
 abbrev site : tie.Start → Range
@@ -37,7 +37,7 @@ length-within-requires c κs = search needs
 
 returns : tie.Need-returns
 returns c = let s = c .before .before .before .before .before in
-    ran-unwanted (now (s .args .letters)) (s .args .terms) (site s) (s .args .count) (now (s .args .out)) (now (s .args .tab)) (s .pre .0)
+    ran-unwanted (s .args .past) (now (s .args .letters)) (s .args .terms) (site s) (s .args .count) (now (s .args .out)) (now (s .args .tab)) (s .pre .1)
     (let w : within (s .args .terms .minimum) (s .args .terms .maximum) (s .args .e - s .args .a) ≡ false = sym (c .before .length-within .ensures) ∙ not-true _ (c .if1 .taken) in rw w)
 
 sub-slot : tie.Need-sub-slot
@@ -53,7 +53,7 @@ slot-requires : tie.Need-slot-requires
 slot-requires c κs = search needs
 
 head-requires : tie.Need-head-requires
-head-requires c κs = omega (arith, slot-lt (letters-of (c .before .before .before .before .before .before .before .before .before)) (now (c .before .before .before .before .before .before .before .before .before .args .tab)) (c .before .before .before .before .before .before .before .before .before .pre .0 .covers .some), c .before .slot .ensures)
+head-requires c κs = omega (arith, slot-lt (letters-of (c .before .before .before .before .before .before .before .before .before)) (now (c .before .before .before .before .before .before .before .before .before .args .tab)) (c .before .before .before .before .before .before .before .before .before .pre .1 .covers .some), c .before .slot .ensures)
 
 cast-start : tie.Need-cast-start
 cast-start c = search needs
@@ -68,7 +68,7 @@ part-seen-from-end : tie.Need-part-seen-from-end
 part-seen-from-end c = search needs
 
 seen-from-requires : tie.Need-seen-from-requires
-seen-from-requires c κs = let s = c .before .before .before .before .before .before .before .before .before .before .before .before in (s .pre .0 .fits, s .pre .0 .inside, λ left f. s .pre .0 .covers .told (letters-of s) left (rw (c .before .before .head .ensures, c .before .before .before .before .slot .ensures) at f))
+seen-from-requires c κs = let s = c .before .before .before .before .before .before .before .before .before .before .before .before in (s .pre .1 .fits, s .pre .1 .inside, λ left f. s .pre .1 .covers .told (letters-of s) (s .pre .0) left (rw (c .before .before .head .ensures, c .before .before .before .before .slot .ensures) at f))
 
 same-length : tie.Need-same-length
 same-length c = search needs
@@ -78,7 +78,7 @@ same-length-2 c = search needs
 
 returns-2 : tie.Need-returns-2
 returns-2 c = let s = c .before .before .before .before .before .before .before .before .before .before .before .before .before .before in
-    ran-unwanted (now (s .args .letters)) (s .args .terms) (site s) (s .args .count) (now (s .args .out)) (now (s .args .tab)) (s .pre .0)
+    ran-unwanted (s .args .past) (now (s .args .letters)) (s .args .terms) (site s) (s .args .count) (now (s .args .out)) (now (s .args .tab)) (s .pre .1)
     (rw (fits (c .before .before .before .before .before .before .before .before .before), sym (c .before .seen-from .ensures) ∙ c .if2 .taken))
 
 room-for-requires : tie.Need-room-for-requires
@@ -92,7 +92,7 @@ same-length-4 c = search needs
 
 returns-3 : tie.Need-returns-3
 returns-3 c = let s = c .before .before .before .before .before .before .before .before .before .before .before .before .before .before .before .before in
-    ran-no-room (now (s .args .letters)) (s .args .terms) (site s) (s .args .count) (now (s .args .out)) (now (s .args .tab)) (s .pre .0) (new (c .before .before)) (omega arith)
+    ran-no-room (s .args .past) (now (s .args .letters)) (s .args .terms) (site s) (s .args .count) (now (s .args .out)) (now (s .args .tab)) (s .pre .1) (new (c .before .before)) (omega arith)
 
 mul-put-record : tie.Need-mul-put-record
 mul-put-record c = search needs
@@ -107,7 +107,7 @@ cast-number : tie.Need-cast-number
 cast-number c = search needs
 
 point-requires : tie.Need-point-requires
-point-requires c κs = omega (arith, slot-lt (letters-of (c .before .before .before .before .before .before .before .before .before .before .before .before .before .before .before .before .before .before .before .before .before)) (now (c .before .before .before .before .before .before .before .before .before .before .before .before .before .before .before .before .before .before .before .before .before .args .tab)) (c .before .before .before .before .before .before .before .before .before .before .before .before .before .before .before .before .before .before .before .before .before .pre .0 .covers .some), c .before .before .before .before .before .before .before .before .before .before .before .before .before .slot .ensures)
+point-requires c κs = omega (arith, slot-lt (letters-of (c .before .before .before .before .before .before .before .before .before .before .before .before .before .before .before .before .before .before .before .before .before)) (now (c .before .before .before .before .before .before .before .before .before .before .before .before .before .before .before .before .before .before .before .before .before .args .tab)) (c .before .before .before .before .before .before .before .before .before .before .before .before .before .before .before .before .before .before .before .before .before .pre .1 .covers .some), c .before .before .before .before .before .before .before .before .before .before .before .before .before .slot .ensures)
 
 same-length-5 : tie.Need-same-length-5
 same-length-5 c = search needs
@@ -118,11 +118,11 @@ same-length-6 c = search needs
 returns-4 : tie.Need-returns-4
 returns-4 c = let s = c .before .before .before .before .before .before .before .before .before .before .before .before .before .before .before .before .before .before .before .before .before .before .before .before in
     rw (c .before .before .before .before .before .before .put-record .ensures, c .before .before .point .ensures)
-    (ran-kept (now (s .args .letters)) (s .args .terms) (site s) (s .args .count) (now (s .args .out)) (now (s .args .tab)) (s .pre .0) (new (c .before .before .before .before .before .before .before .before .before .before)) (omega arith) (s .pre .1) (s .pre .2)
+    (ran-kept (s .args .past) (now (s .args .letters)) (s .args .terms) (site s) (s .args .count) (now (s .args .out)) (now (s .args .tab)) (s .pre .1) (new (c .before .before .before .before .before .before .before .before .before .before)) (omega arith) (s .pre .2) (s .pre .3)
     (c .before .before .before .before .before .before .before .before .before .before .before .before .before .before .before .before .slot .result) (c .before .before .before .before .before .before .before .before .before .before .before .before .before .before .head .result) (c .before .before .before .before .before .before .before .before .before .before .before .before .before .before .before .before .slot .ensures) (c .before .before .before .before .before .before .before .before .before .before .before .before .before .before .head .ensures) (omega arith))
 
-pub offer-spec : {M : Type 1} → statement M
-offer-spec =
+pub offer-past-spec : {M : Type 1} → statement M
+offer-past-spec =
     tie.close
     (tie.spec
     sub-length-within
