@@ -10,7 +10,7 @@ use Rattle.records.specs.declared.refusal.Checked.{Checked}
 use Rattle.records.specs.declared.refusal.Checked.the-variants.{Passed, Refused as RefusedBy}
 use Rattle.records.specs.Le.{le, numberAt}
 use Rattle.records.specs.Outcome.{Outcome}
-use Rattle.records.specs.Cases.{Case, Hold}
+use Rattle.records.specs.Cases.{Case, Hold, counted, refused, numbers, told}
 use Rattle.records.specs.Room.{written}
 use Rattle.records.specs.Search.{seek}
 use Rattle.letters.specs.declared.letter_set.LetterSet.{LetterSet}
@@ -22,24 +22,8 @@ use Rattle.cutting_parts.specs.declared.enzyme.Kind.the-variants.{None, End, Se
 use Rattle.cutting_parts.specs.declared.enzyme.Enzyme.{Enzyme}
 use Rattle.offering_parts.specs.Digests.{positionOf, recordOf}
 use Rattle.enzyme.specs.declared.settings.Settings.{Settings}
-use Rattle.records.specs.declared.refusal.Counted.{Counted}
-use Rattle.records.specs.declared.refusal.Counted.the-variants.{Count, Refused}
 use Rattle.enzyme.specs.Digestion.{digestOutcome}
 use Rattle.enzyme.specs.Reversal.{reverseOutcome, reverseRecordOutcome, lettersOutcome}
-
--- refusal 0 is none
-counted : ℕ → List ℕ
-counted n = 0 ∷ 0 ∷ n ∷ []
-
-refused : ℕ → ℕ → List ℕ
-refused number place = number ∷ place ∷ []
-
-numbers : Counted → List ℕ
-numbers (Count n) = counted n
-numbers (Refused why) = refused (numberOf why) (placeOf why)
-
-told : Outcome Counted → List (List ℕ)
-told o = numbers (o .answer) ∷ o .lent
 
 set : ℕ → LetterSet
 set mask = record { mask = mask }
@@ -149,5 +133,5 @@ pub table : List Case
 table = digestCases ++ reversalCases
 
 pub cases : Hold table
-unfolding isLetter bit has proper subset firstBad seek numberAt positionOf recordOf flatten written counted refused passed numbers told toldChecked set enzyme settings row digesting digestCases reversing marking spelling reversalCases table
+unfolding isLetter bit has proper subset firstBad seek numberAt positionOf recordOf flatten written passed toldChecked set enzyme settings row digesting digestCases reversing marking spelling reversalCases table
 cases = refl

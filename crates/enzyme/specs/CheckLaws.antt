@@ -1,7 +1,7 @@
--- What is known where the tests passed. Assumes nothing.
+-- What is known where a test failed or all passed. Assumes nothing.
 use Prim.Native.Nat.{ℕ, _≤_}
-use mathlib.Core.Path.{_≡_}
-use mathlib.Core.Bool.{Bool, true, false, cond, _||_}
+use mathlib.Core.Path.{_≡_, refl, sym}
+use mathlib.Core.Bool.{Bool, true, false, cond, _||_, true≢false}
 use mathlib.Core.List.{List}
 use native.Mathlib.Omega.{arith}
 use lib.ListN.{length}
@@ -15,6 +15,14 @@ use Rattle.letters.specs.declared.letter_set.LetterSet.{LetterSet}
 use Rattle.cutting_parts.specs.declared.enzyme.Enzyme.{Enzyme}
 use Rattle.enzyme.specs.declared.settings.Settings.{Settings}
 use Rattle.enzyme.specs.Digestion.{tooLarge, tested}
+
+first-refused : (t : Bool) (rest : Checked) → t ≡ true → Refused Size ≡ cond t (Refused Size) rest
+first-refused true rest e = refl
+first-refused false rest e = absurd (true≢false (sym e))
+
+-- a size above its limit is refused before anything else
+pub refused-size : (s : List ℕ) (alphabet : LetterSet) (e : Enzyme) (st : Settings) → tooLarge s st ≡ true → Refused Size ≡ tested s alphabet e st
+refused-size s alphabet e st t = first-refused (tooLarge s st) _ t
 
 first-passed : (t : Bool) (rest : Checked) → cond t (Refused Size) rest ≡ Passed → t ≡ false
 first-passed true rest e = let z : _≡_ {A = ℕ} 0 1 = cc in absurd (omega arith)

@@ -13,6 +13,7 @@ use Rattle.records.specs.Le.{numberAt}
 use Rattle.records.specs.Outcome.{Outcome, outcome, unlessRefused, only}
 use Rattle.records.specs.Room.{fits, fitted, bytewise}
 use Rattle.letters.specs.Letters.{firstBad}
+use Rattle.offering_parts.specs.Digests.{goodRecord}
 use Rattle.letters.specs.Reversal.{reversed, lettersOf}
 use Rattle.records.specs.declared.refusal.Counted.{Counted}
 use Rattle.records.specs.declared.refusal.Counted.the-variants.{Count, Refused as No}
@@ -29,10 +30,6 @@ abbrev pub reverseOutcome : List ℕ → Outcome Checked
 reverseOutcome s = unlessRefused (stretchTested s) Refused (s ∷ []) (outcome Passed (reversed s ∷ []))
 
 -- ---- of a record
-
--- start below end, end within the longest protein there is, missed to 16, flags 0 or 1, position to 3
-abbrev pub goodRecord : List ℕ → Bool
-goodRecord r = ltb (numberAt 4 r 0) (numberAt 4 r 4) && leb (numberAt 4 r 4) 65536 && leb (getD r 8 0) 16 && leb (getD r 9 0) 1 && leb (getD r 10 0) 3 && leb (getD r 11 0) 1
 
 -- 8: not the 16 bytes of one record; then 9
 abbrev pub recordTested : List ℕ → Checked

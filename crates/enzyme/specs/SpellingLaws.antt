@@ -19,7 +19,8 @@ use Rattle.records.specs.RoomLaws.{Sized, Standing, standing-none, standing-mor
 use Rattle.records.specs.Tests.{both}
 use Rattle.letters.specs.Letters.{firstBad}
 use Rattle.records.specs.declared.refusal.Counted.the-variants.{Count, Refused}
-use Rattle.enzyme.specs.Reversal.{goodRecord, spellingTested, spelled}
+use Rattle.offering_parts.specs.Digests.{goodRecord}
+use Rattle.enzyme.specs.Reversal.{spellingTested, spelled}
 
 -- ---- the letters written one after the other
 

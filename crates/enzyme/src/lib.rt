@@ -2,7 +2,6 @@
 mod checks;
 mod choosing;
 mod digesting;
-mod fields;
 mod reversal;
 mod settings;
 mod spelling;
@@ -12,6 +11,7 @@ pub use cutting_parts::Enzyme;
 pub use cutting_parts::Kind;
 pub use cutting_parts::Side;
 pub use digesting::digest;
+pub use gathering::group_digests;
 pub use reversal::reverse_letters;
 pub use reversal::reverse_record;
 pub use settings::Settings;

@@ -1,5 +1,5 @@
 // Reversal of letters and of a digest record.
-use crate::fields::is_good;
+use offering_parts::is_good;
 use records::Checked;
 use records::Refusal;
 ghost use mathlib.Core.Path.{_≡_};

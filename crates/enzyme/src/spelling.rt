@@ -1,5 +1,5 @@
 // The letters of a digest record.
-use crate::fields::is_good;
+use offering_parts::is_good;
 use records::Checked;
 use records::Counted;
 use records::Refusal;

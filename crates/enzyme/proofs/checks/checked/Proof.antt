@@ -6,6 +6,7 @@ use lib.Dec.{ltb}
 use denote.Ref.{now}
 use borrow.Author.Tests.{lt-ltb, le-ltb}
 use Rattle.letters.specs.Letters.{firstBad}
+use Rattle.enzyme.specs.CheckLaws.{refused-size}
 use borrow.Author.Needs.{needs}
 use Rattle.enzyme.proofs.checks.checked.Statement.{statement}
 use Rattle.enzyme.proofs.checks.checked.Tie as tie
@@ -14,7 +15,8 @@ too-large-requires : tie.Need-too-large-requires
 too-large-requires c κs = search needs
 
 returns : tie.Need-returns
-returns c = rw (sym (c .before .too-large .ensures) ∙ c .if1 .taken)
+returns c = let a = c .before .before .before .args in
+    refused-size (now (a .letters)) (a .alphabet) (a .enzyme) (a .settings) (sym (c .before .too-large .ensures) ∙ c .if1 .taken)
 
 bad-sets-requires : tie.Need-bad-sets-requires
 bad-sets-requires c κs = search needs

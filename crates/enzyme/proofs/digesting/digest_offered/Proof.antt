@@ -31,10 +31,10 @@ returns c = let a = c .before .before .before .before .before .before .before .b
     rw (c .before .before .seal-all .ensures) (ap ended (x .view) ∙ run-all (a .enzyme) (a .missed) (a .terms) (now (a .letters)) (now (a .out)) (c .before .before .before .before .before .before .before .before .before .before .before .before .before .before .before .before .pre .0))
 
 seal-requires : tie.Need-seal-requires
-seal-requires c κs = let x = rw (c .before .before .k .given .1) at (c .before .before .before .before .before .before .before .before .offer-all .ensures) in x .next .fits
+seal-requires c κs = let x = rw (c .before .before .k .given .1) at (c .before .before .before .before .before .before .before .before .offer-all .ensures) in x .next .1 .fits
 
 cast-count : tie.Need-cast-count
-cast-count c = let x = rw (c .before .before .before .before .before .k .given .1) at (c .before .before .before .before .before .before .before .before .before .before .before .offer-all .ensures) in omega (arith, x .next .capped)
+cast-count c = let x = rw (c .before .before .before .before .before .k .given .1) at (c .before .before .before .before .before .before .before .before .before .before .before .offer-all .ensures) in omega (arith, x .next .1 .capped)
 
 same-length-3 : tie.Need-same-length-3
 same-length-3 c = search needs
