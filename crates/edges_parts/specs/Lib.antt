@@ -1,0 +1,7 @@
+-- What a reader has to believe: Edges.
+pub mod Edges
+pub mod RangeLaws
+pub mod EdgeLaws
+pub mod TableLaws
+pub mod Chains
+pub mod ChainLaws
