@@ -1,0 +1,3 @@
+pub mod TableLaws
+pub mod StepLaws
+pub mod PrepareLaws
