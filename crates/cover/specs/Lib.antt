@@ -1,0 +1,9 @@
+-- What a reader has to believe: Covering and Updating, and below them Cover, Update and Marks of cover_rules and Edges of edges_parts.
+-- Theorems says what the cover and the update achieve.
+pub mod Covering
+pub mod Updating
+pub mod Cases
+pub mod CoveringLaws
+pub mod HandingLaws
+pub mod UpdatingLaws
+pub mod Theorems

@@ -1,0 +1,62 @@
+-- What a call of `update` answers, and what its work memory and its marks hold then.
+use Prim.Native.Nat.{ℕ, _+_, _/_, _%_}
+use mathlib.Core.Path.{_≡_}
+use mathlib.Core.Bool.{Bool, cond, not, _||_}
+use mathlib.Core.List.{List, [], _∷_}
+use lib.ListN.{length, getD}
+use lib.Dec.{eqb, ltb}
+use Rattle.records.specs.declared.refusal.Refusal.the-variants.{Size, Length, Field, Work}
+use Rattle.records.specs.declared.refusal.Checked.{Checked}
+use Rattle.records.specs.declared.refusal.Checked.the-variants.{Passed, Refused}
+use Rattle.records.specs.declared.refusal.Counted.{Counted}
+use Rattle.records.specs.declared.refusal.Counted.the-variants.{Refused as No}
+use Rattle.records.specs.Outcome.{Outcome, outcome, unlessRefused, only}
+use Rattle.records.specs.Search.{seek}
+use Rattle.cover_rules.specs.Marks.{workNeeded, handed}
+use Rattle.cover_rules.specs.Update.{updateList}
+use Rattle.edges_parts.specs.Edges.{edgesOf, firstBadEdge}
+use Rattle.cover.specs.Covering.{tooLarge}
+
+-- 1: the limits of the cover, for either list of edges
+abbrev pub eitherTooLarge : ℕ → ℕ → ℕ → ℕ → Bool
+eitherTooLarge on nn groups metas = tooLarge on groups metas || tooLarge nn groups metas
+
+-- 8: either list not whole records, or not a given mark for each group
+abbrev pub lengthsWrong : List ℕ → List ℕ → ℕ → List ℕ → Bool
+lengthsWrong old new groups given = not (eqb (length old % 8) 0) || not (eqb (length new % 8) 0) || not (eqb (length given) groups)
+
+-- 9 of the given marks: the first that is not 0 or 1, or their number
+abbrev pub badMark : List ℕ → ℕ → Bool
+badMark given i = ltb 1 (getD given i 0)
+
+unfoldable pub firstBadMark : List ℕ → ℕ
+firstBadMark given = seek (badMark given) 0 (length given)
+
+-- 9, list by list: at the first bad edge of the old ones, of the new ones, at the first bad mark
+abbrev pub contentsTested : List ℕ → List ℕ → ℕ → ℕ → List ℕ → Checked
+contentsTested old new groups metas given =
+    cond (ltb (firstBadEdge old groups metas (length old / 8)) (length old / 8)) (Refused (Field (firstBadEdge old groups metas (length old / 8))))
+    (cond (ltb (firstBadEdge new groups metas (length new / 8)) (length new / 8)) (Refused (Field (firstBadEdge new groups metas (length new / 8))))
+    (cond (ltb (firstBadMark given) (length given)) (Refused (Field (firstBadMark given))) Passed))
+
+-- 1, then 8, then 10 for the old and new edges together, then 9
+abbrev pub updateTested : List ℕ → List ℕ → ℕ → ℕ → List ℕ → ℕ → Checked
+updateTested old new groups metas given words =
+    cond (eitherTooLarge (length old / 8) (length new / 8) groups metas) (Refused Size)
+    (cond (lengthsWrong old new groups given) (Refused Length)
+    (cond (ltb words (workNeeded groups metas (length old / 8 + length new / 8))) (Refused Work)
+    (contentsTested old new groups metas given)))
+
+-- groups of touched parts get the mark of the new edges' cover, every other group keeps the mark given
+abbrev pub updateMarks : List ℕ → List ℕ → ℕ → List ℕ → List ℕ
+updateMarks old new groups given = updateList groups (edgesOf old) (edgesOf new) given
+
+-- then 11, in `handed`
+abbrev pub updateOutcome : List ℕ → List ℕ → ℕ → ℕ → List ℕ → List ℕ → List ℕ → Outcome Counted
+updateOutcome old new groups metas given work marks =
+    unlessRefused (updateTested old new groups metas given (length work)) No (work ∷ marks ∷ []) (handed work marks (updateMarks old new groups given))
+
+-- no second answer and no second contents meet the contract of `update`
+pub update-only : (old new : List ℕ) (groups metas : ℕ) (given work marks : List ℕ) (r q : Counted) (v w k l : List ℕ)
+    → outcome r (v ∷ k ∷ []) ≡ updateOutcome old new groups metas given work marks → outcome q (w ∷ l ∷ []) ≡ updateOutcome old new groups metas given work marks → (r ≡ q) × (v ∷ k ∷ [] ≡ w ∷ l ∷ [])
+update-only old new groups metas given work marks r q v w k l = only r q (v ∷ k ∷ []) (w ∷ l ∷ []) (updateOutcome old new groups metas given work marks)

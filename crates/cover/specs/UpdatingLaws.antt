@@ -1,0 +1,164 @@
+-- What is known where the tests of an update passed, and the marks that it hands out. Assumes nothing.
+use Prim.Native.Nat.{ℕ, zero, suc, _+_, _/_, _%_, _≤_, _<_, min}
+use mathlib.Core.Path.{_≡_, refl, sym, ap, _∙_, subst}
+use mathlib.Core.Bool.{Bool, true, false, cond, not, _||_}
+use mathlib.Core.Logic.{inl, inr, ⊎-elim}
+use mathlib.Core.List.{List, [], _∷_}
+use native.Mathlib.Omega.{arith}
+use native.Mathlib.Nat.{add-zero}
+use lib.ListN.{length, getD, set, replicate, length-set}
+use lib.Seq.{sets, length-sets, ext-getD, getD-set-same}
+use lib.Dec.{eqb, ltb}
+use borrow.Author.Tests.{ltb-false, eqb-true, eqb-false}
+use Rattle.records.specs.declared.refusal.Refusal.the-variants.{Size, Length, Field, Work, Room}
+use Rattle.records.specs.declared.refusal.Checked.{Checked}
+use Rattle.records.specs.declared.refusal.Checked.the-variants.{Passed, Refused}
+use Rattle.records.specs.declared.refusal.Counted.{Counted}
+use Rattle.records.specs.declared.refusal.Counted.the-variants.{Count, Refused as No}
+use Rattle.records.specs.LeLaws.{getD-sets-other}
+use Rattle.records.specs.Outcome.{Outcome, outcome}
+use Rattle.records.specs.Room.{fits, fitted, bytewise}
+use Rattle.records.specs.RoomLaws.{stored-text, fits-text}
+use Rattle.records.specs.SearchLaws.{seek-before}
+use Rattle.records.specs.Tests.{below?, neither, truth?}
+use Rattle.cover_rules.specs.Cover.{bit, coverList}
+use Rattle.cover_rules.specs.ListedLaws.{length-listed, getD-listed, length-cover}
+use Rattle.cover_rules.specs.Marks.{workNeeded, handed}
+use Rattle.cover_rules.specs.Update.{touched, update, updateList}
+use Rattle.edges_parts.specs.Edges.{edgesOf, firstBadEdge, InRange}
+use Rattle.edges_parts.specs.RangeLaws.{in-range}
+use Rattle.touching_parts.specs.Touching.{Sized, Mixed}
+use Rattle.cover.specs.Covering.{tooLarge, coverMarks}
+use Rattle.cover.specs.CoveringLaws.{passed, Ready, Small, small}
+use Rattle.cover.specs.Updating.{eitherTooLarge, lengthsWrong, badMark, firstBadMark, updateTested, updateMarks}
+
+pub record UpdateReady (old new : List ℕ) (groups metas : ℕ) (given : List ℕ) (words : ℕ) : Type 0 where
+  pub of-new : Ready new groups metas words
+  pub old-few : length old / 8 ≤ 1048576
+  pub old-inside : InRange old (length old / 8) groups metas
+  pub enough : workNeeded groups metas (length old / 8 + length new / 8) ≤ words
+  pub as-many : length given ≡ groups
+  pub bits : (i : ℕ) → i < length given → getD given i 0 ≤ 1
+
+pub both-small : (on nn groups metas : ℕ) → eitherTooLarge on nn groups metas ≡ false → Small on groups metas × Small nn groups metas
+both-small on nn groups metas h = let y = neither (tooLarge on groups metas) (tooLarge nn groups metas) h in (small on groups metas (y .0), small nn groups metas (y .1))
+
+as-many-as : (given : List ℕ) (groups : ℕ) (b : Bool) → (b || not (eqb (length given) groups)) ≡ false → length given ≡ groups
+as-many-as given groups b h = eqb-true (length given) groups (is (eqb (length given) groups) (neither b (not (eqb (length given) groups)) h .1))
+  where
+    is : (t : Bool) → not t ≡ false → t ≡ true
+    is true e = refl
+    is false e = sym e
+
+all-bits : (given : List ℕ) → length given ≤ firstBadMark given → (i : ℕ) → i < length given → getD given i 0 ≤ 1
+unfolding firstBadMark
+all-bits given h i l = ltb-false 1 (getD given i 0) (seek-before (badMark given) 0 (length given) i (omega arith) (omega arith))
+
+pub update-ready : (old new : List ℕ) (groups metas : ℕ) (given : List ℕ) (words : ℕ) → updateTested old new groups metas given words ≡ Passed → UpdateReady old new groups metas given words
+update-ready old new groups metas given words e =
+    let on : ℕ = length old / 8 in
+    let nn : ℕ = length new / 8 in
+    let tm : Checked = cond (ltb (firstBadMark given) (length given)) (Refused (Field (firstBadMark given))) Passed in
+    let tn : Checked = cond (ltb (firstBadEdge new groups metas nn) nn) (Refused (Field (firstBadEdge new groups metas nn))) tm in
+    let to : Checked = cond (ltb (firstBadEdge old groups metas on) on) (Refused (Field (firstBadEdge old groups metas on))) tn in
+    let t10 : Checked = cond (ltb words (workNeeded groups metas (on + nn))) (Refused Work) to in
+    let t8 : Checked = cond (lengthsWrong old new groups given) (Refused Length) t10 in
+    let p1 = passed (eitherTooLarge on nn groups metas) Size t8 e in
+    let p8 = passed (lengthsWrong old new groups given) Length t10 (p1 .1) in
+    let p10 = passed (ltb words (workNeeded groups metas (on + nn))) Work to (p8 .1) in
+    let po = passed (ltb (firstBadEdge old groups metas on) on) (Field (firstBadEdge old groups metas on)) tn (p10 .1) in
+    let pn = passed (ltb (firstBadEdge new groups metas nn) nn) (Field (firstBadEdge new groups metas nn)) tm (po .1) in
+    let pm = passed (ltb (firstBadMark given) (length given)) (Field (firstBadMark given)) Passed (pn .1) in
+    let s = both-small on nn groups metas (p1 .0) in
+    let enough : workNeeded groups metas (on + nn) ≤ words = ltb-false words (workNeeded groups metas (on + nn)) (p10 .0) in
+    record {
+      of-new = record {
+        groups-max = s .1 .groups-max;
+        metas-max = s .1 .metas-max;
+        few = s .1 .few;
+        enough = omega arith;
+        inside = in-range new groups metas nn (ltb-false (firstBadEdge new groups metas nn) nn (pn .0));
+      };
+      old-few = s .0 .few;
+      old-inside = in-range old groups metas on (ltb-false (firstBadEdge old groups metas on) on (po .0));
+      enough = enough;
+      as-many = as-many-as given groups (not (eqb (length old % 8) 0) || not (eqb (length new % 8) 0)) (p8 .0);
+      bits = all-bits given (ltb-false (firstBadMark given) (length given) (pm .0));
+    }
+
+pub sized : {old new given : List ℕ} {groups metas words : ℕ} → UpdateReady old new groups metas given words → 1 ≤ groups → Sized old (length old / 8) new (length new / 8) groups metas words
+sized {old} {new} {given} {groups} {metas} {words} r h = record {
+  old-few = r .old-few;
+  new-few = r .of-new .few;
+  groups-max = r .of-new .groups-max;
+  metas-max = r .of-new .metas-max;
+  old-inside = r .old-inside;
+  new-inside = r .of-new .inside;
+  room = omega (arith, r .enough);
+}
+
+-- ---- the marks: those of the cover stand in marks₁, and of the first ones those of groups that are not touched become the given ones
+
+getD-sets : (vs s : List ℕ) (at j : ℕ) → j < length vs → at + j < length s → getD (sets s at vs) (at + j) 0 ≡ getD vs j 0
+getD-sets [] s at j h l = absurd (omega arith)
+getD-sets (v ∷ vs) s at zero h l =
+    rw (add-zero at) (getD-sets-other vs (set s at v) (suc at) at (inl (omega arith)) ∙ getD-set-same s at v 0 (omega arith))
+getD-sets (v ∷ vs) s at (suc j) h l =
+    let z : at + suc j ≡ suc at + j = omega arith in
+    rw z (getD-sets vs (set s at v) (suc at) j (omega arith) (rw length-set (omega arith)))
+
+-- a list written to the front of a slice, mark by mark
+module _ (vs s t : List ℕ) (long : length t ≡ length s) (front : (i : ℕ) → i < length vs → i < length s → getD t i 0 ≡ getD vs i 0) (rest : (i : ℕ) → length vs ≤ i → getD t i 0 ≡ getD s i 0) where
+  pub as-sets : t ≡ sets s 0 vs
+  as-sets = ext-getD 0 t (sets s 0 vs) (long ∙ sym (length-sets s 0 vs)) (λ i l. ⊎-elim (λ (h : i < length vs). front i h (omega arith) ∙ sym (at-front i h (omega arith))) (λ (h : length vs ≤ i). rest i h ∙ sym (getD-sets-other vs s 0 i (inr (omega arith)))) (below? i (length vs)))
+    where
+      at-front : (i : ℕ) → i < length vs → i < length s → getD (sets s 0 vs) i 0 ≡ getD vs i 0
+      at-front i h l = let z : 0 + i ≡ i = omega arith in subst (λ (x : ℕ). getD (sets s 0 vs) x 0 ≡ getD vs i 0) z (getD-sets vs s 0 i h (omega arith))
+
+bit-of : (v : ℕ) → v ≤ 1 → bit (eqb v 1) ≡ v
+bit-of v h = ⊎-elim (λ (e : eqb v 1 ≡ true). rw e (sym (eqb-true v 1 e))) (λ (e : eqb v 1 ≡ false). rw e (zero-is (eqb-false v 1 e))) (truth? (eqb v 1))
+  where
+    zero-is : (v ≡ 1 → ⊥) → 0 ≡ v
+    zero-is u = ⊎-elim (λ (y : v < 1). omega arith) (λ (y : 1 ≤ v). absurd (u (omega arith))) (below? v 1)
+
+module _ (old new : List ℕ) (groups metas : ℕ) (given : List ℕ) (words : ℕ) (ready : UpdateReady old new groups metas given words) where
+  made : length (coverMarks new groups) ≡ groups
+  made = length-cover groups (edgesOf new)
+
+  updated : length (updateMarks old new groups given) ≡ groups
+  unfolding updateList
+  updated = length-listed groups _
+
+  -- the answer's mark of a group
+  pub mark-of : (g : ℕ) → g < groups → getD (updateMarks old new groups given) g 0 ≡ cond (touched (edgesOf old) (edgesOf new) g) (getD (coverMarks new groups) g 0) (getD given g 0)
+  unfolding updateList update coverList
+  mark-of g l =
+      getD-listed groups _ g l
+      ∙ ⊎-elim (λ (e : touched (edgesOf old) (edgesOf new) g ≡ true). rw e (sym (getD-listed groups _ g l)))
+      (λ (e : touched (edgesOf old) (edgesOf new) g ≡ false). rw e (bit-of (getD given g 0) (ready .bits g (omega (arith, ready .as-many))))) (truth? (touched (edgesOf old) (edgesOf new) g))
+
+  pub renewed : (work marks w₁ marks₁ w₂ marks₂ : List ℕ) (r : Counted) → outcome r (w₁ ∷ marks₁ ∷ []) ≡ handed work marks (coverMarks new groups)
+      → w₂ ≡ replicate (length w₁) 0 → length w₁ ≡ length work → length marks₁ ≡ length marks → length marks₂ ≡ length marks₁
+      → Mixed (edgesOf old) (edgesOf new) given (min groups (length marks₁)) marks₁ marks₂ → outcome r (w₂ ∷ marks₂ ∷ []) ≡ handed work marks (updateMarks old new groups given)
+  renewed work marks w₁ marks₁ w₂ marks₂ r e z lw lm lm₂ mix =
+      let few : length (coverMarks new groups) ≤ 131072 = omega (arith, made, ready .of-new .groups-max) in
+      let few′ : length (updateMarks old new groups given) ≤ 131072 = omega (arith, updated, ready .of-new .groups-max) in
+      let was : marks₁ ≡ sets marks 0 (coverMarks new groups) = second e ∙ sym (stored-text 131072 (coverMarks new groups) marks few) in
+      let is : marks₂ ≡ sets marks 0 (updateMarks old new groups given) =
+      as-sets (updateMarks old new groups given) marks marks₂ (lm₂ ∙ lm)
+      (λ i h l. mix .here i (omega (arith, updated)) ∙ ap (λ (v : ℕ). cond (touched (edgesOf old) (edgesOf new) i) v (getD given i 0)) (ap (λ (t : List ℕ). getD t i 0) was ∙ cover-at i (omega (arith, updated)) l) ∙ sym (mark-of i (omega (arith, updated))))
+      (λ i h. mix .rest i (omega (arith, updated)) ∙ ap (λ (t : List ℕ). getD t i 0) was ∙ getD-sets-other (coverMarks new groups) marks 0 i (inr (omega (arith, made, updated)))) in
+      let said : r ≡ cond (fits 1 131072 marks (bytewise (updateMarks old new groups given))) (Count (length (updateMarks old new groups given))) (No Room) =
+      ap (λ (o : Outcome Counted). o .answer) e ∙ rw (fits-text 131072 (coverMarks new groups) marks few, fits-text 131072 (updateMarks old new groups given) marks few′, made, updated) in
+      rw (said, z, lw, is ∙ stored-text 131072 (updateMarks old new groups given) marks few′)
+    where
+      second : outcome r (w₁ ∷ marks₁ ∷ []) ≡ handed work marks (coverMarks new groups) → marks₁ ≡ fitted 1 131072 marks (bytewise (coverMarks new groups))
+      second q = ap (λ (o : Outcome Counted). head-two (o .lent)) q
+        where
+          head-two : List (List ℕ) → List ℕ
+          head-two [] = []
+          head-two (a ∷ []) = []
+          head-two (a ∷ b ∷ l) = b
+
+      cover-at : (i : ℕ) → i < groups → i < length marks → getD (sets marks 0 (coverMarks new groups)) i 0 ≡ getD (coverMarks new groups) i 0
+      cover-at i h l = let y : 0 + i ≡ i = omega arith in subst (λ (x : ℕ). getD (sets marks 0 (coverMarks new groups)) x 0 ≡ getD (coverMarks new groups) i 0) y (getD-sets (coverMarks new groups) marks 0 i (omega (arith, made)) (omega arith))

@@ -1,0 +1,82 @@
+// The marks of the cover, as many as there is room for.
+use covering_parts::cover_into;
+ghost use mathlib.Core.Path.{_≡_};
+ghost use mathlib.Core.List.{_++_};
+ghost use Prim.Native.Nat.{_≤_, _<_};
+ghost use lib.ListN.{length, take, drop, replicate};
+ghost use Rattle.cover_rules.specs.Cover.{coverList};
+ghost use Rattle.edges_parts.specs.Edges.{edgesTo};
+ghost use Rattle.covering_parts.specs.Tables.{Fit};
+
+// The first marks, as many as fit.
+fn copy(from: &[u8], to: &mut [u8])
+    requires { ⌜ length (now to) ≤ length (now from) ⌝ }
+    ensures { λ _. ⌜ now (to .exit) ≡ take (length (now (to .entry))) (now (from .entry)) ⌝ }
+{
+    let mut i = 0;
+    while i < to.len() {
+        to[i] = from[i];
+        i += 1;
+    }
+}
+
+// Room for the marks of all groups: 128 KiB of stack.
+fn all_marks() -> [u8; 131072]
+    ensures { λ r. ⌜ length r ≡ 131072 ⌝ }
+{
+    [0; 131072]
+}
+
+// The cover is made in `all`, and its first marks are handed out.
+fn cover_in(
+    edges: &[u8],
+    n: usize,
+    groups: usize,
+    metas: usize,
+    all: &mut [u8],
+    marks: &mut [u8],
+    work: &mut [u32],
+)
+    requires { ⌜ Fit (now edges) n groups metas groups (length (now work)) ⌝ }
+    requires { ⌜ (length (now marks) < groups) × (groups ≤ length (now all)) ⌝ }
+    ensures { λ _. ⌜ now (marks .exit) ≡ take (length (now (marks .entry))) (coverList groups (edgesTo (now (edges .entry)) n)) ⌝ }
+    ensures { λ _. ⌜ now (work .exit) ≡ replicate (length (now (work .entry))) 0 ⌝ }
+{
+    cover_into(edges, n, groups, metas, &mut all[0..groups], work);
+    copy(&all[0..groups], marks);
+}
+
+// With less room than groups.
+pub(crate) fn cover_short(
+    edges: &[u8],
+    n: usize,
+    groups: usize,
+    metas: usize,
+    marks: &mut [u8],
+    work: &mut [u32],
+)
+    requires { ⌜ Fit (now edges) n groups metas groups (length (now work)) ⌝ }
+    requires { ⌜ length (now marks) < groups ⌝ }
+    ensures { λ _. ⌜ now (marks .exit) ≡ take (length (now (marks .entry))) (coverList groups (edgesTo (now (edges .entry)) n)) ⌝ }
+    ensures { λ _. ⌜ now (work .exit) ≡ replicate (length (now (work .entry))) 0 ⌝ }
+{
+    let mut all = all_marks();
+    cover_in(edges, n, groups, metas, &mut all, marks, work);
+}
+
+// With room for all groups.
+pub(crate) fn cover_all(
+    edges: &[u8],
+    n: usize,
+    groups: usize,
+    metas: usize,
+    marks: &mut [u8],
+    work: &mut [u32],
+)
+    requires { ⌜ Fit (now edges) n groups metas groups (length (now work)) ⌝ }
+    requires { ⌜ groups ≤ length (now marks) ⌝ }
+    ensures { λ _. ⌜ now (marks .exit) ≡ coverList groups (edgesTo (now (edges .entry)) n) ++ drop groups (now (marks .entry)) ⌝ }
+    ensures { λ _. ⌜ now (work .exit) ≡ replicate (length (now (work .entry))) 0 ⌝ }
+{
+    cover_into(edges, n, groups, metas, &mut marks[0..groups], work);
+}

@@ -1,0 +1,85 @@
+// The tests of an update, in document 01's order.
+use crate::checks::too_large;
+use crate::checks::work_needed;
+use edges_parts::first_bad_edge;
+use records::Checked;
+use records::Refusal;
+ghost use mathlib.Core.Path.{_≡_};
+ghost use Prim.Native.Nat.{_/_, _≤_};
+ghost use lib.ListN.{length};
+ghost use Rattle.cover.specs.Updating.{eitherTooLarge, lengthsWrong, firstBadMark, contentsTested, updateTested};
+
+fn either_too_large(on: usize, nn: usize, groups: usize, metas: usize) -> bool
+    ensures { λ r. ⌜ r ≡ eitherTooLarge on nn groups metas ⌝ }
+{
+    let old = too_large(on, groups, metas);
+    let new = too_large(nn, groups, metas);
+    old | new
+}
+
+fn lengths_wrong(old: &[u8], new: &[u8], groups: usize, given: &[u8]) -> bool
+    ensures { λ r. ⌜ r ≡ lengthsWrong (now (old .entry)) (now (new .entry)) groups (now (given .entry)) ⌝ }
+{
+    (old.len() % 8 != 0) | (new.len() % 8 != 0) | (given.len() != groups)
+}
+
+// The first mark that is not 0 or 1, or how many there are.
+fn first_bad_mark(given: &[u8]) -> usize
+    ensures { λ r. ⌜ r ≡ firstBadMark (now (given .entry)) ⌝ }
+{
+    let mut i = 0;
+    while i < given.len() {
+        if 1 < given[i] {
+            return i;
+        }
+        i += 1;
+    }
+    i
+}
+
+// The first refusal for what the lists hold.
+fn contents(old: &[u8], new: &[u8], groups: usize, metas: usize, given: &[u8]) -> Checked
+    requires { ⌜ (length (now old) / 8 ≤ 1048576) × (length (now new) / 8 ≤ 1048576) ⌝ }
+    ensures { λ r. ⌜ r ≡ contentsTested (now (old .entry)) (now (new .entry)) groups metas (now (given .entry)) ⌝ }
+{
+    let on = old.len() / 8;
+    let bad_old = first_bad_edge(old, on, groups, metas);
+    if bad_old < on {
+        return Checked::Refused(Refusal::Field(bad_old));
+    }
+    let nn = new.len() / 8;
+    let bad_new = first_bad_edge(new, nn, groups, metas);
+    if bad_new < nn {
+        return Checked::Refused(Refusal::Field(bad_new));
+    }
+    let bad_mark = first_bad_mark(given);
+    if bad_mark < given.len() {
+        return Checked::Refused(Refusal::Field(bad_mark));
+    }
+    Checked::Passed
+}
+
+// The first refusal that applies before the update is made, where the work slice has so many words.
+pub(crate) fn update_checked(
+    old: &[u8],
+    new: &[u8],
+    groups: usize,
+    metas: usize,
+    given: &[u8],
+    words: usize,
+) -> Checked
+    ensures { λ r. ⌜ r ≡ updateTested (now (old .entry)) (now (new .entry)) groups metas (now (given .entry)) words ⌝ }
+{
+    let on = old.len() / 8;
+    let nn = new.len() / 8;
+    if either_too_large(on, nn, groups, metas) {
+        return Checked::Refused(Refusal::Size);
+    }
+    if lengths_wrong(old, new, groups, given) {
+        return Checked::Refused(Refusal::Length);
+    }
+    if words < work_needed(on + nn, groups, metas) {
+        return Checked::Refused(Refusal::Work);
+    }
+    contents(old, new, groups, metas, given)
+}
