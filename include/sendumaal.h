@@ -7,7 +7,8 @@
  * - What it returns is 0, or the number of a refusal (SENDUMAAL_...). Functions that cannot refuse say what they
  *   return instead.
  * - *place is written by every call that has it: the refusal's place, or 0 where there is none. A refusal writes
- *   nothing else, neither to results nor to slices. Only "no room" (11) differs: the records that fit stand in order.
+ *   nothing else, neither to results nor to slices. Only "no room" (11) differs: the records that fit stand in order, and
+ *   work memory is 0.
  * - A set of letters is a number: bit 0 is A, bit 25 is Z.
  */
 #ifndef SENDUMAAL_H
@@ -157,6 +158,48 @@ uint32_t sendumaal_forms(const uint8_t *letters, size_t letters_len, const uint8
                          uint8_t nterm, uint8_t cterm, uint8_t position,
                          const uint8_t *variable, size_t variable_len, const uint8_t *fixed, size_t fixed_len,
                          uint32_t limit, uint32_t cap, uint8_t *out, size_t out_len, uint32_t *count, size_t *place);
+
+/* ---- groups of digests ----
+ * A name is 64 bytes: 1 to 64 bytes from 33 to 126, then zeros. A book is the letters of all proteins in a row, and their
+ * boundaries, one more than names: the first 0, none below the one before or more than 65536 above it, the last letters_len.
+ * A digest's range counts from its protein's first letter. A group is 24 bytes: the record of a digest, first u32 and count
+ * u32, little-endian, which name a stretch of proteins. */
+
+/* Groups digests that are equal in position, decoy and letters, sorted by these; the record of a group is the first of its
+ * digests, and its proteins, one for each digest, are sorted by the bytes of their names. names are at most 65536, letters
+ * 2^28, digests 1048576. work has at least 4 x names + 6 x digests words, of any content; it is all zero afterwards, but
+ * untouched by a refusal other than 11. Refuses with 1; 8 (names or digests are not whole records, bounds are not one more
+ * than names); 10; 12 and 13 in names, the lowest place; 9 in bounds; 2; 9 in digests (a field out of range, a protein that
+ * is none, an end past its protein); 11 (groups or proteins are too short): the records that fit stand in order, in each.
+ * Accepted: *count is the number of groups, and as many proteins stand as digests; the rest of groups and proteins stays. */
+uint32_t sendumaal_group_digests(const uint8_t *names, size_t names_len, const uint32_t *bounds, size_t bounds_len,
+                                 const uint8_t *letters, size_t letters_len,
+                                 const uint8_t *digests, size_t digests_len, uint32_t *work, size_t work_len,
+                                 uint8_t *groups, size_t groups_len, uint32_t *proteins, size_t proteins_len,
+                                 uint32_t *count, size_t *place);
+
+/* ---- the cover ----
+ * An edge is 8 bytes: group u32, meta-peptide u32, little-endian, each below its count. A mark is a byte, 0 or 1. groups are
+ * at most 131072, metas 262144, edges 1048576 a list. */
+
+/* Marks groups until each meta-peptide that has an edge has one to a marked group: those that hold the only remaining edge
+ * of a meta-peptide, then, again and again, the group with the most remaining edges, at equality with the most edges, then
+ * the one of the highest number. work has at least 4 x groups + 4 x metas + 6 x edges words, of any content; it is all zero
+ * afterwards, but untouched by a refusal other than 11. Refuses with 1, 8, 10, 9 (the edge's index), 11: the marks that fit
+ * stand in order. Accepted: *count is groups, of which each has its mark at the front of marks; the rest of marks stays. */
+uint32_t sendumaal_cover(const uint8_t *edges, size_t edges_len, uint32_t groups, uint32_t metas,
+                         uint32_t *work, size_t work_len, uint8_t *marks, size_t marks_len,
+                         uint32_t *count, size_t *place);
+
+/* Brings given marks of groups up to date. A group that old and new edges together connect to an edge that stands another
+ * number of times in new_edges than in old_edges gets its mark in the cover of new_edges; every other group keeps the given
+ * one. work has at least 4 x groups + 4 x metas + 6 x (old + new edges) words and is left as by sendumaal_cover. Refuses with
+ * 1, 8 (also where given_len is not groups), 10, 9 in old_edges, 9 in new_edges, 9 in given (neither 0 nor 1: the group's
+ * number), 11: the marks that fit stand in order. Accepted: as sendumaal_cover. */
+uint32_t sendumaal_update(const uint8_t *old_edges, size_t old_edges_len,
+                          const uint8_t *new_edges, size_t new_edges_len, uint32_t groups, uint32_t metas,
+                          const uint8_t *given, size_t given_len, uint32_t *work, size_t work_len,
+                          uint8_t *marks, size_t marks_len, uint32_t *count, size_t *place);
 
 #ifdef __cplusplus
 }

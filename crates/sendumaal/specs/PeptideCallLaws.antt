@@ -13,7 +13,8 @@ use lib.Ieee.{Float}
 use borrow.Author.Tests.{eq-eqb, ne-eqb, eqb-true, ltb-false}
 use Rattle.records.specs.Tests.{neither}
 use Rattle.peptide.specs.declared.peptide.Peptide.{Peptide}
-use Rattle.peptide.specs.Peptides.{andThen, wrongSize, testedPeptide, reversed, madeOr}
+use Rattle.records.specs.Tested.{andThen, passed-both}
+use Rattle.peptide.specs.Peptides.{wrongSize, testedPeptide, reversed, madeOr}
 use Rattle.peptide.specs.Forms.{tooLarge, formsOutcome}
 use Rattle.records.specs.declared.refusal.Refusal.{Refusal}
 use Rattle.records.specs.declared.refusal.Refusal.the-variants.{Size, Length, Field}
@@ -54,18 +55,6 @@ module _ (letters ids : List ℕ) where
 
     pub lengths-other : (length ids ≡ length letters → ⊥) → Checked.Refused Length ≡ testedLengths letters ids
     lengths-other n = rw (fits, ne-eqb (length ids) (length letters) n)
-
--- tests one after the other: the first that refuses, or the last
-pub first-refuses : (t next : Checked) (why : Refusal) → t ≡ Checked.Refused why → Checked.Refused why ≡ andThen t next
-first-refuses t next why e = rw e
-
-pub first-passes : (t next : Checked) → t ≡ Checked.Passed → next ≡ andThen t next
-first-passes t next e = rw e
-
--- all passed
-passed-both : (t next : Checked) → andThen t next ≡ Checked.Passed → (t ≡ Checked.Passed) × (next ≡ Checked.Passed)
-passed-both Checked.Passed next e = (refl, e)
-passed-both (Checked.Refused why) next e = absurd (let z : _≡_ {A = ℕ} 0 1 = cc in omega arith)
 
 module _ (letters ids : List ℕ) (p : Peptide) (decoy : ℕ) (passed : testedReverse letters ids p decoy ≡ Checked.Passed) where
   pub reverse-peptide : testedPeptide p ≡ Checked.Passed

@@ -7,7 +7,8 @@ use lib.Dec.{leb, eqb}
 use lib.Ieee.{Float}
 use Rattle.peptide.specs.declared.peptide.Peptide.{Peptide}
 use Rattle.peptide.specs.declared.mass.Weighed.{Weighed}
-use Rattle.peptide.specs.Peptides.{andThen, wrongSize, window, testedPeptide, reversed}
+use Rattle.records.specs.Tested.{andThen}
+use Rattle.peptide.specs.Peptides.{wrongSize, window, testedPeptide, reversed}
 use Rattle.peptide.specs.Forms.{tooLarge, formsOutcome}
 use Rattle.records.specs.declared.refusal.Refusal.the-variants.{Size, Length, Field}
 use Rattle.records.specs.declared.refusal.Checked.{Checked}

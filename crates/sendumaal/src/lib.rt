@@ -1,5 +1,6 @@
 // The C face: the entries of the library over numbers, slices and results, as include/sendumaal.h declares them.
 mod digests;
+mod groups;
 mod peptides;
 mod rules;
 mod sets;
@@ -10,6 +11,8 @@ pub use digests::sendumaal_digest;
 pub use digests::sendumaal_digest_letters;
 pub use digests::sendumaal_digest_reverse;
 pub use digests::sendumaal_letters_reverse;
+pub use groups::sendumaal_cover;
+pub use groups::sendumaal_group_digests;
 pub use peptides::sendumaal_base_mass;
 pub use peptides::sendumaal_forms;
 pub use peptides::sendumaal_peptide_reverse;

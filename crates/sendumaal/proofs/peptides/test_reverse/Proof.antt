@@ -2,7 +2,7 @@
 use mathlib.Core.Path.{sym, _∙_}
 use denote.Ref.{now}
 use Rattle.sendumaal.specs.PeptideCalls.{testedLengths, testedTurn}
-use Rattle.sendumaal.specs.PeptideCallLaws.{first-refuses, first-passes}
+use Rattle.records.specs.Tested.{first-refuses, first-passes}
 use borrow.Author.Needs.{needs}
 use Rattle.sendumaal.proofs.peptides.test_reverse.Statement.{statement}
 use Rattle.sendumaal.proofs.peptides.test_reverse.Tie as tie

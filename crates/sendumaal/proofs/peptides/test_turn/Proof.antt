@@ -7,7 +7,8 @@ use Rattle.records.specs.declared.refusal.Refusal.the-variants.{Field}
 use Rattle.records.specs.declared.refusal.Checked.{Checked}
 use Rattle.peptide.specs.declared.peptide.Made.{Made}
 use Rattle.peptide.specs.Peptides.{testedPeptide, reversed}
-use Rattle.sendumaal.specs.PeptideCallLaws.{checked-of, first-refuses, first-passes}
+use Rattle.records.specs.Tested.{first-refuses, first-passes}
+use Rattle.sendumaal.specs.PeptideCallLaws.{checked-of}
 use borrow.Author.Needs.{needs}
 use Rattle.sendumaal.proofs.peptides.test_turn.Statement.{statement}
 use Rattle.sendumaal.proofs.peptides.test_turn.Tie as tie

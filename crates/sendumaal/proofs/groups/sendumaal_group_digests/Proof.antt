@@ -1,0 +1,42 @@
+-- `sendumaal_group_digests` meets its contract. Assumes nothing.
+use mathlib.Core.List.{[], _∷_}
+use denote.Ref.{now}
+use Rattle.gathering.specs.Grouping.{groupOutcome}
+use Rattle.sendumaal.specs.CallLaws.{count-said}
+use borrow.Author.Needs.{needs}
+use Rattle.sendumaal.proofs.groups.sendumaal_group_digests.Statement.{statement}
+use Rattle.sendumaal.proofs.groups.sendumaal_group_digests.Tie as tie
+
+group-digests-requires : tie.Need-group-digests-requires
+group-digests-requires c κs = search needs
+
+counted-requires : tie.Need-counted-requires
+counted-requires c κs = search needs
+
+same-length : tie.Need-same-length
+same-length c = search needs
+
+same-length-2 : tie.Need-same-length-2
+same-length-2 c = search needs
+
+same-length-3 : tie.Need-same-length-3
+same-length-3 c = search needs
+
+returns : tie.Need-returns
+returns c =
+    let a = c .before .before .before .before .before .before .before .before .before .before .before .before .before .before .before .before .before .before .before .before .args in
+    let w = c .before .before .before .before .before .before .before .before .before .group-digests in
+    count-said (w .result) (c .counted .result) (c .counted .last .1 .1 .0) (c .counted .last .1 .0) (now (a .count)) (c .counted .ensures)
+    (w .last .1 .1 .1 .1 .0 ∷ w .last .1 .1 .1 .1 .1 .0 ∷ w .last .1 .1 .1 .1 .1 .1 .0 ∷ [])
+    (groupOutcome (now (a .names)) (now (a .bounds)) (now (a .letters)) (now (a .digests)) (now (a .work)) (now (a .groups)) (now (a .proteins))) (w .ensures)
+
+pub sendumaal-group-digests-spec : {M : Type 1} → statement M
+sendumaal-group-digests-spec =
+    tie.close
+    (tie.spec
+    group-digests-requires
+    counted-requires
+    same-length
+    same-length-2
+    same-length-3
+    returns)
