@@ -1,19 +1,20 @@
 // Digests. A line is the letters or `-` for none, the kind of the enzyme (0 none, 1 the end alone, 2 a set), its sets in
 // hexadecimal, its side (0 C, 1 N), semi, the settings, the number of the Rust's digests, and these: start, end, missed,
 // semi and position of each.
-use crate::Tally;
-use crate::text::behind;
-use crate::text::decimal;
-use crate::text::field;
-use crate::text::hex;
-use crate::text::letter_count;
-use crate::text::line_end;
-use crate::text::small;
 use enzyme::Enzyme;
 use enzyme::Kind;
 use enzyme::Settings;
 use enzyme::Side;
 use letters::LetterSet;
+use lines_parts::Tally;
+use lines_parts::behind;
+use lines_parts::decimal;
+use lines_parts::field;
+use lines_parts::hex;
+use lines_parts::letter_count;
+use lines_parts::line_end;
+use lines_parts::more;
+use lines_parts::small;
 use records::Counted;
 use records::byte_at;
 use records::u32_at;
@@ -118,7 +119,7 @@ pub(crate) fn replay(s: &[u8], out: &mut [u8]) -> Tally {
     while at < s.len() {
         let end = line_end(s, at);
         tally = tally.with(agrees(&s[at..end], out), number);
-        number = crate::more(number);
+        number = more(number);
         at = end + 1;
     }
     tally

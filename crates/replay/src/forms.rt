@@ -1,15 +1,16 @@
 // Forms. A line is the letters, their ids in hexadecimal, the ids of the ends, the position, the variable and the fixed
 // rules in hexadecimal or `-` for none, the limit, the cap, the number of the Rust's forms, and these in hexadecimal: the
 // ids of the ends, then of the letters.
-use crate::Tally;
-use crate::text::behind;
-use crate::text::decimal;
-use crate::text::field;
-use crate::text::from_hex;
-use crate::text::letter_count;
-use crate::text::line_end;
-use crate::text::small;
-use crate::text::unhex;
+use lines_parts::Tally;
+use lines_parts::behind;
+use lines_parts::decimal;
+use lines_parts::field;
+use lines_parts::from_hex;
+use lines_parts::letter_count;
+use lines_parts::line_end;
+use lines_parts::more;
+use lines_parts::small;
+use lines_parts::unhex;
 use peptide::Peptide;
 use records::Counted;
 use records::byte_at;
@@ -110,7 +111,7 @@ pub(crate) fn replay(s: &[u8], out: &mut [u8]) -> Tally {
     while at < s.len() {
         let end = line_end(s, at);
         tally = tally.with(agrees(&s[at..end], out), number);
-        number = crate::more(number);
+        number = more(number);
         at = end + 1;
     }
     tally

@@ -1,9 +1,10 @@
 // Base masses. A line is the letters, and the bits of the mass that the Rust gives them, in hexadecimal.
-use crate::Tally;
-use crate::text::field;
-use crate::text::hex;
-use crate::text::letter_count;
-use crate::text::line_end;
+use lines_parts::Tally;
+use lines_parts::field;
+use lines_parts::hex;
+use lines_parts::letter_count;
+use lines_parts::line_end;
+use lines_parts::more;
 use peptide::Weighed;
 
 // The Rust's masses of A to Z, and of water.
@@ -64,7 +65,7 @@ pub(crate) fn replay(s: &[u8]) -> Tally {
     while at < s.len() {
         let end = line_end(s, at);
         tally = tally.with(agrees(&s[at..end]), number);
-        number = crate::more(number);
+        number = more(number);
         at = end + 1;
     }
     tally

@@ -1,8 +1,12 @@
 // Rule texts. A line is the text in hexadecimal or `-` for an empty one, then the number, the place, the kind and the letter
 // that the Rust's answer comes to.
-use crate::Tally;
-use crate::text;
 use letters::LetterSet;
+use lines_parts::Tally;
+use lines_parts::decimal;
+use lines_parts::field;
+use lines_parts::line_end;
+use lines_parts::more;
+use lines_parts::unhex;
 use modification::Parsed;
 
 // The letters that the Rust takes: all but B, J, X and Z.
@@ -35,12 +39,12 @@ fn answer_of(parsed: Parsed) -> Answer {
 // Whether the library answers a line as the Rust did.
 fn agrees(line: &[u8]) -> bool {
     let mut bytes = [0u8; 64];
-    let n = text::unhex(line, &mut bytes);
+    let n = unhex(line, &mut bytes);
     let ours = answer_of(modification::parse(&bytes[..n], ALPHABET));
-    (ours.number == text::decimal(line, text::field(line, 1)))
-        & (ours.place == text::decimal(line, text::field(line, 2)))
-        & (ours.kind == text::decimal(line, text::field(line, 3)))
-        & (ours.letter == text::decimal(line, text::field(line, 4)))
+    (ours.number == decimal(line, field(line, 1)))
+        & (ours.place == decimal(line, field(line, 2)))
+        & (ours.kind == decimal(line, field(line, 3)))
+        & (ours.letter == decimal(line, field(line, 4)))
 }
 
 pub(crate) fn replay(s: &[u8]) -> Tally {
@@ -48,9 +52,9 @@ pub(crate) fn replay(s: &[u8]) -> Tally {
     let mut at = 0;
     let mut number: u32 = 1;
     while at < s.len() {
-        let end = text::line_end(s, at);
+        let end = line_end(s, at);
         tally = tally.with(agrees(&s[at..end]), number);
-        number = crate::more(number);
+        number = more(number);
         at = end + 1;
     }
     tally

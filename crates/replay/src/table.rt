@@ -1,7 +1,11 @@
 // Tables of modifications. A line `N` begins an empty table; `I mass name id` is an insertion: the mass's bits and the name's
 // number in hexadecimal, and the id that the Rust gave, or 0 where it refused a 256th.
-use crate::Tally;
-use crate::text;
+use lines_parts::Tally;
+use lines_parts::decimal;
+use lines_parts::field;
+use lines_parts::hex;
+use lines_parts::line_end;
+use lines_parts::more;
 use modification::Entered;
 
 // The id that the library gives, or 0.
@@ -19,8 +23,8 @@ fn grown(count: u32, id: u32) -> u32 {
 
 // Inserts what a line says.
 fn inserted(line: &[u8], table: &mut [u8], count: u32) -> u32 {
-    let mass = text::hex(line, text::field(line, 1));
-    let name = text::hex(line, text::field(line, 2));
+    let mass = hex(line, field(line, 1));
+    let name = hex(line, field(line, 2));
     id_of(modification::insert(table, count, mass, name))
 }
 
@@ -38,7 +42,7 @@ fn stepped(line: &[u8], table: &mut [u8], state: State, number: u32) -> State {
     }
     let count = state.count;
     let id = inserted(line, table, count);
-    let theirs = text::decimal(line, text::field(line, 3));
+    let theirs = decimal(line, field(line, 3));
     State {
         tally: tally.with(id == theirs, number),
         count: grown(count, id),
@@ -54,9 +58,9 @@ pub(crate) fn replay(s: &[u8], table: &mut [u8]) -> Tally {
     let mut at = 0;
     let mut number: u32 = 1;
     while at < s.len() {
-        let end = text::line_end(s, at);
+        let end = line_end(s, at);
         state = stepped(&s[at..end], table, state, number);
-        number = crate::more(number);
+        number = more(number);
         at = end + 1;
     }
     state.tally

@@ -2,8 +2,8 @@
 use borrow.Author.Needs.{needs}
 use Prim.Native.Nat.{_-_}
 use lib.ListN.{length}
-use Rattle.replay.proofs.text.decimal.Statement.{statement}
-use Rattle.replay.proofs.text.decimal.Tie as tie
+use Rattle.lines_parts.proofs.text.decimal.Statement.{statement}
+use Rattle.lines_parts.proofs.text.decimal.Tie as tie
 
 abbrev Inv-loop : tie.InvT-loop
 Inv-loop line at n₀ i₀ n i = Unit {0}

@@ -4,19 +4,43 @@ ghost use Prim.Native.Nat.{_+_, _≤_, _<_};
 ghost use lib.ListN.{length};
 ghost use Rattle.io.specs.Counts.{Counts};
 
-// Where the line that begins at a place ends.
-pub(crate) fn line_end(s: &[u8], at: usize) -> usize
+// Where a byte stands next, or the end.
+fn next(s: &[u8], at: usize, b: u8) -> usize
     requires { ⌜ at ≤ length (now s) ⌝ }
     ensures { λ r. ⌜ (at ≤ r) × (r ≤ length (now (s .entry))) ⌝ }
 {
     let mut i = at;
     while i < s.len() {
-        if s[i] == 10 {
+        if s[i] == b {
             return i;
         }
         i += 1;
     }
     i
+}
+
+// Where the line that begins at a place ends.
+pub fn line_end(s: &[u8], at: usize) -> usize
+    requires { ⌜ at ≤ length (now s) ⌝ }
+    ensures { λ r. ⌜ (at ≤ r) × (r ≤ length (now (s .entry))) ⌝ }
+{
+    next(s, at, 10)
+}
+
+// Where the item of a list that begins at a place ends.
+pub fn item_end(list: &[u8], at: usize) -> usize
+    requires { ⌜ at ≤ length (now list) ⌝ }
+    ensures { λ r. ⌜ (at ≤ r) × (r ≤ length (now (list .entry))) ⌝ }
+{
+    next(list, at, 59)
+}
+
+// Where the field that begins at a place ends.
+pub fn field_end(line: &[u8], at: usize) -> usize
+    requires { ⌜ at ≤ length (now line) ⌝ }
+    ensures { λ r. ⌜ (at ≤ r) × (r ≤ length (now (line .entry))) ⌝ }
+{
+    next(line, at, 32)
 }
 
 // One less behind a blank.
@@ -28,7 +52,7 @@ fn passed(left: usize, b: u8) -> usize {
 }
 
 // Where field k of a line begins: behind k blanks.
-pub(crate) fn field(line: &[u8], k: usize) -> usize
+pub fn field(line: &[u8], k: usize) -> usize
     ensures { λ r. ⌜ r ≤ length (now (line .entry)) ⌝ }
 {
     let mut left = k;
@@ -58,7 +82,7 @@ fn longer(n: u32, b: u8) -> u32 {
 }
 
 // The decimal number that begins at a place.
-pub(crate) fn decimal(line: &[u8], at: usize) -> u32 {
+pub fn decimal(line: &[u8], at: usize) -> u32 {
     let mut n: u32 = 0;
     let mut i = at;
     while i < line.len() {
@@ -79,7 +103,7 @@ fn in_number(b: u8) -> bool {
 }
 
 // The place behind the number at a place and the byte that ends it.
-pub(crate) fn behind(line: &[u8], at: usize) -> usize
+pub fn behind(line: &[u8], at: usize) -> usize
     ensures { λ r. ⌜ r ≤ length (now (line .entry)) ⌝ }
 {
     let mut i = at;
@@ -94,12 +118,12 @@ pub(crate) fn behind(line: &[u8], at: usize) -> usize
 }
 
 // A number that fits a byte, or the greatest that does.
-pub(crate) fn small(n: u32) -> u8 {
+pub fn small(n: u32) -> u8 {
     if n < 255 { n as u8 } else { 255 }
 }
 
 // How many letters field 0 has: `-` stands for none.
-pub(crate) fn letter_count(line: &[u8]) -> usize
+pub fn letter_count(line: &[u8]) -> usize
     ensures { λ r. ⌜ r ≤ length (now (line .entry)) ⌝ }
 {
     if records::byte_at(line, 0) == 45 {
@@ -110,14 +134,14 @@ pub(crate) fn letter_count(line: &[u8]) -> usize
 }
 
 // What a hexadecimal digit stands for.
-pub(crate) fn nibble(b: u8) -> u8
+pub fn nibble(b: u8) -> u8
     ensures { λ r. ⌜ r < 16 ⌝ }
 {
     if 97 <= b { (b % 16 + 9) % 16 } else { b % 16 }
 }
 
 // The hexadecimal number of eight digits that begins at a place.
-pub(crate) fn hex(line: &[u8], at: usize) -> u32
+pub fn hex(line: &[u8], at: usize) -> u32
     requires { ⌜ at ≤ length (now line) ⌝ }
 {
     let mut n: u32 = 0;
@@ -131,12 +155,12 @@ pub(crate) fn hex(line: &[u8], at: usize) -> u32
 }
 
 // The byte of two hexadecimal digits.
-pub(crate) fn from_hex(high: u8, low: u8) -> u8 {
+pub fn from_hex(high: u8, low: u8) -> u8 {
     nibble(high) * 16 + nibble(low)
 }
 
 // The bytes that a field holds in hexadecimal, at the front of out: how many there are.
-pub(crate) fn unhex(line: &[u8], out: &mut [u8]) -> usize
+pub fn unhex(line: &[u8], out: &mut [u8]) -> usize
     ensures { λ r. ⌜ Counts r (now (out .exit)) ⌝ }
 {
     let mut n: usize = 0;
@@ -151,4 +175,42 @@ pub(crate) fn unhex(line: &[u8], out: &mut [u8]) -> usize
         n += 1;
     }
     n
+}
+
+// How many bytes a field holds: `-` stands for none.
+pub fn content(s: &[u8]) -> usize
+    ensures { λ r. ⌜ r ≤ length (now (s .entry)) ⌝ }
+{
+    if records::byte_at(s, 0) == 45 {
+        0
+    } else {
+        s.len()
+    }
+}
+
+// The decimal numbers of a text, each ended by one byte, at the front of out: how many there are. `-` stands for none.
+fn numbers(s: &[u8], out: &mut [u32]) -> usize
+    ensures { λ r. ⌜ Counts r (now (out .exit)) ⌝ }
+{
+    let end = content(s);
+    let mut at = 0;
+    let mut n: usize = 0;
+    while n < out.len() {
+        if end <= at {
+            return n;
+        }
+        out[n] = decimal(s, at);
+        at = behind(s, at);
+        n += 1;
+    }
+    n
+}
+
+// The decimal numbers of field k.
+pub fn numbers_at(line: &[u8], k: usize, out: &mut [u32]) -> usize
+    ensures { λ r. ⌜ Counts r (now (out .exit)) ⌝ }
+{
+    let from = field(line, k);
+    let to = field_end(line, from);
+    numbers(&line[from..to], out)
 }

@@ -2,8 +2,8 @@
 use borrow.Author.Needs.{needs}
 use Prim.Native.Nat.{_-_}
 use lib.ListN.{length}
-use Rattle.replay.proofs.text.behind.Statement.{statement}
-use Rattle.replay.proofs.text.behind.Tie as tie
+use Rattle.lines_parts.proofs.text.behind.Statement.{statement}
+use Rattle.lines_parts.proofs.text.behind.Tie as tie
 
 abbrev Inv-loop : tie.InvT-loop
 Inv-loop line at i₀ i = Unit {0}

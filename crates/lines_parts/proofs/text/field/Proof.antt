@@ -1,24 +1,27 @@
--- `line_end` meets its contract. Assumes nothing.
+-- `field` meets its contract. Assumes nothing.
 use borrow.Author.Needs.{needs}
 use Prim.Native.Nat.{_-_, _≤_}
 use lib.ListN.{length}
-use Rattle.replay.proofs.text.line_end.Statement.{statement}
-use Rattle.replay.proofs.text.line_end.Tie as tie
+use Rattle.lines_parts.proofs.text.field.Statement.{statement}
+use Rattle.lines_parts.proofs.text.field.Tie as tie
 
 abbrev Inv-loop : tie.InvT-loop
-Inv-loop s at i₀ i = (at ≤ i) × (i ≤ length s)
+Inv-loop line k left₀ i₀ left i = i ≤ length line
 
 abbrev μ-loop : tie.MeasureT-loop
-μ-loop s at i₀ i = length s - i
+μ-loop line k left₀ i₀ left i = length line - i
 
 loop-holds : tie.Need-loop-holds Inv-loop μ-loop
 loop-holds c = search needs
 
-shared-slice-read-if1 : tie.Need-shared-slice-read-if1 Inv-loop μ-loop
-shared-slice-read-if1 c = search needs
-
 returns : tie.Need-returns Inv-loop μ-loop
 returns c = search needs
+
+shared-slice-read-passed : tie.Need-shared-slice-read-passed Inv-loop μ-loop
+shared-slice-read-passed c = search needs
+
+passed-requires : tie.Need-passed-requires Inv-loop μ-loop
+passed-requires c κs = search needs
 
 add-i : tie.Need-add-i Inv-loop μ-loop
 add-i c = search needs
@@ -32,15 +35,16 @@ loop-again c = search needs
 returns-2 : tie.Need-returns-2 Inv-loop μ-loop
 returns-2 c = search needs
 
-pub line-end-spec : {M : Type 1} → statement M
-line-end-spec =
+pub field-spec : {M : Type 1} → statement M
+field-spec =
     tie.close
     (tie.spec
     Inv-loop
     μ-loop
     loop-holds
-    shared-slice-read-if1
     returns
+    shared-slice-read-passed
+    passed-requires
     add-i
     loop-less
     loop-again

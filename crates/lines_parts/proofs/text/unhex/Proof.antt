@@ -5,8 +5,8 @@ use lib.ListN.{length, length-set}
 use lib.Seq.{length-take-le}
 use mathlib.Core.Path.{_≡_, sym}
 use native.Mathlib.Omega.{arith}
-use Rattle.replay.proofs.text.unhex.Statement.{statement}
-use Rattle.replay.proofs.text.unhex.Tie as tie
+use Rattle.lines_parts.proofs.text.unhex.Statement.{statement}
+use Rattle.lines_parts.proofs.text.unhex.Tie as tie
 
 abbrev Inv-loop : tie.InvT-loop
 Inv-loop line out₀ n₀ out n = (n ≤ length out) × (length out ≡ length out₀)

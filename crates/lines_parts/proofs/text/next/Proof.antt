@@ -1,27 +1,24 @@
--- `field` meets its contract. Assumes nothing.
+-- `next` meets its contract. Assumes nothing.
 use borrow.Author.Needs.{needs}
 use Prim.Native.Nat.{_-_, _≤_}
 use lib.ListN.{length}
-use Rattle.replay.proofs.text.field.Statement.{statement}
-use Rattle.replay.proofs.text.field.Tie as tie
+use Rattle.lines_parts.proofs.text.next.Statement.{statement}
+use Rattle.lines_parts.proofs.text.next.Tie as tie
 
 abbrev Inv-loop : tie.InvT-loop
-Inv-loop line k left₀ i₀ left i = i ≤ length line
+Inv-loop s at b i₀ i = (at ≤ i) × (i ≤ length s)
 
 abbrev μ-loop : tie.MeasureT-loop
-μ-loop line k left₀ i₀ left i = length line - i
+μ-loop s at b i₀ i = length s - i
 
 loop-holds : tie.Need-loop-holds Inv-loop μ-loop
 loop-holds c = search needs
 
+shared-slice-read-if1 : tie.Need-shared-slice-read-if1 Inv-loop μ-loop
+shared-slice-read-if1 c = search needs
+
 returns : tie.Need-returns Inv-loop μ-loop
 returns c = search needs
-
-shared-slice-read-passed : tie.Need-shared-slice-read-passed Inv-loop μ-loop
-shared-slice-read-passed c = search needs
-
-passed-requires : tie.Need-passed-requires Inv-loop μ-loop
-passed-requires c κs = search needs
 
 add-i : tie.Need-add-i Inv-loop μ-loop
 add-i c = search needs
@@ -35,16 +32,15 @@ loop-again c = search needs
 returns-2 : tie.Need-returns-2 Inv-loop μ-loop
 returns-2 c = search needs
 
-pub field-spec : {M : Type 1} → statement M
-field-spec =
+pub next-spec : {M : Type 1} → statement M
+next-spec =
     tie.close
     (tie.spec
     Inv-loop
     μ-loop
     loop-holds
+    shared-slice-read-if1
     returns
-    shared-slice-read-passed
-    passed-requires
     add-i
     loop-less
     loop-again

@@ -1,8 +1,8 @@
 -- `hex` meets its contract. Assumes nothing.
 use borrow.Author.Needs.{needs}
 use Prim.Native.Nat.{_-_, _≤_}
-use Rattle.replay.proofs.text.hex.Statement.{statement}
-use Rattle.replay.proofs.text.hex.Tie as tie
+use Rattle.lines_parts.proofs.text.hex.Statement.{statement}
+use Rattle.lines_parts.proofs.text.hex.Tie as tie
 
 abbrev Inv-loop : tie.InvT-loop
 Inv-loop line at n₀ k₀ n k = k ≤ 8

@@ -1,0 +1,82 @@
+// Edges and marks of a line. Buffers have room for one edge or mark more than they hold, so that one too many is seen.
+use crate::answers::same_bytes;
+use lines_parts::content;
+use lines_parts::decimal;
+use lines_parts::field;
+use lines_parts::field_end;
+use lines_parts::numbers_at;
+use records::byte_at;
+use records::put_u32;
+ghost use Rattle.io.specs.Counts.{Counts};
+
+// Numbers as bytes at the front of out: how many there are.
+fn put_all(numbers: &[u32], out: &mut [u8]) -> usize
+    ensures { λ r. ⌜ Counts r (now (out .exit)) ⌝ }
+{
+    let mut i = 0;
+    let mut at = 0;
+    while i < numbers.len() {
+        if out.len() - at < 4 {
+            return at;
+        }
+        put_u32(out, at, numbers[i]);
+        at += 4;
+        i += 1;
+    }
+    at
+}
+
+// The edges of field k as records at the front of out, at most 256 of them, which fill the callers' buffers: how many bytes there
+// are.
+pub(crate) fn edges_at(line: &[u8], k: usize, out: &mut [u8]) -> usize
+    ensures { λ r. ⌜ Counts r (now (out .exit)) ⌝ }
+{
+    let mut numbers = [0u32; 512];
+    let n = numbers_at(line, k, &mut numbers);
+    put_all(&numbers[..n], out)
+}
+
+// The digits of a text at the front of out: how many there are.
+fn digits(s: &[u8], out: &mut [u8]) -> usize
+    ensures { λ r. ⌜ Counts r (now (out .exit)) ⌝ }
+{
+    let end = content(s);
+    let mut n: usize = 0;
+    while n < out.len() {
+        if end <= n {
+            return n;
+        }
+        out[n] = byte_at(s, n) % 16;
+        n += 1;
+    }
+    n
+}
+
+// The marks of field k at the front of out: how many there are.
+pub(crate) fn marks_at(line: &[u8], k: usize, out: &mut [u8]) -> usize
+    ensures { λ r. ⌜ Counts r (now (out .exit)) ⌝ }
+{
+    let from = field(line, k);
+    let to = field_end(line, from);
+    digits(&line[from..to], out)
+}
+
+pub(crate) fn group_count(line: &[u8]) -> u32 {
+    decimal(line, field(line, 0))
+}
+
+pub(crate) fn meta_count(line: &[u8]) -> u32 {
+    decimal(line, field(line, 1))
+}
+
+// Whether the buffers hold the marks and the work memory of a line.
+pub(crate) fn is_held(line: &[u8]) -> bool {
+    (group_count(line) <= 200) & (meta_count(line) <= 200)
+}
+
+// Whether so many marks are those of field k, and nothing is written behind them: all were 2.
+pub(crate) fn are_marks(line: &[u8], k: usize, marks: &[u8], count: u32) -> bool {
+    let mut theirs = [2u8; 201];
+    let n = marks_at(line, k, &mut theirs);
+    (n == count as usize) & same_bytes(&theirs, marks)
+}
