@@ -1,9 +1,5 @@
-/* Stands between the comparison and the library, and spoils what FAULT names: a subject of the comparison, a colon, and
- * what is wrong. The real functions are called real_... */
-#include "sendumaal.h"
-#include <stdlib.h>
-
-#define REAL(name) extern __typeof__(sendumaal_##name) real_##name
+/* Faults of letters, rules, the table, digests, peptides and forms. */
+#include "faults.h"
 
 REAL(set_insert);
 REAL(set_contains);
@@ -23,14 +19,6 @@ REAL(base_mass);
 REAL(peptide_test);
 REAL(peptide_reverse);
 REAL(forms);
-
-static int planted(const char *fault)
-{
-    static const char *wanted;
-    if (!wanted)
-        wanted = getenv("FAULT");
-    return wanted && strcmp(wanted, fault) == 0;
-}
 
 /* ---- letters ---- */
 
@@ -123,11 +111,6 @@ uint32_t sendumaal_rule_record(uint32_t kind, uint32_t letter, uint32_t id, uint
 
 /* ---- the table of modifications ---- */
 
-static uint32_t word(const uint8_t *bytes)
-{
-    return bytes[0] | bytes[1] << 8 | bytes[2] << 16 | (uint32_t)bytes[3] << 24;
-}
-
 /* The id of the first record with these very bits, or 0. */
 static uint32_t same_bits(const uint8_t *table, uint32_t count, uint32_t mass_bits, uint32_t name)
 {
@@ -172,12 +155,6 @@ uint32_t sendumaal_modification_id(uint8_t *table, size_t len, uint32_t count, u
 }
 
 /* ---- digests ---- */
-
-static void put_word(uint8_t *bytes, uint32_t number)
-{
-    for (int i = 0; i < 4; i++)
-        bytes[i] = number >> 8 * i;
-}
 
 /* Moves a record to the last place of the protein that has its letters, as if the later of two equal ones were kept. */
 static void move_to_last(uint8_t *record, const uint8_t *letters, size_t len)
@@ -291,22 +268,6 @@ uint32_t sendumaal_digest_letters(const uint8_t *letters, size_t len, const uint
 }
 
 /* ---- peptides ---- */
-
-/* memcpy takes no null pointer, not even for no bytes. */
-static void copy_bytes(uint8_t *to, const uint8_t *from, size_t len)
-{
-    if (len > 0)
-        memcpy(to, from, len);
-}
-
-static uint8_t *kept_bytes(const uint8_t *bytes, size_t len)
-{
-    uint8_t *kept = malloc(len + 1);
-    if (!kept)
-        abort();
-    copy_bytes(kept, bytes, len);
-    return kept;
-}
 
 /* Where minus zero is no zero, the masses that are zero are those of which all bits are. */
 static void without_minus_zero(float *copy, const float *masses)

@@ -10,7 +10,10 @@ pub const LONG_TEXT: u32 = 6;
 pub const TABLE_FULL: u32 = 7;
 pub const LENGTH: u32 = 8;
 pub const FIELD: u32 = 9;
+pub const SHORT_WORK: u32 = 10;
 pub const NO_ROOM: u32 = 11;
+pub const BAD_NAME: u32 = 12;
+pub const REPEATED_NAME: u32 = 13;
 pub const HIGHEST: u32 = 13;
 
 #[derive(Clone, Copy, Debug, PartialEq)]

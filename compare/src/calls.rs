@@ -1,4 +1,6 @@
 //! The library's functions as safe ones: each call is guarded, and what it did to memory is checked.
+pub mod cover;
+pub mod digest_groups;
 pub mod peptides;
 
 use crate::answer::{Answer, Checked, Fault, Filled};
@@ -9,19 +11,23 @@ use crate::model::{Record, Rule};
 use std::fmt::Debug;
 
 /// An empty slice may have any pointer: where some are lent, the call is made again with null ones, to the same end.
-fn lend_all<E: Element, T: PartialEq + Debug, const N: usize>(
-    contents: [&[E]; N],
-    call: impl Fn([Lent<E>; N]) -> Checked<T>,
-) -> Checked<T> {
-    let first = call(contents.map(Lent::new))?;
-    if contents.iter().any(|slice| slice.is_empty()) {
-        let second =
-            call(contents.map(|slice| if slice.is_empty() { Lent::null() } else { Lent::new(slice) }))?;
+fn also_with_null<T: PartialEq + Debug>(some_empty: bool, call: impl Fn(bool) -> Checked<T>) -> Checked<T> {
+    let first = call(false)?;
+    if some_empty {
+        let second = call(true)?;
         if second != first {
             return Err(Fault(format!("{first:?}, but {second:?} with a null pointer")));
         }
     }
     Ok(first)
+}
+
+fn lend_all<E: Element, T: PartialEq + Debug, const N: usize>(
+    contents: [&[E]; N],
+    call: impl Fn([Lent<E>; N]) -> Checked<T>,
+) -> Checked<T> {
+    let some_empty = contents.iter().any(|slice| slice.is_empty());
+    also_with_null(some_empty, |null| call(contents.map(|slice| Lent::or_null(slice, null))))
 }
 
 fn lend<E: Element, T: PartialEq + Debug>(

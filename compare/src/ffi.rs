@@ -127,4 +127,52 @@ extern "C" {
         count: *mut u32,
         place: *mut usize,
     ) -> u32;
+
+    pub fn sendumaal_group_digests(
+        names: *const u8,
+        names_len: usize,
+        bounds: *const u32,
+        bounds_len: usize,
+        letters: *const u8,
+        letters_len: usize,
+        digests: *const u8,
+        digests_len: usize,
+        work: *mut u32,
+        work_len: usize,
+        groups: *mut u8,
+        groups_len: usize,
+        proteins: *mut u32,
+        proteins_len: usize,
+        count: *mut u32,
+        place: *mut usize,
+    ) -> u32;
+
+    pub fn sendumaal_cover(
+        edges: *const u8,
+        edges_len: usize,
+        groups: u32,
+        metas: u32,
+        work: *mut u32,
+        work_len: usize,
+        marks: *mut u8,
+        marks_len: usize,
+        count: *mut u32,
+        place: *mut usize,
+    ) -> u32;
+    pub fn sendumaal_update(
+        old_edges: *const u8,
+        old_edges_len: usize,
+        new_edges: *const u8,
+        new_edges_len: usize,
+        groups: u32,
+        metas: u32,
+        given: *const u8,
+        given_len: usize,
+        work: *mut u32,
+        work_len: usize,
+        marks: *mut u8,
+        marks_len: usize,
+        count: *mut u32,
+        place: *mut usize,
+    ) -> u32;
 }

@@ -2,7 +2,7 @@
 use crate::answer::{Answer, Checked, Fault, Refusal, HIGHEST, NO_ROOM};
 
 /// What can be lent. The pattern fills guards and results, so that a write shows, whatever it writes.
-pub trait Element: Copy + PartialEq {
+pub trait Element: Copy + PartialEq + Default {
     fn pattern(index: usize) -> Self;
 }
 
@@ -51,6 +51,14 @@ impl<T: Element> Lent<T> {
         Lent { null: true, ..Lent::new(&[]) }
     }
 
+    /// Contents, without memory where they are empty and a null pointer is wanted.
+    pub fn or_null(contents: &[T], null: bool) -> Lent<T> {
+        match null && contents.is_empty() {
+            true => Lent::null(),
+            false => Lent::new(contents),
+        }
+    }
+
     pub fn pointer(&mut self) -> *mut T {
         match self.null {
             true => std::ptr::null_mut(),
@@ -75,6 +83,7 @@ impl<T: Element> Lent<T> {
 pub trait Memory {
     fn guards_hold(&self) -> bool;
     fn unchanged(&self) -> bool;
+    fn all_zero(&self) -> bool;
 }
 
 impl<T: Element> Memory for Lent<T> {
@@ -85,6 +94,10 @@ impl<T: Element> Memory for Lent<T> {
 
     fn unchanged(&self) -> bool {
         self.now == self.was
+    }
+
+    fn all_zero(&self) -> bool {
+        self.contents().iter().all(|element| *element == T::default())
     }
 }
 
@@ -97,13 +110,15 @@ pub enum May {
     Fill,
     /// Change it when it accepts.
     Answer,
+    /// Use it when it accepts, and where there is no room: then it is all zero afterwards.
+    Work,
 }
 
 impl May {
     fn change_at(self, number: u32) -> bool {
         match self {
             May::Read => false,
-            May::Fill => number == 0 || number == NO_ROOM,
+            May::Fill | May::Work => number == 0 || number == NO_ROOM,
             May::Answer => number == 0,
         }
     }
@@ -123,6 +138,9 @@ pub fn answer(number: u32, place: &Lent<usize>, lent: &[(&str, &dyn Memory, May)
         }
         if !memory.unchanged() && !may.change_at(number) {
             return Err(Fault(format!("it answered {number} and changed {name}")));
+        }
+        if *may == May::Work && may.change_at(number) && !memory.all_zero() {
+            return Err(Fault(format!("it answered {number} and left {name} written")));
         }
     }
     match (number, place.value()) {

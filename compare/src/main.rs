@@ -5,7 +5,9 @@
 //! answers. ORACLE and ORACLE_ALT are the programs that oracle/setup has built. `run` does it all.
 mod answer;
 mod calls;
+mod cover;
 mod digest;
+mod digest_groups;
 mod entry;
 mod ffi;
 mod forms;
@@ -21,6 +23,7 @@ mod room;
 mod rule_records;
 mod rule_texts;
 mod table;
+mod update;
 mod vectors;
 
 use entry::{Context, Entry};
@@ -105,6 +108,47 @@ const SUBJECTS: &[(&str, &[Entry])] = &[
             forms::long_peptides,
             forms::model_forms,
             forms::beyond::longest_lists,
+        ],
+    ),
+    (
+        "digest groups",
+        &[
+            digest_groups::refusals::single_reasons,
+            digest_groups::refusals::any_call,
+            digest_groups::small_lists,
+            digest_groups::random_lists,
+            digest_groups::long_lists,
+            digest_groups::model_lists,
+            digest_groups::refusals::large,
+            digest_groups::greatest_lists,
+        ],
+    ),
+    (
+        "cover",
+        &[
+            cover::examples,
+            cover::refusals::any_call,
+            cover::refusals::beyond_the_rust,
+            cover::small_graphs,
+            cover::random_graphs,
+            cover::larger_graphs,
+            cover::long_graphs,
+            cover::model_marks,
+            cover::refusals::large,
+            cover::greatest_graphs,
+        ],
+    ),
+    (
+        "update",
+        &[
+            update::examples,
+            update::refusals::any_call,
+            update::small_changes,
+            update::random_changes,
+            update::larger_changes,
+            update::model_marks,
+            update::refusals::large,
+            update::greatest_changes,
         ],
     ),
 ];

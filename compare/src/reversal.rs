@@ -1,6 +1,6 @@
 //! Reversal: of letters and of digest records against the original, any call against the model.
 mod cases;
-mod model;
+pub mod model;
 
 use crate::answer::*;
 use crate::calls;

@@ -9,6 +9,13 @@
 //! hexadecimal, the ids of the two ends, the position, the variable rules, then the fixed ones in hexadecimal (`-` if none),
 //! the combination limit, the cap (4294967295 if none), the number of forms, and each in hexadecimal as the ids of the two
 //! ends and of the letters, divided by `;`.
+//!
+//! groups.txt: the names in hexadecimal without the zeros behind them, divided by `;`, the boundaries, divided by `.`, the
+//! letters, the digest records in hexadecimal, one behind the other, the number of groups, each group as the number of its
+//! reference in the list of digests, first and count, `reference.first.count`, divided by `;`, and the numbers of all proteins,
+//! divided by `.`. cover.txt: the numbers of groups and of meta-peptides, the edges as `group.meta`, divided by `;` (`-` if
+//! none), and the marks as digits (`-` if none). update.txt: the two numbers, the old edges, the new edges, the given marks
+//! and the marks of the answer.
 use crate::answer::Answer;
 use crate::entry::Context;
 use crate::model::{Modification, Rule, MARKS};
@@ -16,7 +23,7 @@ use crate::oracle::hex;
 use crate::rng::Rng;
 use crate::rule_texts::cases::{accepted_texts, distinct, near_miss};
 use crate::table::cases::{filling, from_pool, special};
-use crate::{digest, forms, masses, rule_texts, table};
+use crate::{cover, digest, digest_groups, forms, masses, rule_texts, table, update};
 use std::{fs, io, path::Path};
 
 /// About so many lines in each file.
@@ -28,7 +35,10 @@ pub fn write(context: &Context, folder: &Path) -> io::Result<()> {
     fs::write(folder.join("table.txt"), tables(context))?;
     fs::write(folder.join("digest.txt"), digest::vectors::lines(context))?;
     fs::write(folder.join("masses.txt"), masses::vectors::lines(context))?;
-    fs::write(folder.join("forms.txt"), forms::vectors::lines(context))
+    fs::write(folder.join("forms.txt"), forms::vectors::lines(context))?;
+    fs::write(folder.join("groups.txt"), digest_groups::vectors::lines(context))?;
+    fs::write(folder.join("cover.txt"), cover::vectors::lines(context))?;
+    fs::write(folder.join("update.txt"), update::vectors::lines(context))
 }
 
 fn random_text(rng: &mut Rng, accepted: &[Vec<u8>]) -> Vec<u8> {

@@ -58,14 +58,15 @@ pub fn digest(f: &[&str]) -> String {
     or_dash(join(written, ";"))
 }
 
-/// `position.decoy.letters.protein.missed.semi`
+/// `position.decoy.letters.name.missed.semi`, the name in hexadecimal.
 fn read_digest(item: &str) -> Digest {
     let f = list(item, '.');
+    let name = String::from_utf8(unhex(f[3])).unwrap();
     Digest {
         position: position(f[0]),
         decoy: flag(f[1]),
         sequence: f[2].into(),
-        protein: Arc::from(f[3]),
+        protein: Arc::from(name),
         missed_cleavages: number(f[4]),
         semi_enzymatic: flag(f[5]),
     }
@@ -78,10 +79,10 @@ fn write_group(group: &DigestGroup) -> String {
         position_number(d.position),
         d.decoy as u8,
         d.sequence,
-        d.protein,
+        hex(d.protein.as_bytes()),
         d.missed_cleavages,
         d.semi_enzymatic as u8,
-        join(group.proteins.iter().map(|p| p.to_string()), ",")
+        join(group.proteins.iter().map(|name| hex(name.as_bytes())), ",")
     )
 }
 

@@ -1,0 +1,81 @@
+//! Every refusal of update, alone and with others: which one is given, and what it leaves of the memory.
+use super::cases;
+use super::model::{self, Call};
+use super::{call, enough, hold, short};
+use crate::calls::cover as calls;
+use crate::cover::model::{work_for, EDGE, MOST_EDGES, MOST_GROUPS, MOST_METAS};
+use crate::cover::refusals::{damage, large_counts, short_work};
+use crate::entry::{Against, Context, Tally};
+use crate::rng::Rng;
+
+fn bad_marks(rng: &mut Rng, given: &mut [u8]) {
+    for _ in 0..(1 + rng.below(2)).min(given.len()) {
+        given[rng.below(given.len())] = rng.pick(&[2, 3, 128, 129, 254, 255]);
+    }
+}
+
+/// A list of edges that ends within a record, or marks that are not as many as groups.
+fn no_length(rng: &mut Rng, call: &mut Call) {
+    let tail = 1 + rng.below(EDGE - 1);
+    match rng.below(3) {
+        0 => call.old.extend(rng.bytes(tail)),
+        1 => call.new.extend(rng.bytes(tail)),
+        _ => call.given.resize(rng.pick(&[0, call.groups.saturating_sub(1), call.groups + 1]), 0),
+    }
+}
+
+fn spoil(rng: &mut Rng, call: &mut Call, choice: usize) {
+    let reason = |bit: usize| choice >> bit & 1 == 1;
+    if reason(0) {
+        damage(rng, &mut call.old, call.groups, call.metas);
+    }
+    if reason(1) {
+        damage(rng, &mut call.new, call.groups, call.metas);
+    }
+    if reason(2) {
+        bad_marks(rng, &mut call.given);
+    }
+    if reason(3) {
+        let (old, new) = (call.old.len() / EDGE, call.new.len() / EDGE);
+        let needed = work_for(call.groups, call.metas, old + new);
+        short_work(rng, &mut call.work, needed, work_for(call.groups, call.metas, new));
+    }
+    if reason(4) {
+        no_length(rng, call);
+    }
+    if reason(5) {
+        large_counts(rng, &mut call.groups, &mut call.metas);
+    }
+}
+
+/// Every choice of reasons, with room enough and without.
+pub fn any_call(context: &Context) -> Tally {
+    let mut tally = Tally::new("update: any call", Against::Model);
+    let rng = &mut context.rng("calls of update");
+    for number in 0..160_000 {
+        let change = cases::random(rng);
+        let mut call = call(rng, &change);
+        let few = number / 64 % 2 == 1 && call.groups > 0;
+        let out = if few { short(rng, call.groups) } else { enough(rng, call.groups) };
+        spoil(rng, &mut call, number % 64);
+        hold(&mut tally, &(&call, out.len()), calls::update(&call, &out), &model::update(&call, &out));
+    }
+    tally
+}
+
+/// Lists at their limit and above it, with and without work memory.
+pub fn large(context: &Context) -> Tally {
+    let mut tally = Tally::new("update: large calls", Against::Model);
+    let rng = &mut context.rng("large calls of update");
+    for (old, new, part) in [(0, 0, 0), (1, 0, 0), (0, 1, 0), (0, 0, 1), (1, 1, 1)] {
+        for words in [0, 1] {
+            let (groups, metas) = (rng.pick(&[2, MOST_GROUPS]), rng.pick(&[2, MOST_METAS]));
+            let work = vec![5; words * work_for(groups, metas, 2 * MOST_EDGES + old + new)];
+            let (old, new) = (vec![0; (MOST_EDGES + old) * EDGE], vec![0; (MOST_EDGES + new) * EDGE + part]);
+            let given = (0..groups).map(|_| rng.below(2) as u8).collect();
+            let (call, out) = (Call { old, new, groups, metas, given, work }, enough(rng, groups));
+            hold(&mut tally, &(&call, out.len()), calls::update(&call, &out), &model::update(&call, &out));
+        }
+    }
+    tally
+}
