@@ -4,9 +4,10 @@ mod sides;
 
 use crate::clock::seconds;
 use crate::rng::Rng;
-use crate::turns::{measure, Block, Measured, Sides};
-use rows::{rows, Cutting, Row};
+use crate::turns::{measure, Measured, Sides};
+use rows::{rows, Cutting, Row, TRYPTIC};
 use sides::{Ours, Rust};
+use std::cell::RefCell;
 use std::hint::black_box;
 
 struct Both<'a> {
@@ -15,7 +16,7 @@ struct Both<'a> {
     cutting: Cutting,
 }
 
-fn time(block: &Block, mut count: impl FnMut(&str) -> usize) -> f64 {
+fn time(block: &[String], mut count: impl FnMut(&str) -> usize) -> f64 {
     seconds(|| {
         for protein in block {
             black_box(count(protein));
@@ -24,7 +25,9 @@ fn time(block: &Block, mut count: impl FnMut(&str) -> usize) -> f64 {
 }
 
 impl Sides for Both<'_> {
-    fn agree(&mut self, protein: &str) -> usize {
+    type Item = String;
+
+    fn agree(&mut self, protein: &String) -> usize {
         let digests = self.rust.digests(protein);
         let count = self.ours.count(&self.cutting, protein);
         let same =
@@ -33,13 +36,19 @@ impl Sides for Both<'_> {
         count
     }
 
-    fn rust(&mut self, block: &Block) -> f64 {
+    fn rust(&mut self, block: &[String]) -> f64 {
         time(block, |protein| self.rust.count(protein))
     }
 
-    fn ours(&mut self, block: &Block) -> f64 {
+    fn ours(&mut self, block: &[String]) -> f64 {
         time(block, |protein| self.ours.count(&self.cutting, protein))
     }
+}
+
+/// The records of a protein's digests: KR not before P, missed 2, lengths 7 to 50.
+pub fn cut(protein: &str, number: u32) -> Vec<u8> {
+    thread_local!(static OURS: RefCell<Ours> = RefCell::new(Ours::new()));
+    OURS.with_borrow_mut(|ours| ours.records(&TRYPTIC, protein, number))
 }
 
 pub fn print() {

@@ -5,7 +5,7 @@ mod sides;
 
 use crate::clock::seconds;
 use crate::rng::Rng;
-use crate::turns::{measure, Block, Measured, Sides};
+use crate::turns::{measure, Measured, Sides};
 use rows::{extremes, rows, Extreme, Rules};
 use sides::{Ours, Rust};
 use std::hint::black_box;
@@ -17,7 +17,9 @@ struct Both<'a> {
 }
 
 impl Sides for Both<'_> {
-    fn agree(&mut self, letters: &str) -> usize {
+    type Item = String;
+
+    fn agree(&mut self, letters: &String) -> usize {
         let forms = self.rust.forms(Rust::peptide(letters));
         let (number, count) = self.ours.list(&self.rules, letters);
         let all_same = forms.iter().zip(self.ours.forms()).all(|(form, own)| self.rust.is_form(form, own));
@@ -26,7 +28,7 @@ impl Sides for Both<'_> {
     }
 
     /// `apply` takes its peptide, so there is one for each call, made before. Freeing the forms is part of the time.
-    fn rust(&mut self, block: &Block) -> f64 {
+    fn rust(&mut self, block: &[String]) -> f64 {
         let peptides: Vec<_> = block.iter().map(|letters| Rust::peptide(letters)).collect();
         seconds(|| {
             for peptide in peptides {
@@ -35,7 +37,7 @@ impl Sides for Both<'_> {
         })
     }
 
-    fn ours(&mut self, block: &Block) -> f64 {
+    fn ours(&mut self, block: &[String]) -> f64 {
         seconds(|| {
             for letters in block {
                 black_box(self.ours.list(&self.rules, letters));

@@ -1,11 +1,13 @@
-//! Times the original Rust and the proved library on the same proteins and peptides, in turns, and prints tables of both:
-//! `bench digest`, `bench forms`.
+//! Times the original Rust and the proved library on the same proteins, peptides, digests and edges, in turns, and prints
+//! tables of both: `bench digest`, `bench forms`, `bench groups`, `bench cover`.
 mod clock;
+mod cover;
 mod digest;
 #[path = "../../compare/src/ffi.rs"]
 #[allow(dead_code)]
 mod ffi;
 mod forms;
+mod groups;
 mod proteins;
 #[path = "../../compare/src/rng.rs"]
 #[allow(dead_code)]
@@ -18,6 +20,8 @@ fn main() {
     match std::env::args().nth(1).as_deref() {
         Some("digest") => digest::print(),
         Some("forms") => forms::print(),
-        _ => panic!("digest or forms"),
+        Some("groups") => groups::print(),
+        Some("cover") => cover::print(),
+        _ => panic!("digest, forms, groups or cover"),
     }
 }

@@ -1,51 +1,54 @@
-//! Times of both sides. They take a block of texts in turns, round after round; of each side the least time of a block
+//! Times of both sides. They take a block of items in turns, round after round; of each side the least time of a block
 //! counts, which is the one that was disturbed least.
 use std::time::{Duration, Instant};
 
 const LEAST_ROUNDS: usize = 5;
 const BLOCK_TIME: Duration = Duration::from_millis(300);
+/// After so long no further round is begun.
+const LONGEST: Duration = Duration::from_secs(15);
 
 /// Letters of proteins or of peptides.
 pub type Block = Vec<String>;
 
 pub trait Sides {
-    /// That both sides list the same for some letters; the answer is how many.
-    fn agree(&mut self, letters: &str) -> usize;
+    type Item;
+    /// That both sides answer the same for an item; the answer is how many they list.
+    fn agree(&mut self, item: &Self::Item) -> usize;
     /// The seconds of the original for a block.
-    fn rust(&mut self, block: &Block) -> f64;
-    fn ours(&mut self, block: &Block) -> f64;
+    fn rust(&mut self, block: &[Self::Item]) -> f64;
+    fn ours(&mut self, block: &[Self::Item]) -> f64;
 }
 
-/// For each text: how many were listed, and the seconds of both sides.
+/// For each item: how many were listed, and the seconds of both sides.
 #[derive(Default)]
 pub struct Measured {
-    count: f64,
-    rust: f64,
-    ours: f64,
+    pub count: f64,
+    pub rust: f64,
+    pub ours: f64,
 }
 
 /// The least time of each side for a block.
-fn block_times(sides: &mut impl Sides, block: &Block) -> (f64, f64) {
+fn block_times<S: Sides>(sides: &mut S, block: &[S::Item]) -> (f64, f64) {
     let mut least = (f64::MAX, f64::MAX);
     let begun = Instant::now();
     let mut rounds = 0;
-    while rounds < LEAST_ROUNDS || begun.elapsed() < BLOCK_TIME {
+    while rounds < LEAST_ROUNDS && begun.elapsed() < LONGEST || begun.elapsed() < BLOCK_TIME {
         least = (least.0.min(sides.rust(block)), least.1.min(sides.ours(block)));
         rounds += 1;
     }
     least
 }
 
-pub fn measure(mut sides: impl Sides, blocks: &[Block]) -> Measured {
+pub fn measure<S: Sides>(mut sides: S, blocks: &[Vec<S::Item>]) -> Measured {
     let mut sum = Measured::default();
     for block in blocks {
-        sum.count += block.iter().map(|letters| sides.agree(letters)).sum::<usize>() as f64;
+        sum.count += block.iter().map(|item| sides.agree(item)).sum::<usize>() as f64;
         let (rust, ours) = block_times(&mut sides, block);
         sum.rust += rust;
         sum.ours += ours;
     }
-    let texts = blocks.iter().map(Vec::len).sum::<usize>() as f64;
-    Measured { count: sum.count / texts, rust: sum.rust / texts, ours: sum.ours / texts }
+    let items = blocks.iter().map(Vec::len).sum::<usize>() as f64;
+    Measured { count: sum.count / items, rust: sum.rust / items, ours: sum.ours / items }
 }
 
 impl Measured {

@@ -26,6 +26,8 @@ const BLOCK_LETTERS: usize = 100_000;
 const BLOCKS: usize = 4;
 
 const SET: Cutting = Cutting { set: true, semi: false, missed: 0, minimum: 7, maximum: 50 };
+/// How lists of digests are made that are to be grouped.
+pub const TRYPTIC: Cutting = Cutting { missed: 2, ..SET };
 const NONE: Cutting = Cutting { set: false, semi: false, missed: 0, minimum: 7, maximum: 30 };
 
 fn name_of(cutting: &Cutting) -> String {

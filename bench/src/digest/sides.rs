@@ -55,6 +55,16 @@ impl Ours {
     }
 
     pub fn count(&mut self, cutting: &Cutting, protein: &str) -> usize {
+        self.cut(cutting, protein, 1)
+    }
+
+    /// The records of a protein that has a number.
+    pub fn records(&mut self, cutting: &Cutting, protein: &str, number: u32) -> Vec<u8> {
+        let count = self.cut(cutting, protein, number);
+        self.out[..count * RECORD].to_vec()
+    }
+
+    fn cut(&mut self, cutting: &Cutting, protein: &str, protein_number: u32) -> usize {
         let (mut count, mut place) = (0, 0);
         let kind = if cutting.set { 2 } else { 0 };
         let letters = black_box(protein);
@@ -62,7 +72,7 @@ impl Ours {
         let number = unsafe {
             sendumaal_digest(
                 letters.as_ptr(), letters.len(), ALL_LETTERS, kind, set_of(CLEAVE), set_of(SKIP), 0, cutting.semi.into(),
-                cutting.missed.into(), cutting.minimum, cutting.maximum, 1,
+                cutting.missed.into(), cutting.minimum, cutting.maximum, protein_number,
                 self.out.as_mut_ptr(), self.out.len(), &mut count, &mut place,
             )
         };
