@@ -22,3 +22,7 @@ pub only : {A : Type 0} (r q : A) (k l : List (List ℕ)) (o : Outcome A) → ou
 only {A} r q k l o p s =
     let e : outcome r k ≡ outcome q l = p ∙ sym s in
     (ap (λ (x : Outcome A). x .answer) e, ap (λ (x : Outcome A). x .lent) e)
+
+-- nor does one that equals a definition: of an answer alone, or of one slice
+pub equal-only : {A : Type 0} (r q d : A) → r ≡ d → q ≡ d → r ≡ q
+equal-only r q d e f = e ∙ sym f
