@@ -3,7 +3,7 @@ use Prim.Native.Nat.{ℕ, _+_, _/_, _%_}
 use mathlib.Core.Path.{_≡_}
 use mathlib.Core.Bool.{Bool, cond, not, _||_}
 use mathlib.Core.List.{List, [], _∷_}
-use lib.ListN.{length, getD}
+use lib.ListN.{length}
 use lib.Dec.{eqb, ltb}
 use Rattle.records.specs.declared.refusal.Refusal.the-variants.{Size, Length, Field, Work}
 use Rattle.records.specs.declared.refusal.Checked.{Checked}
@@ -11,10 +11,9 @@ use Rattle.records.specs.declared.refusal.Checked.the-variants.{Passed, Refused
 use Rattle.records.specs.declared.refusal.Counted.{Counted}
 use Rattle.records.specs.declared.refusal.Counted.the-variants.{Refused as No}
 use Rattle.records.specs.Outcome.{Outcome, outcome, unlessRefused, only}
-use Rattle.records.specs.Search.{seek}
 use Rattle.cover_rules.specs.Marks.{workNeeded, handed}
 use Rattle.cover_rules.specs.Update.{updateList}
-use Rattle.edges_parts.specs.Edges.{edgesOf, firstBadEdge}
+use Rattle.edges_parts.specs.Edges.{edgesOf, firstBadEdge, firstBadMark}
 use Rattle.cover.specs.Covering.{tooLarge}
 
 -- 1: the limits of the cover, for either list of edges
@@ -24,13 +23,6 @@ eitherTooLarge on nn groups metas = tooLarge on groups metas || tooLarge nn grou
 -- 8: either list not whole records, or not a given mark for each group
 abbrev pub lengthsWrong : List ℕ → List ℕ → ℕ → List ℕ → Bool
 lengthsWrong old new groups given = not (eqb (length old % 8) 0) || not (eqb (length new % 8) 0) || not (eqb (length given) groups)
-
--- 9 of the given marks: the first that is not 0 or 1, or their number
-abbrev pub badMark : List ℕ → ℕ → Bool
-badMark given i = ltb 1 (getD given i 0)
-
-unfoldable pub firstBadMark : List ℕ → ℕ
-firstBadMark given = seek (badMark given) 0 (length given)
 
 -- 9, list by list: at the first bad edge of the old ones, of the new ones, at the first bad mark
 abbrev pub contentsTested : List ℕ → List ℕ → ℕ → ℕ → List ℕ → Checked

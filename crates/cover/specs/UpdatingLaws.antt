@@ -19,18 +19,17 @@ use Rattle.records.specs.LeLaws.{getD-sets-other}
 use Rattle.records.specs.Outcome.{Outcome, outcome}
 use Rattle.records.specs.Room.{fits, fitted, bytewise}
 use Rattle.records.specs.RoomLaws.{stored-text, fits-text}
-use Rattle.records.specs.SearchLaws.{seek-before}
 use Rattle.records.specs.Tests.{below?, neither, truth?}
 use Rattle.cover_rules.specs.Cover.{bit, coverList}
 use Rattle.cover_rules.specs.ListedLaws.{length-listed, getD-listed, length-cover}
 use Rattle.cover_rules.specs.Marks.{workNeeded, handed}
 use Rattle.cover_rules.specs.Update.{touched, update, updateList}
-use Rattle.edges_parts.specs.Edges.{edgesOf, firstBadEdge, InRange}
-use Rattle.edges_parts.specs.RangeLaws.{in-range}
+use Rattle.edges_parts.specs.Edges.{edgesOf, firstBadEdge, firstBadMark, InRange}
+use Rattle.edges_parts.specs.RangeLaws.{in-range, all-bits}
 use Rattle.touching_parts.specs.Touching.{Sized, Mixed}
 use Rattle.cover.specs.Covering.{tooLarge, coverMarks}
 use Rattle.cover.specs.CoveringLaws.{passed, Ready, Small, small}
-use Rattle.cover.specs.Updating.{eitherTooLarge, lengthsWrong, badMark, firstBadMark, updateTested, updateMarks}
+use Rattle.cover.specs.Updating.{eitherTooLarge, lengthsWrong, updateTested, updateMarks}
 
 pub record UpdateReady (old new : List ℕ) (groups metas : ℕ) (given : List ℕ) (words : ℕ) : Type 0 where
   pub of-new : Ready new groups metas words
@@ -49,10 +48,6 @@ as-many-as given groups b h = eqb-true (length given) groups (is (eqb (length gi
     is : (t : Bool) → not t ≡ false → t ≡ true
     is true e = refl
     is false e = sym e
-
-all-bits : (given : List ℕ) → length given ≤ firstBadMark given → (i : ℕ) → i < length given → getD given i 0 ≤ 1
-unfolding firstBadMark
-all-bits given h i l = ltb-false 1 (getD given i 0) (seek-before (badMark given) 0 (length given) i (omega arith) (omega arith))
 
 pub update-ready : (old new : List ℕ) (groups metas : ℕ) (given : List ℕ) (words : ℕ) → updateTested old new groups metas given words ≡ Passed → UpdateReady old new groups metas given words
 update-ready old new groups metas given words e =

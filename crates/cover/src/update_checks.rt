@@ -2,12 +2,13 @@
 use crate::checks::too_large;
 use crate::checks::work_needed;
 use edges_parts::first_bad_edge;
+use edges_parts::first_bad_mark;
 use records::Checked;
 use records::Refusal;
 ghost use mathlib.Core.Path.{_≡_};
 ghost use Prim.Native.Nat.{_/_, _≤_};
 ghost use lib.ListN.{length};
-ghost use Rattle.cover.specs.Updating.{eitherTooLarge, lengthsWrong, firstBadMark, contentsTested, updateTested};
+ghost use Rattle.cover.specs.Updating.{eitherTooLarge, lengthsWrong, contentsTested, updateTested};
 
 fn either_too_large(on: usize, nn: usize, groups: usize, metas: usize) -> bool
     ensures { λ r. ⌜ r ≡ eitherTooLarge on nn groups metas ⌝ }
@@ -21,20 +22,6 @@ fn lengths_wrong(old: &[u8], new: &[u8], groups: usize, given: &[u8]) -> bool
     ensures { λ r. ⌜ r ≡ lengthsWrong (now (old .entry)) (now (new .entry)) groups (now (given .entry)) ⌝ }
 {
     (old.len() % 8 != 0) | (new.len() % 8 != 0) | (given.len() != groups)
-}
-
-// The first mark that is not 0 or 1, or how many there are.
-fn first_bad_mark(given: &[u8]) -> usize
-    ensures { λ r. ⌜ r ≡ firstBadMark (now (given .entry)) ⌝ }
-{
-    let mut i = 0;
-    while i < given.len() {
-        if 1 < given[i] {
-            return i;
-        }
-        i += 1;
-    }
-    i
 }
 
 // The first refusal for what the lists hold.

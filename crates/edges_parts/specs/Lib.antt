@@ -2,6 +2,7 @@
 pub mod Edges
 pub mod RangeLaws
 pub mod EdgeLaws
+pub mod BackLaws
 pub mod TableLaws
 pub mod Chains
 pub mod ChainLaws

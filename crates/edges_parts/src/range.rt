@@ -1,8 +1,8 @@
-// The first edge record with a field out of range.
+// The first edge record, and the first mark, with a field out of range.
 use records::u32_at;
 ghost use mathlib.Core.Path.{_≡_};
 ghost use Prim.Native.Nat.{_≤_};
-ghost use Rattle.edges_parts.specs.Edges.{badEdge, firstBadEdge};
+ghost use Rattle.edges_parts.specs.Edges.{badEdge, firstBadEdge, firstBadMark};
 
 fn is_bad_edge(edges: &[u8], i: usize, groups: usize, metas: usize) -> bool
     requires { ⌜ i ≤ 1048576 ⌝ }
@@ -26,4 +26,18 @@ pub fn first_bad_edge(edges: &[u8], n: usize, groups: usize, metas: usize) -> us
         i += 1;
     }
     n
+}
+
+// The first mark that is not 0 or 1, or how many there are.
+pub fn first_bad_mark(marks: &[u8]) -> usize
+    ensures { λ r. ⌜ r ≡ firstBadMark (now (marks .entry)) ⌝ }
+{
+    let mut i = 0;
+    while i < marks.len() {
+        if 1 < marks[i] {
+            return i;
+        }
+        i += 1;
+    }
+    i
 }

@@ -5,8 +5,7 @@ use mathlib.Core.Bool.{true, false}
 use lib.ListN.{length}
 use lib.Dec.{ltb}
 use borrow.Author.Tests.{lt-ltb, le-ltb}
-use Rattle.edges_parts.specs.Edges.{firstBadEdge}
-use Rattle.cover.specs.Updating.{firstBadMark}
+use Rattle.edges_parts.specs.Edges.{firstBadEdge, firstBadMark}
 use borrow.Author.Needs.{needs}
 use Rattle.cover.proofs.update_checks.contents.Statement.{statement}
 use Rattle.cover.proofs.update_checks.contents.Tie as tie

@@ -6,29 +6,29 @@ use lib.ListN.{length}
 use borrow.Author.Tests.{lt-ltb, le-ltb}
 use Rattle.records.specs.Search.{seek}
 use Rattle.records.specs.SearchLaws.{seek-start, seek-on, seek-stop, seek-end}
-use Rattle.cover.specs.Updating.{badMark, firstBadMark}
+use Rattle.edges_parts.specs.Edges.{badMark, firstBadMark}
 use borrow.Author.Needs.{needs}
-use Rattle.cover.proofs.update_checks.first_bad_mark.Statement.{statement}
-use Rattle.cover.proofs.update_checks.first_bad_mark.Tie as tie
+use Rattle.edges_parts.proofs.range.first_bad_mark.Statement.{statement}
+use Rattle.edges_parts.proofs.range.first_bad_mark.Tie as tie
 
 abbrev Inv-loop : tie.InvT-loop
-Inv-loop given i₀ i = (i ≤ length given) × (seek (badMark given) i (length given - i) ≡ firstBadMark given)
+Inv-loop marks i₀ i = (i ≤ length marks) × (seek (badMark marks) i (length marks - i) ≡ firstBadMark marks)
 
 abbrev μ-loop : tie.MeasureT-loop
-μ-loop given i₀ i = length given - i
+μ-loop marks i₀ i = length marks - i
 
 loop-holds : tie.Need-loop-holds Inv-loop μ-loop
 unfolding firstBadMark
-loop-holds c = (omega arith, seek-start (badMark (c .args .given .now)) (length (c .args .given .now)))
+loop-holds c = (omega arith, seek-start (badMark (c .args .marks .now)) (length (c .args .marks .now)))
 
 shared-slice-read-if1 : tie.Need-shared-slice-read-if1 Inv-loop μ-loop
 shared-slice-read-if1 c = search needs
 
 returns : tie.Need-returns Inv-loop μ-loop
 returns c =
-    let given = c .before .before .before .before .args .given .now in
+    let marks = c .before .before .before .before .args .marks .now in
     let lp = c .before .before .before .loop in
-    sym (seek-stop (badMark given) (lp .i) (length given) (c .before .before .loop-test .taken) (lt-ltb _ _ (c .if1 .taken))) ∙ lp .inv .1
+    sym (seek-stop (badMark marks) (lp .i) (length marks) (c .before .before .loop-test .taken) (lt-ltb _ _ (c .if1 .taken))) ∙ lp .inv .1
 
 add-i : tie.Need-add-i Inv-loop μ-loop
 add-i c = search needs
@@ -38,15 +38,15 @@ loop-less c = search needs
 
 loop-again : tie.Need-loop-again Inv-loop μ-loop
 loop-again c =
-    let given = c .before .before .before .before .args .given .now in
+    let marks = c .before .before .before .before .args .marks .now in
     let lp = c .before .before .before .loop in
-    (omega arith, sym (seek-on (badMark given) (lp .i) (length given) (c .before .before .loop-test .taken) (le-ltb _ _ (c .if1 .left))) ∙ lp .inv .1)
+    (omega arith, sym (seek-on (badMark marks) (lp .i) (length marks) (c .before .before .loop-test .taken) (le-ltb _ _ (c .if1 .left))) ∙ lp .inv .1)
 
 returns-2 : tie.Need-returns-2 Inv-loop μ-loop
 returns-2 c =
-    let given = c .before .before .args .given .now in
+    let marks = c .before .before .args .marks .now in
     let lp = c .before .loop in
-    sym (seek-end (badMark given) (lp .i) (length given) (c .loop-test .left)) ∙ lp .inv .1
+    sym (seek-end (badMark marks) (lp .i) (length marks) (c .loop-test .left)) ∙ lp .inv .1
 
 pub first-bad-mark-spec : {M : Type 1} → statement M
 first-bad-mark-spec =
