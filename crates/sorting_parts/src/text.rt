@@ -20,6 +20,11 @@ pub enum By {
     // a word, and then the letters of a range, a decoy's reversed, by three tables of so many among the keys: the words, where the
     // ranges begin, and twice their lengths, one more for a decoy
     Spelled(u32),
+    // the text of the entry that it is: four times the number of a name, whose bytes end at a zero; two more where the tag, the first 16
+    // keys up to a zero, stands before it; one more where it is the last of its group
+    Tagged,
+    // the texts of the entries from its place behind the tag on, up to the last of the group, joined by `/`
+    Joined,
 }
 
 // A part of a slice.
