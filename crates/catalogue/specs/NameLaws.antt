@@ -1,14 +1,14 @@
 -- Laws of names and catalogues. Assumes nothing.
-use Prim.Native.Nat.{ℕ, _+_, _-_, _*_, _%_, _≤_, _<_}
-use mathlib.Core.Path.{_≡_, sym, ap, _∙_, subst}
+use Prim.Native.Nat.{ℕ, zero, suc, _+_, _-_, _*_, _%_, _≤_, _<_}
+use mathlib.Core.Path.{_≡_, refl, sym, ap, _∙_, subst}
 use mathlib.Core.Bool.{Bool, true, false, cond, _&&_}
 use mathlib.Core.Logic.{_⊎_, inl, inr, ⊎-elim}
-use mathlib.Core.List.{List}
+use mathlib.Core.List.{List, [], _∷_, _++_}
 use native.Mathlib.Omega.{arith}
-use lib.ListN.{length, getD, take, drop}
-use lib.Seq.{length-slice}
+use lib.ListN.{length, getD, take, drop, replicate, length-append, length-replicate, length-drop}
+use lib.Seq.{length-slice, getD-drop}
 use lib.Dec.{leb, ltb, eqb}
-use borrow.Author.Tests.{le-leb, ltb-true, ltb-false, lt-ltb, le-ltb, eqb-true, leb-true, not-false}
+use borrow.Author.Tests.{le-leb, lt-leb, ltb-true, ltb-false, lt-ltb, le-ltb, eqb-true, leb-true, not-false}
 use Rattle.records.specs.declared.refusal.Refusal.the-variants.{Size, Length, Name, Repeat as Again}
 use Rattle.records.specs.declared.refusal.Checked.the-variants.{Passed, Refused}
 use Rattle.records.specs.Outcome.{Outcome, outcome}
@@ -24,7 +24,7 @@ use Rattle.sorting.specs.Repeats.{repeats, firstRepeat, repeatedAt, repeatOutco
 use Rattle.sorting.specs.declared.repeats.Repeated.{Repeated}
 use Rattle.sorting.specs.declared.repeats.Repeated.the-variants.{At, Never, Unfit}
 use Rattle.records.specs.Tested.{passed-first, passed-second}
-use Rattle.catalogue.specs.Names.{hidden, filled, nameLength, zerosTo, isName, nameCount, tooManyNames, wholeNames, badName, wrongName, wrongAt, namesTested, catalogueTested}
+use Rattle.catalogue.specs.Names.{hidden, filled, nameLength, zerosTo, isName, nameCount, tooManyNames, wholeNames, badName, wrongName, wrongAt, namesTested, catalogueTested, cleared, namesOutcome}
 
 -- ---- the search for a first place
 
@@ -200,3 +200,46 @@ place-found names w x after h k e = ap (placeIn n) said ∙ ⊎-elim here never 
 
     never : n ≤ f → placeIn n (repeatedAt n f) ≡ f
     never g = let z : n ≡ f = omega (arith, seek-to (repeats (nameOf names)) 0 n) in rw (le-ltb f n g) z
+
+-- the table then
+pub table-left : (names w : List ℕ) (x : Repeated) (after : List ℕ) → nameCount names ≤ 65536 → nameCount names + nameCount names ≤ length w
+    → outcome x (after ∷ []) ≡ repeatOutcome names w → after ≡ cleared (nameCount names) w
+table-left names w x after h k e =
+    let p : leb (nameCount names) 4294967295 ≡ true = le-leb (nameCount names) 4294967295 (omega arith) in
+    let q : leb (nameCount names + nameCount names) (length w) ≡ true = le-leb (nameCount names + nameCount names) (length w) k in
+    let f : after ∷ [] ≡ cleared (nameCount names) w ∷ [] = rw (p, q) at (ap (λ (o : Outcome Repeated). o .lent) e) in
+    ap first f
+  where
+    first : List (List ℕ) → List ℕ
+    first [] = []
+    first (l ∷ ls) = l
+
+-- as long as it was
+pub length-cleared : (n : ℕ) (w : List ℕ) → n + n ≤ length w → length (cleared n w) ≡ length w
+length-cleared n w h =
+    length-append (replicate (n + n) 0) (drop (n + n) w)
+    ∙ omega (arith, length-replicate {A = ℕ} (n + n) 0, length-drop (n + n) w)
+
+-- a table of zeros stays one
+zeros-before : (n : ℕ) (ys : List ℕ) → ((i : ℕ) → getD ys i 0 ≡ 0) → (i : ℕ) → getD (replicate n 0 ++ ys) i 0 ≡ 0
+zeros-before zero ys h i = h i
+zeros-before (suc n) ys h zero = refl
+zeros-before (suc n) ys h (suc i) = zeros-before n ys h i
+
+pub cleared-zeros : (n : ℕ) (w : List ℕ) → ((i : ℕ) → getD w i 0 ≡ 0) → (i : ℕ) → getD (cleared n w) i 0 ≡ 0
+cleared-zeros n w h i = zeros-before (n + n) (drop (n + n) w) (λ j. getD-drop (n + n) w j 0 ∙ h (n + n + j)) i
+
+-- where the tests of sizes and lengths passed and the table is long enough, the contents are tested in it
+pub names-in : (names tab : List ℕ) → tooManyNames names ≡ false → wholeNames names ≡ true → nameCount names + nameCount names ≤ length tab
+    → namesOutcome names tab ≡ outcome (namesTested names) (cleared (nameCount names) tab ∷ [])
+names-in names tab e f h = let g : leb (nameCount names + nameCount names) (length tab) ≡ true = le-leb (nameCount names + nameCount names) (length tab) h in rw (e, f, g)
+
+pub names-short : (names tab : List ℕ) → tooManyNames names ≡ false → wholeNames names ≡ true → length tab < nameCount names + nameCount names
+    → namesOutcome names tab ≡ outcome (namesTested names) (tab ∷ [])
+names-short names tab e f h = let g : leb (nameCount names + nameCount names) (length tab) ≡ false = lt-leb (nameCount names + nameCount names) (length tab) h in rw (e, f, g)
+
+pub names-many : (names tab : List ℕ) → tooManyNames names ≡ true → namesOutcome names tab ≡ outcome (Refused Size) (tab ∷ [])
+names-many names tab e = rw e
+
+pub names-parted : (names tab : List ℕ) → tooManyNames names ≡ false → wholeNames names ≡ false → namesOutcome names tab ≡ outcome (Refused Length) (tab ∷ [])
+names-parted names tab e f = rw (e, f)

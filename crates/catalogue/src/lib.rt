@@ -14,4 +14,5 @@ pub use name::name_length;
 pub use names::are_whole_names;
 pub use names::name_count;
 pub use names::names_checked;
+pub use names::names_checked_in;
 pub use names::too_many_names;

@@ -1,13 +1,17 @@
 // A catalogue: names in a row.
 use crate::name::is_name;
 use crate::repeat::first_repeat;
+use crate::repeat::repeat_over;
 use records::Checked;
 use records::Refusal;
 ghost use mathlib.Core.Path.{_≡_};
-ghost use Prim.Native.Nat.{_≤_, _<_};
+ghost use mathlib.Core.List.{[], _∷_};
+ghost use Prim.Native.Nat.{_+_, _≤_, _<_};
+ghost use lib.ListN.{length};
+ghost use Rattle.records.specs.Outcome.{outcome};
 ghost use Rattle.records.specs.Search.{seek};
 ghost use Rattle.sorting_parts.specs.Text.{nameOf};
-ghost use Rattle.catalogue.specs.Names.{nameCount, tooManyNames, wholeNames, isName, badName, namesTested, catalogueTested};
+ghost use Rattle.catalogue.specs.Names.{nameCount, tooManyNames, wholeNames, isName, badName, lowerOf, namesTested, catalogueTested, cleared, namesOutcome};
 
 // How many names there are; a part of a record is none.
 pub fn name_count(names: &[u8]) -> usize
@@ -55,20 +59,37 @@ fn first_bad_name(names: &[u8]) -> usize
     i
 }
 
-// The contents: the lower of two places, the first bad name and the first that repeats.
+// What the first bad name and the first that repeats tell of n names: the lower of the two.
+fn told(bad: usize, again: usize, n: usize) -> Checked
+    ensures { λ r. ⌜ r ≡ lowerOf bad again n ⌝ }
+{
+    if again < bad {
+        return Checked::Refused(Refusal::Repeat(again));
+    }
+    if bad < n {
+        return Checked::Refused(Refusal::Name(bad));
+    }
+    Checked::Passed
+}
+
+// The contents, with a table of the call's own.
 fn contents_checked(names: &[u8]) -> Checked
     requires { ⌜ nameCount (now names) ≤ 65536 ⌝ }
     ensures { λ r. ⌜ r ≡ namesTested (now (names .entry)) ⌝ }
 {
     let bad = first_bad_name(names);
     let again = first_repeat(names);
-    if again < bad {
-        return Checked::Refused(Refusal::Repeat(again));
-    }
-    if bad < names.len() / 64 {
-        return Checked::Refused(Refusal::Name(bad));
-    }
-    Checked::Passed
+    told(bad, again, names.len() / 64)
+}
+
+// The same with a table that is lent.
+fn contents_over(names: &[u8], tab: &mut [u32]) -> Checked
+    requires { ⌜ (nameCount (now names) ≤ 65536) × (nameCount (now names) + nameCount (now names) ≤ length (now tab)) ⌝ }
+    ensures { λ r. ⌜ (r ≡ namesTested (now (names .entry))) × (now (tab .exit) ≡ cleared (nameCount (now (names .entry))) (now (tab .entry))) ⌝ }
+{
+    let bad = first_bad_name(names);
+    let again = repeat_over(names, tab);
+    told(bad, again, names.len() / 64)
 }
 
 // The tests of a catalogue: 1, 8, and 12 or 13 at the lowest place.
@@ -79,6 +100,24 @@ pub fn names_checked(names: &[u8]) -> Checked
         return Checked::Refused(Refusal::Size);
     }
     if are_whole_names(names) {
+        return contents_checked(names);
+    }
+    Checked::Refused(Refusal::Length)
+}
+
+// The same tests with a table that is lent, so that the call takes little stack: two numbers a name are used, and are zero at the
+// end. A table that is too short is not used.
+pub fn names_checked_in(names: &[u8], tab: &mut [u32]) -> Checked
+    ensures { λ r. ⌜ outcome r (now (tab .exit) ∷ []) ≡ namesOutcome (now (names .entry)) (now (tab .entry)) ⌝ }
+{
+    if too_many_names(names) {
+        return Checked::Refused(Refusal::Size);
+    }
+    if are_whole_names(names) {
+        let n = names.len() / 64;
+        if n + n <= tab.len() {
+            return contents_over(names, tab);
+        }
         return contents_checked(names);
     }
     Checked::Refused(Refusal::Length)

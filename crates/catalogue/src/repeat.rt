@@ -5,7 +5,7 @@ ghost use Prim.Native.Nat.{_+_, _≤_};
 ghost use lib.ListN.{length};
 ghost use Rattle.sorting_parts.specs.Text.{nameOf};
 ghost use Rattle.sorting.specs.Repeats.{firstRepeat};
-ghost use Rattle.catalogue.specs.Names.{nameCount};
+ghost use Rattle.catalogue.specs.Names.{nameCount, cleared};
 ghost use Rattle.catalogue.specs.NameLaws.{placeIn};
 
 fn place_in(n: usize, found: Repeated) -> usize
@@ -18,10 +18,10 @@ fn place_in(n: usize, found: Repeated) -> usize
     }
 }
 
-// With a table that is lent: two numbers a name.
-fn repeat_over(names: &[u8], tab: &mut [u32]) -> usize
+// With a table that is lent: two numbers a name, which are zero at the end.
+pub fn repeat_over(names: &[u8], tab: &mut [u32]) -> usize
     requires { ⌜ (nameCount (now names) ≤ 65536) × (nameCount (now names) + nameCount (now names) ≤ length (now tab)) ⌝ }
-    ensures { λ r. ⌜ r ≡ firstRepeat (nameOf (now (names .entry))) (nameCount (now (names .entry))) ⌝ }
+    ensures { λ r. ⌜ (r ≡ firstRepeat (nameOf (now (names .entry))) (nameCount (now (names .entry)))) × (now (tab .exit) ≡ cleared (nameCount (now (names .entry))) (now (tab .entry))) ⌝ }
 {
     let found = sorting::first_repeated(names, tab);
     place_in(names.len() / 64, found)

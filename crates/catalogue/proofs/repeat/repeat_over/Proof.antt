@@ -1,7 +1,7 @@
 -- `repeat_over` meets its contract. Assumes nothing.
 use mathlib.Core.Path.{_∙_}
 use denote.Ref.{now}
-use Rattle.catalogue.specs.NameLaws.{place-found}
+use Rattle.catalogue.specs.NameLaws.{place-found, table-left}
 use borrow.Author.Needs.{needs}
 use Rattle.catalogue.proofs.repeat.repeat_over.Statement.{statement}
 use Rattle.catalogue.proofs.repeat.repeat_over.Tie as tie
@@ -18,7 +18,11 @@ same-length c = search needs
 returns : tie.Need-returns
 returns c =
     let a = c .before .before .before .before .before .before .before .args in
-    c .place-in .ensures ∙ place-found (now (a .names)) (now (a .tab)) (c .before .before .before .first-repeated .result) _ (c .before .before .before .before .before .before .before .pre .0) (c .before .before .before .before .before .before .before .pre .1) (c .before .before .before .first-repeated .ensures)
+    let p = c .before .before .before .before .before .before .before .pre in
+    let f = c .before .before .before .first-repeated in (
+      c .place-in .ensures ∙ place-found (now (a .names)) (now (a .tab)) (f .result) _ (p .0) (p .1) (f .ensures),
+      table-left (now (a .names)) (now (a .tab)) (f .result) (f .last .1 .0) (p .0) (p .1) (f .ensures),
+    )
 
 pub repeat-over-spec : {M : Type 1} → statement M
 repeat-over-spec =
