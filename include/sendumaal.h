@@ -178,6 +178,26 @@ uint32_t sendumaal_group_digests(const uint8_t *names, size_t names_len, const u
                                  uint8_t *groups, size_t groups_len, uint32_t *proteins, size_t proteins_len,
                                  uint32_t *count, size_t *place);
 
+/* ---- groups of proteins ----
+ * A pair is 8 bytes: peptide u32, protein u32, little-endian, each below its count. A flag is a byte: 1 for a decoy peptide,
+ * else 0. A member is 12 bytes: group u32, protein u32, little-endian, decoy u8, three zeros. */
+
+/* Groups proteins by the peptides that show them. Peptides go by number, their pairs in order; proteins are numbered as
+ * they appear, one from a target and from a decoy peptide as two. A meta-peptide is the sorted list of such numbers, with
+ * repeats, of one or more peptides; they are in lexicographic order. Proteins that have the same list of meta-peptides,
+ * with repeats, are a group, and groups are ordered by those lists. Edges stand group by group along its list, members
+ * group by group by their numbers. pairs are at most 1048576, peptides 262144, proteins 65536. work has at least 8 x
+ * proteins + 4 x peptides + 6 x pairs words, of any content; it is all zero afterwards, but untouched by a refusal other
+ * than 11. Refuses with 1; 8 (pairs are not whole records, flags are not peptides); 10; 9 in pairs; 9 in flags (the
+ * peptide's number); 11 (edges or members are too short): the records that fit stand in order, in each. Accepted: *groups,
+ * *metas, *edge_count and *member_count are written; the rest of edges and members stays. sendumaal_cover takes edges,
+ * groups and metas as they are here. */
+uint32_t sendumaal_group_proteins(const uint8_t *pairs, size_t pairs_len, const uint8_t *flags, size_t flags_len,
+                                  uint32_t peptides, uint32_t proteins, uint32_t *work, size_t work_len,
+                                  uint8_t *edges, size_t edges_len, uint8_t *members, size_t members_len,
+                                  uint32_t *groups, uint32_t *metas, uint32_t *edge_count, uint32_t *member_count,
+                                  size_t *place);
+
 /* ---- the cover ----
  * An edge is 8 bytes: group u32, meta-peptide u32, little-endian, each below its count. A mark is a byte, 0 or 1. groups are
  * at most 131072, metas 262144, edges 1048576 a list. */
@@ -200,6 +220,23 @@ uint32_t sendumaal_update(const uint8_t *old_edges, size_t old_edges_len,
                           const uint8_t *new_edges, size_t new_edges_len, uint32_t groups, uint32_t metas,
                           const uint8_t *given, size_t given_len, uint32_t *work, size_t work_len,
                           uint8_t *marks, size_t marks_len, uint32_t *count, size_t *place);
+
+/* ---- report lines ---- */
+
+/* Writes the report line of a peptide that has the given proteins and decoy flag: of the marked groups that hold one of its
+ * proteins with that flag, each once, the names of all members, sorted and joined by '/', groups sorted and joined by ';'.
+ * A member that is a decoy has the tag before its name where generated is 1. names are a catalogue as for groups of
+ * digests; members may stand in any order; marks_len is the number of groups. names are at most 65536, members and marks
+ * 131072, proteins 1048576; the line has no limit but line_len. Refuses with 1; 8 (names or members are not whole records);
+ * 12 and 13 in names, the lowest place; 9 in members (a group without a mark, a protein without a name, a flag above 1, no
+ * three zeros); 9 in marks; 9 in proteins (no name); 12 (the tag is longer than 16 bytes, or has one that is not 33 to 126:
+ * 0); 9 (decoy or generated is neither 0 nor 1: 0); 11: the bytes that fit stand in order. Accepted: *bytes is the length
+ * of the line, which stands at the front of line; *groups is the number of ';' in it plus one, or 0 where no group applies;
+ * the rest of line stays. It takes 1.6 MB of stack. */
+uint32_t sendumaal_report_line(const uint8_t *names, size_t names_len, const uint8_t *members, size_t members_len,
+                               const uint8_t *marks, size_t marks_len, const uint32_t *proteins, size_t proteins_len,
+                               uint32_t decoy, const uint8_t *tag, size_t tag_len, uint32_t generated,
+                               uint8_t *line, size_t line_len, uint32_t *bytes, uint32_t *groups, size_t *place);
 
 #ifdef __cplusplus
 }

@@ -1,15 +1,67 @@
--- Document 01, "Examples (P: proved of the rules)": P1, P3, P4, P5, P6, P8, the cover of P10 and P11, with further cases of the crates, in
--- one table under one claim.
-use mathlib.Core.List.{List, _++_}
+-- Document 01, "Examples (P: proved of the rules)": P1, P3, P4, P5, P6, P8, P10 and P11, with further cases of the crates, in one table under
+-- one claim.
+use Prim.Native.Nat.{ℕ}
+use mathlib.Core.Path.{refl}
+use mathlib.Core.List.{List, [], _∷_, _++_, flatten, map}
+use lib.ListN.{getD}
+use lib.Dec.{eqb}
 use Rattle.records.specs.Cases.{Case, Hold, joined}
+use Rattle.sorting.specs.Distinct.{keep}
+use Rattle.cover_rules.specs.Cover.{count, keep as keepEdges, markForced, coverMarked, stays, pass, passes, greatest, mark, choose, turn, turns, cover, listed, coverList}
+use Rattle.members_parts.specs.Members.{Member}
+use Rattle.grouping_rules.specs.Groups.{Pair, Groups, proteins, metas, groupsOf, grouping}
 use Rattle.enzyme.specs.Cases.{table as digests, cases as digests-hold}
 use Rattle.peptide.specs.Cases.{table as forms, cases as forms-hold}
-use Rattle.gathering.specs.Cases.{table as groups, cases as groups-hold}
+use Rattle.gathering.specs.Cases.{table as gathered, cases as gathered-hold}
+use Rattle.grouping_rules.specs.Cases.{table as groups, cases as groups-hold}
+use Rattle.grouping.specs.Cases.{table as grouped, cases as grouped-hold}
 use Rattle.cover.specs.Cases.{table as covers, cases as covers-hold}
+use Rattle.report_rules.specs.Cases.{table as lines, cases as lines-hold}
+use Rattle.reporting.specs.Cases.{table as reports, cases as reports-hold}
+
+-- P10: of pairs (peptide, protein) the proteins of each group, then those of the groups that the cover of its edges marks
+abbrev p10 : Groups
+p10 =
+    let pair : ℕ → ℕ → Pair = λ p q. record { peptide = p; protein = q } in
+    grouping (0 ∷ 0 ∷ 0 ∷ 0 ∷ []) 4 (pair 1 10 ∷ pair 1 11 ∷ pair 2 10 ∷ pair 2 11 ∷ pair 3 12 ∷ pair 3 10 ∷ [])
+
+abbrev inGroup : ℕ → List ℕ
+inGroup g = map (λ (m : Member). m .protein) (keep (λ (m : Member). eqb (m .group) g) (p10 .members))
+
+abbrev inCover : List ℕ
+inCover = map (λ (m : Member). m .protein) (keep (λ (m : Member). eqb (getD (coverList (p10 .groups) (p10 .edges)) (m .group) 0) 1) (p10 .members))
+
+whole : List Case
+whole = record { got = (p10 .groups ∷ []) ∷ inGroup 0 ∷ inGroup 1 ∷ inGroup 2 ∷ inCover ∷ []; want = (3 ∷ []) ∷ (11 ∷ []) ∷ (10 ∷ []) ∷ (12 ∷ []) ∷ (10 ∷ []) ∷ [] } ∷ []
+
+whole-holds : Hold whole
+unfolding flatten count keepEdges markForced coverMarked stays pass passes greatest mark choose turn turns cover listed coverList proteins metas groupsOf grouping whole
+whole-holds = refl
+
+-- the tables from one of them on
+abbrev fromCovers : List Case
+fromCovers = covers ++ (lines ++ reports)
+
+abbrev fromWhole : List Case
+fromWhole = whole ++ fromCovers
+
+abbrev fromGrouped : List Case
+fromGrouped = grouped ++ fromWhole
+
+abbrev fromGathered : List Case
+fromGathered = gathered ++ (groups ++ fromGrouped)
 
 pub table : List Case
-table = digests ++ (forms ++ (groups ++ covers))
+table = digests ++ (forms ++ fromGathered)
 
 pub cases : Hold table
 unfolding table
-cases = joined digests (forms ++ (groups ++ covers)) digests-hold (joined forms (groups ++ covers) forms-hold (joined groups covers groups-hold covers-hold))
+cases =
+    joined digests (forms ++ fromGathered) digests-hold
+    (joined forms fromGathered forms-hold
+    (joined gathered (groups ++ fromGrouped) gathered-hold
+    (joined groups fromGrouped groups-hold
+    (joined grouped fromWhole grouped-hold
+    (joined whole fromCovers whole-holds
+    (joined covers (lines ++ reports) covers-hold
+    (joined lines reports lines-hold reports-hold)))))))

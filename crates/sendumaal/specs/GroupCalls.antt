@@ -6,7 +6,7 @@ use Rattle.records.specs.Outcome.{Outcome, outcome, only}
 use Rattle.gathering.specs.Grouping.{groupOutcome}
 use Rattle.cover.specs.Covering.{coverOutcome}
 use Rattle.cover.specs.Updating.{updateOutcome}
-use Rattle.sendumaal.specs.Calls.{countedCall}
+use Rattle.calls_parts.specs.Calls.{countedCall}
 
 abbrev pub groupCall : List ℕ → List ℕ → List ℕ → List ℕ → List ℕ → List ℕ → List ℕ → ℕ → Outcome ℕ
 groupCall names bounds letters digests work groups proteins count = countedCall (groupOutcome names bounds letters digests work groups proteins) count

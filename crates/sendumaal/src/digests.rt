@@ -1,73 +1,17 @@
 // Digestion and reversal.
-use crate::telling::counted;
-use crate::telling::told;
-use enzyme::Enzyme;
-use enzyme::Kind;
+use calls_parts::counted;
+use calls_parts::enzyme_numbered;
+use calls_parts::is_enzyme;
+use calls_parts::told;
+use calls_parts::told_field;
 use enzyme::Settings;
-use enzyme::Side;
 use letters::LetterSet;
-use records::Checked;
 ghost use mathlib.Core.Path.{_≡_};
 ghost use mathlib.Core.List.{List, [], _∷_};
 ghost use Rattle.records.specs.Outcome.{outcome};
 ghost use Rattle.enzyme.specs.Reversal.{reverseOutcome, reverseRecordOutcome, lettersOutcome};
-ghost use Rattle.sendumaal.specs.Calls.{checkedCall, countedCall};
-ghost use Rattle.sendumaal.specs.DigestCalls.{isEnzyme, kindNumbered, sideNumbered, enzymeNumbered, fieldCall, digestCall};
-
-// Whether numbers stand for a kind, a side and a flag.
-fn is_enzyme(kind: u32, side: u32, semi: u32) -> bool
-    ensures { λ r. ⌜ r ≡ isEnzyme kind side semi ⌝ }
-{
-    (kind <= 2) & (side <= 1) & (semi <= 1)
-}
-
-fn kind_numbered(kind: u32, cleave: u32) -> Kind
-    ensures { λ r. ⌜ r ≡ kindNumbered kind cleave ⌝ }
-{
-    if kind == 1 {
-        return Kind::End;
-    }
-    if kind == 2 {
-        return Kind::Set(LetterSet { mask: cleave });
-    }
-    Kind::None
-}
-
-fn side_numbered(side: u32) -> Side
-    ensures { λ r. ⌜ r ≡ sideNumbered side ⌝ }
-{
-    if side == 1 { Side::N } else { Side::C }
-}
-
-fn enzyme_numbered(kind: u32, cleave: u32, skip: u32, side: u32, semi: u32) -> Enzyme
-    ensures { λ r. ⌜ r ≡ enzymeNumbered kind cleave skip side semi ⌝ }
-{
-    let k = kind_numbered(kind, cleave);
-    let d = side_numbered(side);
-    let set = LetterSet { mask: skip };
-    Enzyme {
-        kind: k,
-        skip: set,
-        side: d,
-        semi: semi == 1,
-    }
-}
-
-// The refusal that the tests found, or that of the enzyme's own fields.
-fn told_field(found: Checked, place: &mut usize) -> u32
-    ensures { λ r. ⌜ outcome r ((now (place .exit) ∷ []) ∷ []) ≡ fieldCall found ⌝ }
-{
-    match found {
-        Checked::Passed => {
-            *place = 0;
-            9
-        }
-        Checked::Refused(why) => {
-            *place = why.place();
-            why.number()
-        }
-    }
-}
+ghost use Rattle.calls_parts.specs.Calls.{checkedCall, countedCall};
+ghost use Rattle.calls_parts.specs.DigestCalls.{digestCall};
 
 #[no_mangle]
 pub extern "C" fn sendumaal_letters_reverse(letters: &mut [u8], place: &mut usize) -> u32

@@ -1,5 +1,5 @@
 // Groups of digests, the cover of groups, and its update.
-use crate::telling::counted;
+use calls_parts::counted;
 ghost use mathlib.Core.Path.{_≡_};
 ghost use mathlib.Core.List.{List, [], _∷_};
 ghost use Rattle.records.specs.Outcome.{outcome};

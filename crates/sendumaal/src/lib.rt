@@ -2,10 +2,10 @@
 mod digests;
 mod groups;
 mod peptides;
+mod proteins;
 mod rules;
 mod sets;
 mod table;
-mod telling;
 
 pub use digests::sendumaal_digest;
 pub use digests::sendumaal_digest_letters;
@@ -13,10 +13,13 @@ pub use digests::sendumaal_digest_reverse;
 pub use digests::sendumaal_letters_reverse;
 pub use groups::sendumaal_cover;
 pub use groups::sendumaal_group_digests;
+pub use groups::sendumaal_update;
 pub use peptides::sendumaal_base_mass;
 pub use peptides::sendumaal_forms;
 pub use peptides::sendumaal_peptide_reverse;
 pub use peptides::sendumaal_peptide_test;
+pub use proteins::sendumaal_group_proteins;
+pub use proteins::sendumaal_report_line;
 pub use rules::sendumaal_fixed_rules_test;
 pub use rules::sendumaal_rule_parse;
 pub use rules::sendumaal_rule_read;

@@ -1,21 +1,20 @@
 // Peptides, which pass as letters and ids.
-use crate::telling::counted;
-use crate::telling::told;
+use calls_parts::counted;
+use calls_parts::flipped;
+use calls_parts::peptide_of;
+use calls_parts::test_reverse;
+use calls_parts::told;
+use calls_parts::too_large;
+use calls_parts::turn;
 use peptide::Peptide;
 use peptide::Weighed;
 use records::Checked;
-use records::Refusal;
 ghost use mathlib.Core.Path.{_≡_};
 ghost use mathlib.Core.List.{List, [], _∷_};
-ghost use Prim.Native.Nat.{_≤_};
-ghost use lib.ListN.{length, take};
 ghost use Rattle.records.specs.Outcome.{outcome};
-ghost use Rattle.records.specs.declared.refusal.Checked.the-variants.{Passed};
-ghost use Rattle.peptide.specs.Peptides.{testedPeptide, reversed};
-ghost use Rattle.peptide.specs.Forms.{tooLarge};
 ghost use Rattle.peptide.specs.Masses.{testedPart, weighed};
-ghost use Rattle.sendumaal.specs.Calls.{testCall};
-ghost use Rattle.sendumaal.specs.PeptideCalls.{weight, weightCall, peptideOf, formsCall, testedLengths, testedTurn, testedReverse, otherFlag, reverseCall};
+ghost use Rattle.calls_parts.specs.Calls.{testCall};
+ghost use Rattle.calls_parts.specs.PeptideCalls.{weight, weightCall, formsCall, reverseCall};
 
 #[no_mangle]
 pub extern "C" fn sendumaal_base_mass(
@@ -55,38 +54,6 @@ pub extern "C" fn sendumaal_peptide_test(
     told(found, place)
 }
 
-// The peptide of lent letters and ids, untested.
-fn peptide_of(
-    letters: &[u8],
-    ids: &[u8],
-    nterm: u8,
-    cterm: u8,
-    position: u8,
-    decoy: bool,
-) -> Peptide
-    ensures { λ r. ⌜ r ≡ peptideOf (now (letters .entry)) (now (ids .entry)) nterm cterm position decoy ⌝ }
-{
-    let bare = Peptide::of_form(letters, &letters[0..0], position, decoy);
-    let held = bare.letters;
-    let worn = Peptide::of_form(ids, &ids[0..0], 0, false);
-    let own = worn.letters;
-    Peptide {
-        letters: held,
-        ids: own,
-        nterm,
-        cterm,
-        len: bare.len,
-        position,
-        decoy,
-    }
-}
-
-fn too_large(len: usize, variable: &[u8], fixed: &[u8], limit: u32) -> bool
-    ensures { λ r. ⌜ r ≡ tooLarge len (now (variable .entry)) (now (fixed .entry)) limit ⌝ }
-{
-    (len == 0) | (64 < len) | (16 < variable.len() / 8) | (32 < fixed.len() / 8) | (8 < limit)
-}
-
 #[no_mangle]
 pub extern "C" fn sendumaal_forms(
     letters: &[u8],
@@ -115,79 +82,6 @@ pub extern "C" fn sendumaal_forms(
     let p = peptide_of(letters, ids, nterm, cterm, position, false);
     let answer = p.forms(variable, fixed, limit, cap, out);
     counted(answer, count, place)
-}
-
-// Stores the first bytes of an array, as many as the slice has.
-fn put_back(out: &mut [u8], from: [u8; 64])
-    requires { ⌜ length (now out) ≤ 64 ⌝ }
-    ensures { λ _. ⌜ now (out .exit) ≡ take (length (now (out .entry))) from ⌝ }
-{
-    let mut i = 0;
-    while i < out.len() {
-        out[i] = from[i];
-        i += 1;
-    }
-}
-
-// Whether the letters are a peptide's, and the ids as many.
-fn test_lengths(letters: &[u8], ids: &[u8]) -> Checked
-    ensures { λ r. ⌜ r ≡ testedLengths (now (letters .entry)) (now (ids .entry)) ⌝ }
-{
-    let n = letters.len();
-    if (n == 0) | (64 < n) {
-        return Checked::Refused(Refusal::Size);
-    }
-    if ids.len() == n {
-        Checked::Passed
-    } else {
-        Checked::Refused(Refusal::Length)
-    }
-}
-
-// What is found of the peptide itself, then of its flag.
-fn test_turn(p: Peptide, decoy: u32) -> Checked
-    ensures { λ r. ⌜ r ≡ testedTurn p decoy ⌝ }
-{
-    let made = p.reverse();
-    let found = made.checked;
-    if let Checked::Refused(why) = found {
-        return Checked::Refused(why);
-    }
-    if decoy <= 1 {
-        Checked::Passed
-    } else {
-        Checked::Refused(Refusal::Field(0))
-    }
-}
-
-// The tests of a reversal, in document 01's order.
-fn test_reverse(letters: &[u8], ids: &[u8], p: Peptide, decoy: u32) -> Checked
-    ensures { λ r. ⌜ r ≡ testedReverse (now (letters .entry)) (now (ids .entry)) p decoy ⌝ }
-{
-    if let Checked::Refused(why) = test_lengths(letters, ids) {
-        return Checked::Refused(why);
-    }
-    test_turn(p, decoy)
-}
-
-// Reverses a peptide and stores it over the slices that it came from.
-fn turn(letters: &mut [u8], ids: &mut [u8], p: Peptide)
-    requires { ⌜ (length (now letters) ≤ 64) × (length (now ids) ≤ 64) × (testedPeptide p ≡ Passed) ⌝ }
-    ensures { λ _. ⌜ (now (letters .exit) ≡ take (length (now (letters .entry))) (reversed p .letters)) × (now (ids .exit) ≡ take (length (now (ids .entry))) (reversed p .ids)) ⌝ }
-{
-    let made = p.reverse();
-    let turned = made.peptide;
-    let held = turned.letters;
-    let worn = turned.ids;
-    put_back(letters, held);
-    put_back(ids, worn);
-}
-
-// The other flag.
-fn flipped(decoy: u32) -> u32
-    ensures { λ r. ⌜ r ≡ otherFlag decoy ⌝ }
-{
-    if decoy == 1 { 0 } else { 1 }
 }
 
 #[no_mangle]

@@ -1,6 +1,7 @@
 // Rule texts and rule records.
-use crate::telling::counted;
-use crate::telling::told;
+use calls_parts::counted;
+use calls_parts::is_rule;
+use calls_parts::told;
 use letters::LetterSet;
 use modification::Parsed;
 use modification::Read;
@@ -11,7 +12,7 @@ ghost use mathlib.Core.Bool.{true, false};
 ghost use Rattle.modification.specs.Texts.{parsed};
 ghost use Rattle.modification.specs.Rules.{testedRules, readRule};
 ghost use Rattle.records.specs.Outcome.{outcome};
-ghost use Rattle.sendumaal.specs.Calls.{setOf, isRule, parseCall, writeCall, testCall, readCall, recordCall};
+ghost use Rattle.calls_parts.specs.Calls.{setOf, parseCall, writeCall, testCall, readCall, recordCall};
 
 #[no_mangle]
 pub extern "C" fn sendumaal_rule_parse(
@@ -51,13 +52,6 @@ pub extern "C" fn sendumaal_fixed_rules_test(rules: &[u8], place: &mut usize) ->
     ensures { λ r. ⌜ outcome r ((now (place .exit) ∷ []) ∷ []) ≡ testCall (testedRules true (now (rules .entry))) ⌝ }
 {
     told(modification::test_rules(rules, true), place)
-}
-
-// Whether numbers can be the kind, the letter and the id of a rule.
-fn is_rule(kind: u32, letter: u32, id: u32) -> bool
-    ensures { λ r. ⌜ r ≡ isRule kind letter id ⌝ }
-{
-    (kind <= 4) & (letter <= 255) & (id <= 255)
 }
 
 #[no_mangle]

@@ -1,8 +1,8 @@
 -- `sendumaal_digest` meets its contract. Assumes nothing.
 use mathlib.Core.Path.{sym, ap, _∙_}
 use denote.Ref.{now}
-use Rattle.sendumaal.specs.DigestCalls.{fieldCall}
-use Rattle.sendumaal.specs.DigestCallLaws.{digest-size, digest-done, digest-field}
+use Rattle.calls_parts.specs.DigestCalls.{fieldCall}
+use Rattle.calls_parts.specs.DigestCallLaws.{digest-size, digest-done, digest-field}
 use borrow.Author.Needs.{needs}
 use Rattle.sendumaal.proofs.digests.sendumaal_digest.Statement.{statement}
 use Rattle.sendumaal.proofs.digests.sendumaal_digest.Tie as tie

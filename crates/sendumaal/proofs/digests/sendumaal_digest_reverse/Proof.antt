@@ -1,8 +1,8 @@
 -- `sendumaal_digest_reverse` meets its contract. Assumes nothing.
 use mathlib.Core.Path.{ap, _∙_}
 use mathlib.Core.List.{[], _∷_}
-use Rattle.sendumaal.specs.Calls.{checkedCall}
-use Rattle.sendumaal.specs.CallLaws.{check-said}
+use Rattle.calls_parts.specs.Calls.{checkedCall}
+use Rattle.calls_parts.specs.CallLaws.{check-said}
 use borrow.Author.Needs.{needs}
 use Rattle.sendumaal.proofs.digests.sendumaal_digest_reverse.Statement.{statement}
 use Rattle.sendumaal.proofs.digests.sendumaal_digest_reverse.Tie as tie

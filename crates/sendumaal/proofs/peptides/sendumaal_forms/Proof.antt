@@ -5,9 +5,9 @@ use denote.Ref.{now}
 use mathlib.Core.Bool.{false}
 use Rattle.peptide.specs.declared.peptide.Peptide.{Peptide}
 use Rattle.peptide.specs.Forms.{formsOutcome}
-use Rattle.sendumaal.specs.PeptideCalls.{peptideOf}
-use Rattle.sendumaal.specs.CallLaws.{count-said}
-use Rattle.sendumaal.specs.PeptideCallLaws.{forms-size, forms-length, forms-listed}
+use Rattle.calls_parts.specs.PeptideCalls.{peptideOf}
+use Rattle.calls_parts.specs.CallLaws.{count-said}
+use Rattle.calls_parts.specs.PeptideCallLaws.{forms-size, forms-length, forms-listed}
 use borrow.Author.Needs.{needs}
 use Rattle.sendumaal.proofs.peptides.sendumaal_forms.Statement.{statement}
 use Rattle.sendumaal.proofs.peptides.sendumaal_forms.Tie as tie

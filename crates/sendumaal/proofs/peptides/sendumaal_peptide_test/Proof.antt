@@ -6,8 +6,8 @@ use Rattle.peptide.specs.Masses.{testedPart}
 use mathlib.Core.Path.{_≡_, ap, _∙_}
 use denote.Ref.{now}
 use Rattle.peptide.specs.declared.peptide.Made.{Made}
-use Rattle.sendumaal.specs.Calls.{testCall}
-use Rattle.sendumaal.specs.PeptideCallLaws.{checked-of}
+use Rattle.calls_parts.specs.Calls.{testCall}
+use Rattle.calls_parts.specs.PeptideCallLaws.{checked-of}
 use borrow.Author.Needs.{needs}
 use Rattle.sendumaal.proofs.peptides.sendumaal_peptide_test.Statement.{statement}
 use Rattle.sendumaal.proofs.peptides.sendumaal_peptide_test.Tie as tie

@@ -5,8 +5,8 @@ use denote.Ref.{now}
 use native.Mathlib.Omega.{arith}
 use Rattle.modification.specs.declared.specificity.Specificity.{Specificity}
 use Rattle.modification.specs.Rules.{writeRuleOutcome}
-use Rattle.sendumaal.specs.Calls.{checkedCall}
-use Rattle.sendumaal.specs.CallLaws.{rule-bytes, check-said, record-rule, record-none}
+use Rattle.calls_parts.specs.Calls.{checkedCall}
+use Rattle.calls_parts.specs.CallLaws.{rule-bytes, check-said, record-rule, record-none}
 use borrow.Author.Needs.{needs}
 use Rattle.sendumaal.proofs.rules.sendumaal_rule_record.Statement.{statement}
 use Rattle.sendumaal.proofs.rules.sendumaal_rule_record.Tie as tie

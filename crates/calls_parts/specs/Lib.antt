@@ -1,0 +1,7 @@
+-- What a reader has to believe: Calls, DigestCalls, PeptideCalls. The files named Laws say what follows from them.
+pub mod Calls
+pub mod CallLaws
+pub mod DigestCalls
+pub mod DigestCallLaws
+pub mod PeptideCalls
+pub mod PeptideCallLaws

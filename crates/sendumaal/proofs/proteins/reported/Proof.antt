@@ -1,0 +1,43 @@
+-- `reported` meets its contract. Assumes nothing.
+use mathlib.Core.Path.{sym, ap, _∙_}
+use mathlib.Core.List.{[], _∷_}
+use denote.Ref.{now}
+use Rattle.reporting.specs.declared.reporting.Reported.{Reported}
+use Rattle.calls_parts.specs.CallLaws.{said}
+use Rattle.sendumaal.specs.ProteinCalls.{reportCall}
+use borrow.Author.Needs.{needs}
+use Rattle.sendumaal.proofs.proteins.reported.Statement.{statement}
+use Rattle.sendumaal.proofs.proteins.reported.Tie as tie
+
+enum-known-answer : tie.Need-enum-known-answer
+enum-known-answer c = search needs
+
+enum-known-answer-2 : tie.Need-enum-known-answer-2
+enum-known-answer-2 c = search needs
+
+place-requires : tie.Need-place-requires
+place-requires c κs = search needs
+
+number-requires : tie.Need-number-requires
+number-requires c κs = search needs
+
+returns : tie.Need-returns
+returns c = search needs
+
+returns-2 : tie.Need-returns-2
+returns-2 c =
+    let f = c .before .before .before .answer2 in
+    let b = now (c .before .before .before .before .before .args .bytes) in
+    let g = now (c .before .before .before .before .before .args .groups) in
+    said (f .given .0 .0) (c .number .result) (c .before .place .result) (c .number .ensures) (c .before .place .ensures) ((b ∷ []) ∷ (g ∷ []) ∷ []) ∙ sym (ap (λ (x : Reported). reportCall x b g) (f .given .1))
+
+pub reported-spec : {M : Type 1} → statement M
+reported-spec =
+    tie.close
+    (tie.spec
+    enum-known-answer
+    enum-known-answer-2
+    place-requires
+    number-requires
+    returns
+    returns-2)

@@ -1,0 +1,102 @@
+// Groups of proteins, and the report line of a peptide.
+use calls_parts::told_field;
+use grouping::Grouped;
+use reporting::Reported;
+ghost use mathlib.Core.Path.{_≡_};
+ghost use mathlib.Core.List.{List, [], _∷_};
+ghost use Rattle.records.specs.Outcome.{outcome};
+ghost use Rattle.sendumaal.specs.ProteinCalls.{areFlags, reportCall, proteinsCall, lineCall};
+
+#[no_mangle]
+pub extern "C" fn sendumaal_group_proteins(
+    pairs: &[u8],
+    flags: &[u8],
+    peptides: u32,
+    proteins: u32,
+    work: &mut [u32],
+    edges: &mut [u8],
+    members: &mut [u8],
+    groups: &mut u32,
+    metas: &mut u32,
+    links: &mut u32,
+    held: &mut u32,
+    place: &mut usize,
+) -> u32
+    ensures { λ r. ⌜ outcome r ((now (place .exit) ∷ []) ∷ (now (groups .exit) ∷ []) ∷ (now (metas .exit) ∷ []) ∷ (now (links .exit) ∷ []) ∷ (now (held .exit) ∷ []) ∷ now (work .exit) ∷ now (edges .exit) ∷ now (members .exit) ∷ []) ≡ proteinsCall (now (pairs .entry)) (now (flags .entry)) peptides proteins (now (work .entry)) (now (edges .entry)) (now (members .entry)) (now (groups .entry)) (now (metas .entry)) (now (links .entry)) (now (held .entry)) ⌝ }
+{
+    let answer = grouping::group_proteins(pairs, flags, peptides, proteins, work, edges, members);
+    match answer {
+        Grouped::Made(sizes) => {
+            *groups = sizes.groups;
+            *metas = sizes.metas;
+            *links = sizes.edges;
+            *held = sizes.members;
+            *place = 0;
+            0
+        }
+        Grouped::Refused(why) => {
+            *place = why.place();
+            why.number()
+        }
+    }
+}
+
+// Whether two numbers are flags.
+fn are_flags(a: u32, b: u32) -> bool
+    ensures { λ r. ⌜ r ≡ areFlags a b ⌝ }
+{
+    (a <= 1) & (b <= 1)
+}
+
+// How a line's answer is told.
+fn reported(answer: Reported, bytes: &mut u32, groups: &mut u32, place: &mut usize) -> u32
+    ensures { λ r. ⌜ outcome r ((now (place .exit) ∷ []) ∷ (now (bytes .exit) ∷ []) ∷ (now (groups .exit) ∷ []) ∷ []) ≡ reportCall answer (now (bytes .entry)) (now (groups .entry)) ⌝ }
+{
+    match answer {
+        Reported::Line(report) => {
+            *bytes = report.bytes;
+            *groups = report.groups;
+            *place = 0;
+            0
+        }
+        Reported::Refused(why) => {
+            *place = why.place();
+            why.number()
+        }
+    }
+}
+
+#[no_mangle]
+pub extern "C" fn sendumaal_report_line(
+    names: &[u8],
+    members: &[u8],
+    marks: &[u8],
+    proteins: &[u32],
+    decoy: u32,
+    tag: &[u8],
+    generated: u32,
+    line: &mut [u8],
+    bytes: &mut u32,
+    groups: &mut u32,
+    place: &mut usize,
+) -> u32
+    ensures { λ r. ⌜ outcome r ((now (place .exit) ∷ []) ∷ (now (bytes .exit) ∷ []) ∷ (now (groups .exit) ∷ []) ∷ now (line .exit) ∷ []) ≡ lineCall (now (names .entry)) (now (members .entry)) (now (marks .entry)) (now (proteins .entry)) decoy (now (tag .entry)) generated (now (line .entry)) (now (bytes .entry)) (now (groups .entry)) ⌝ }
+{
+    if are_flags(decoy, generated) {
+        let answer = reporting::report_line(
+            names,
+            members,
+            marks,
+            proteins,
+            decoy == 1,
+            tag,
+            generated == 1,
+            line,
+        );
+        return reported(answer, bytes, groups, place);
+    }
+    told_field(
+        reporting::checked(names, members, marks, proteins, tag),
+        place,
+    )
+}
