@@ -7,6 +7,7 @@ pub use tally::Tally;
 pub use tally::load;
 pub use tally::more;
 pub use text::behind;
+pub use text::column_end;
 pub use text::content;
 pub use text::decimal;
 pub use text::field;

@@ -43,6 +43,14 @@ pub fn field_end(line: &[u8], at: usize) -> usize
     next(line, at, 32)
 }
 
+// Where the column that begins at a place ends: columns are parted by tabs.
+pub fn column_end(line: &[u8], at: usize) -> usize
+    requires { ⌜ at ≤ length (now line) ⌝ }
+    ensures { λ r. ⌜ (at ≤ r) × (r ≤ length (now (line .entry))) ⌝ }
+{
+    next(line, at, 9)
+}
+
 // One less behind a blank.
 fn passed(left: usize, b: u8) -> usize {
     if b != 32 {
