@@ -1,12 +1,12 @@
 // Covers. A line is the number of groups, that of meta-peptides, the edges as `group.meta`, divided by `;`, and the marks as
 // digits; `-` stands for none.
-use crate::answers::is_zero;
-use crate::answers::too_large;
-use crate::marks::are_marks;
-use crate::marks::edges_at;
-use crate::marks::group_count;
-use crate::marks::is_held;
-use crate::marks::meta_count;
+use fields_parts::are_marks;
+use fields_parts::group_count;
+use fields_parts::is_held;
+use fields_parts::is_zero;
+use fields_parts::meta_count;
+use fields_parts::records_at;
+use fields_parts::too_large;
 use lines_parts::Tally;
 use lines_parts::line_end;
 use lines_parts::more;
@@ -28,7 +28,7 @@ fn is_covered(line: &[u8], edges: &[u8]) -> bool {
 // Whether the library answers a line as the Rust did.
 fn agrees(line: &[u8]) -> bool {
     let mut edges = [0u8; 2048];
-    let n = edges_at(line, 2, &mut edges);
+    let n = records_at(line, 2, &mut edges);
     if is_held(line) & (n < 2048) {
         return is_covered(line, &edges[..n]);
     }

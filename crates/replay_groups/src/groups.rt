@@ -2,10 +2,11 @@
 // letters, the digest records in hexadecimal, the number of the Rust's groups, these as `reference.first.count`, divided by
 // `;`, where the reference is its number in the list of digests, and the numbers of their proteins. Buffers have room for one
 // record more than they hold, so that one too many is seen.
-use crate::answers::is_zero;
-use crate::answers::same_numbers;
-use crate::answers::too_large;
-use crate::names::names_at;
+use fields_parts::bytes_at;
+use fields_parts::is_zero;
+use fields_parts::names_at;
+use fields_parts::same_numbers;
+use fields_parts::too_large;
 use lines_parts::Tally;
 use lines_parts::content;
 use lines_parts::decimal;
@@ -14,19 +15,9 @@ use lines_parts::field_end;
 use lines_parts::line_end;
 use lines_parts::more;
 use lines_parts::numbers_at;
-use lines_parts::unhex;
 use records::Counted;
 use records::u32_at;
 use sorting_parts::number_at;
-ghost use Rattle.io.specs.Counts.{Counts};
-
-// The digests of a line at the front of out: how many bytes they take.
-fn digests_at(line: &[u8], out: &mut [u8]) -> usize
-    ensures { λ r. ⌜ Counts r (now (out .exit)) ⌝ }
-{
-    let from = field(line, 3);
-    unhex(&line[from..], out)
-}
 
 // Whether record k begins with the 16 bytes of a digest.
 fn has_reference(digests: &[u8], reference: u32, groups: &[u8], k: u32) -> bool {
@@ -111,7 +102,7 @@ fn agrees(line: &[u8]) -> bool {
     let mut digests = [0u8; 336];
     let n = names_at(line, &mut names);
     let b = numbers_at(line, 1, &mut bounds);
-    let d = digests_at(line, &mut digests);
+    let d = bytes_at(line, 3, &mut digests);
     if (n < 320) & (b < 6) & (d < 336) {
         return is_spelt(line, &names[..n], &bounds[..b], &digests[..d]);
     }

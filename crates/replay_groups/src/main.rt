@@ -1,10 +1,7 @@
 // Replays answers of the original Rust against the library: groups.txt holds groups of digests, cover.txt covers, update.txt
 // updates of covers. Says how many cases were compared and how many differ, and the line of each that does.
-mod answers;
 mod covers;
 mod groups;
-mod marks;
-mod names;
 mod updates;
 
 use lines_parts::load;

@@ -1,13 +1,13 @@
 // Updates. A line is the number of groups, that of meta-peptides, the old and the new edges as `group.meta`, divided by `;`,
 // the marks given and those of the answer as digits; `-` stands for none.
-use crate::answers::is_zero;
-use crate::answers::too_large;
-use crate::marks::are_marks;
-use crate::marks::edges_at;
-use crate::marks::group_count;
-use crate::marks::is_held;
-use crate::marks::marks_at;
-use crate::marks::meta_count;
+use fields_parts::are_marks;
+use fields_parts::group_count;
+use fields_parts::is_held;
+use fields_parts::is_zero;
+use fields_parts::marks_at;
+use fields_parts::meta_count;
+use fields_parts::records_at;
+use fields_parts::too_large;
 use lines_parts::Tally;
 use lines_parts::line_end;
 use lines_parts::more;
@@ -36,8 +36,8 @@ fn is_updated(line: &[u8], old: &[u8], new: &[u8]) -> bool {
 fn agrees(line: &[u8]) -> bool {
     let mut old = [0u8; 2048];
     let mut new = [0u8; 2048];
-    let o = edges_at(line, 2, &mut old);
-    let n = edges_at(line, 3, &mut new);
+    let o = records_at(line, 2, &mut old);
+    let n = records_at(line, 3, &mut new);
     if is_held(line) & (o < 2048) & (n < 2048) {
         return is_updated(line, &old[..o], &new[..n]);
     }

@@ -4,7 +4,7 @@ use records::byte_at;
 use sorting_parts::number_at;
 
 // Whether work memory is zero.
-pub(crate) fn is_zero(work: &[u32]) -> bool {
+pub fn is_zero(work: &[u32]) -> bool {
     let mut zero = true;
     let mut i = 0;
     while i < work.len() {
@@ -14,7 +14,7 @@ pub(crate) fn is_zero(work: &[u32]) -> bool {
     zero
 }
 
-pub(crate) fn same_bytes(a: &[u8], b: &[u8]) -> bool {
+pub fn same_bytes(a: &[u8], b: &[u8]) -> bool {
     let mut same = a.len() == b.len();
     let mut i = 0;
     while i < a.len() {
@@ -24,7 +24,7 @@ pub(crate) fn same_bytes(a: &[u8], b: &[u8]) -> bool {
     same
 }
 
-pub(crate) fn same_numbers(a: &[u32], b: &[u32]) -> bool {
+pub fn same_numbers(a: &[u32], b: &[u32]) -> bool {
     let mut same = a.len() == b.len();
     let mut i = 0;
     while i < a.len() {
@@ -34,8 +34,13 @@ pub(crate) fn same_numbers(a: &[u32], b: &[u32]) -> bool {
     same
 }
 
+// A count as a number of 32 bits, or the greatest of these.
+pub fn count_of(n: usize) -> u32 {
+    if n < 4294967295 { n as u32 } else { 4294967295 }
+}
+
 // A case that this program's buffers do not hold differs, and it is said why.
-pub(crate) fn too_large() -> bool {
+pub fn too_large() -> bool {
     io::write_all(STDOUT_FILENO, b"larger than this program's buffers, so it ");
     false
 }

@@ -2,8 +2,8 @@
 use borrow.Author.Needs.{needs}
 use Prim.Native.Nat.{_-_, _≤_}
 use lib.ListN.{length}
-use Rattle.replay_groups.proofs.answers.is_zero.Statement.{statement}
-use Rattle.replay_groups.proofs.answers.is_zero.Tie as tie
+use Rattle.fields_parts.proofs.answers.is_zero.Statement.{statement}
+use Rattle.fields_parts.proofs.answers.is_zero.Tie as tie
 
 abbrev Inv-loop : tie.InvT-loop
 Inv-loop work zero₀ i₀ zero i = i ≤ length work

@@ -1,9 +1,9 @@
--- `same_bytes` meets its contract. Assumes nothing.
+-- `same_numbers` meets its contract. Assumes nothing.
 use borrow.Author.Needs.{needs}
 use Prim.Native.Nat.{_-_, _≤_}
 use lib.ListN.{length}
-use Rattle.replay_groups.proofs.answers.same_bytes.Statement.{statement}
-use Rattle.replay_groups.proofs.answers.same_bytes.Tie as tie
+use Rattle.fields_parts.proofs.answers.same_numbers.Statement.{statement}
+use Rattle.fields_parts.proofs.answers.same_numbers.Tie as tie
 
 abbrev Inv-loop : tie.InvT-loop
 Inv-loop a b same₀ i₀ same i = i ≤ length a
@@ -14,11 +14,14 @@ abbrev μ-loop : tie.MeasureT-loop
 loop-holds : tie.Need-loop-holds Inv-loop μ-loop
 loop-holds c = search needs
 
+mul-same : tie.Need-mul-same Inv-loop μ-loop
+mul-same c = search needs
+
 shared-slice-read-same : tie.Need-shared-slice-read-same Inv-loop μ-loop
 shared-slice-read-same c = search needs
 
-byte-at-requires : tie.Need-byte-at-requires Inv-loop μ-loop
-byte-at-requires c κs = search needs
+number-at-requires : tie.Need-number-at-requires Inv-loop μ-loop
+number-at-requires c κs = search needs
 
 add-i : tie.Need-add-i Inv-loop μ-loop
 add-i c = search needs
@@ -32,15 +35,16 @@ loop-again c = search needs
 returns : tie.Need-returns Inv-loop μ-loop
 returns c = search needs
 
-pub same-bytes-spec : {M : Type 1} → statement M
-same-bytes-spec =
+pub same-numbers-spec : {M : Type 1} → statement M
+same-numbers-spec =
     tie.close
     (tie.spec
     Inv-loop
     μ-loop
     loop-holds
+    mul-same
     shared-slice-read-same
-    byte-at-requires
+    number-at-requires
     add-i
     loop-less
     loop-again

@@ -1,5 +1,6 @@
-// The names of a line.
+// The names of a line, and bytes that stand in hexadecimal.
 use lines_parts::content;
+use lines_parts::field;
 use lines_parts::field_end;
 use lines_parts::item_end;
 use lines_parts::unhex;
@@ -23,8 +24,16 @@ fn names_of(list: &[u8], names: &mut [u8]) -> usize
     n
 }
 
+// The bytes that field k holds in hexadecimal, at the front of out: how many there are. `-` stands for none.
+pub fn bytes_at(line: &[u8], k: usize, out: &mut [u8]) -> usize
+    ensures { λ r. ⌜ Counts r (now (out .exit)) ⌝ }
+{
+    let from = field(line, k);
+    unhex(&line[from..], out)
+}
+
 // The names of field 0.
-pub(crate) fn names_at(line: &[u8], names: &mut [u8]) -> usize
+pub fn names_at(line: &[u8], names: &mut [u8]) -> usize
     ensures { λ r. ⌜ Counts r (now (names .exit)) ⌝ }
 {
     let end = field_end(line, 0);

@@ -26,9 +26,8 @@ fn put_all(numbers: &[u32], out: &mut [u8]) -> usize
     at
 }
 
-// The edges of field k as records at the front of out, at most 256 of them, which fill the callers' buffers: how many bytes there
-// are.
-pub(crate) fn edges_at(line: &[u8], k: usize, out: &mut [u8]) -> usize
+// The numbers of field k as the bytes of records at the front of out, at most 512 of them: how many bytes there are.
+pub fn records_at(line: &[u8], k: usize, out: &mut [u8]) -> usize
     ensures { λ r. ⌜ Counts r (now (out .exit)) ⌝ }
 {
     let mut numbers = [0u32; 512];
@@ -53,7 +52,7 @@ fn digits(s: &[u8], out: &mut [u8]) -> usize
 }
 
 // The marks of field k at the front of out: how many there are.
-pub(crate) fn marks_at(line: &[u8], k: usize, out: &mut [u8]) -> usize
+pub fn marks_at(line: &[u8], k: usize, out: &mut [u8]) -> usize
     ensures { λ r. ⌜ Counts r (now (out .exit)) ⌝ }
 {
     let from = field(line, k);
@@ -61,21 +60,21 @@ pub(crate) fn marks_at(line: &[u8], k: usize, out: &mut [u8]) -> usize
     digits(&line[from..to], out)
 }
 
-pub(crate) fn group_count(line: &[u8]) -> u32 {
+pub fn group_count(line: &[u8]) -> u32 {
     decimal(line, field(line, 0))
 }
 
-pub(crate) fn meta_count(line: &[u8]) -> u32 {
+pub fn meta_count(line: &[u8]) -> u32 {
     decimal(line, field(line, 1))
 }
 
 // Whether the buffers hold the marks and the work memory of a line.
-pub(crate) fn is_held(line: &[u8]) -> bool {
+pub fn is_held(line: &[u8]) -> bool {
     (group_count(line) <= 200) & (meta_count(line) <= 200)
 }
 
 // Whether so many marks are those of field k, and nothing is written behind them: all were 2.
-pub(crate) fn are_marks(line: &[u8], k: usize, marks: &[u8], count: u32) -> bool {
+pub fn are_marks(line: &[u8], k: usize, marks: &[u8], count: u32) -> bool {
     let mut theirs = [2u8; 201];
     let n = marks_at(line, k, &mut theirs);
     (n == count as usize) & same_bytes(&theirs, marks)

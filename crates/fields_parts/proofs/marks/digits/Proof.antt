@@ -5,8 +5,8 @@ use Prim.Native.Nat.{_-_, _≤_}
 use lib.ListN.{length, length-set}
 use mathlib.Core.Path.{_≡_, sym}
 use native.Mathlib.Omega.{arith}
-use Rattle.replay_groups.proofs.marks.digits.Statement.{statement}
-use Rattle.replay_groups.proofs.marks.digits.Tie as tie
+use Rattle.fields_parts.proofs.marks.digits.Statement.{statement}
+use Rattle.fields_parts.proofs.marks.digits.Tie as tie
 
 abbrev Inv-loop : tie.InvT-loop
 Inv-loop s out₀ end n₀ out n = (n ≤ length out) × (length out ≡ length out₀)

@@ -5,8 +5,8 @@ use Prim.Native.Nat.{_-_, _≤_}
 use lib.ListN.{length}
 use mathlib.Core.Path.{_≡_, sym}
 use native.Mathlib.Omega.{arith}
-use Rattle.replay_groups.proofs.names.names_of.Statement.{statement}
-use Rattle.replay_groups.proofs.names.names_of.Tie as tie
+use Rattle.fields_parts.proofs.names.names_of.Statement.{statement}
+use Rattle.fields_parts.proofs.names.names_of.Tie as tie
 
 abbrev Inv-loop : tie.InvT-loop
 Inv-loop list names₀ at₀ n₀ names at n = (n ≤ length names) × (length names ≡ length names₀)

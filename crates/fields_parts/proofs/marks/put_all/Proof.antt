@@ -5,8 +5,8 @@ use Prim.Native.Nat.{_-_, _≤_}
 use lib.ListN.{length}
 use mathlib.Core.Path.{_≡_, sym}
 use native.Mathlib.Omega.{arith}
-use Rattle.replay_groups.proofs.marks.put_all.Statement.{statement}
-use Rattle.replay_groups.proofs.marks.put_all.Tie as tie
+use Rattle.fields_parts.proofs.marks.put_all.Statement.{statement}
+use Rattle.fields_parts.proofs.marks.put_all.Tie as tie
 
 abbrev Inv-loop : tie.InvT-loop
 Inv-loop numbers out₀ i₀ at₀ out i at = (i ≤ length numbers) × (at ≤ length out) × (length out ≡ length out₀)

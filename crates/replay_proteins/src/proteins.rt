@@ -1,0 +1,83 @@
+// Groups of proteins. A line is the flags of the peptides as digits, the number of proteins, the pairs as `peptide.protein`, divided
+// by `;`, the numbers of the Rust's groups and meta-peptides, its edges as `group.meta` and its members as
+// `group.protein.decoy`, divided by `;`; `-` stands for none.
+use fields_parts::count_of;
+use fields_parts::is_zero;
+use fields_parts::marks_at;
+use fields_parts::records_at;
+use fields_parts::same_bytes;
+use fields_parts::too_large;
+use grouping::Grouped;
+use lines_parts::Tally;
+use lines_parts::decimal;
+use lines_parts::field;
+use lines_parts::line_end;
+use lines_parts::more;
+
+fn protein_count(line: &[u8]) -> u32 {
+    decimal(line, field(line, 1))
+}
+
+// Whether the numbers of groups and meta-peptides are those of a line.
+fn has_counts(line: &[u8], groups: u32, metas: u32) -> bool {
+    (decimal(line, field(line, 3)) == groups) & (decimal(line, field(line, 4)) == metas)
+}
+
+// Whether so many bytes are the records of field k, and nothing is written behind them: all were 7.
+fn are_records(line: &[u8], k: usize, ours: &[u8], bytes: usize) -> bool {
+    let mut theirs = [7u8; 1560];
+    let n = records_at(line, k, &mut theirs);
+    (n == bytes) & same_bytes(&theirs, ours)
+}
+
+// Whether the library groups as the Rust did: 1,024 numbers of work memory are enough for 64 proteins, 31 peptides and 63 pairs.
+fn is_grouped(line: &[u8], flags: &[u8], pairs: &[u8]) -> bool {
+    let mut work = [1u32; 1024];
+    let mut edges = [7u8; 1560];
+    let mut members = [7u8; 1560];
+    let peptides = count_of(flags.len());
+    let proteins = protein_count(line);
+    let answer = grouping::group_proteins(
+        pairs,
+        flags,
+        peptides,
+        proteins,
+        &mut work,
+        &mut edges,
+        &mut members,
+    );
+    match answer {
+        Grouped::Made(sizes) => {
+            has_counts(line, sizes.groups, sizes.metas)
+                & are_records(line, 5, &edges, 8 * sizes.edges as usize)
+                & are_records(line, 6, &members, 12 * sizes.members as usize)
+                & is_zero(&work)
+        }
+        Grouped::Refused(_) => false,
+    }
+}
+
+// Whether the library answers a line as the Rust did.
+fn agrees(line: &[u8]) -> bool {
+    let mut flags = [2u8; 32];
+    let mut pairs = [0u8; 512];
+    let f = marks_at(line, 0, &mut flags);
+    let n = records_at(line, 2, &mut pairs);
+    if (protein_count(line) <= 64) & (f < 32) & (n < 512) {
+        return is_grouped(line, &flags[..f], &pairs[..n]);
+    }
+    too_large()
+}
+
+pub(crate) fn replay(s: &[u8]) -> Tally {
+    let mut tally = Tally::none();
+    let mut at = 0;
+    let mut number: u32 = 1;
+    while at < s.len() {
+        let end = line_end(s, at);
+        tally = tally.with(agrees(&s[at..end]), number);
+        number = more(number);
+        at = end + 1;
+    }
+    tally
+}
