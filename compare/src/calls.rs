@@ -2,6 +2,8 @@
 pub mod cover;
 pub mod digest_groups;
 pub mod peptides;
+pub mod protein_groups;
+pub mod report_lines;
 
 use crate::answer::{Answer, Checked, Fault, Filled};
 use crate::digest::model::{Call, Enzyme};

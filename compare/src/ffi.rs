@@ -175,4 +175,44 @@ extern "C" {
         count: *mut u32,
         place: *mut usize,
     ) -> u32;
+
+    pub fn sendumaal_group_proteins(
+        pairs: *const u8,
+        pairs_len: usize,
+        flags: *const u8,
+        flags_len: usize,
+        peptides: u32,
+        proteins: u32,
+        work: *mut u32,
+        work_len: usize,
+        edges: *mut u8,
+        edges_len: usize,
+        members: *mut u8,
+        members_len: usize,
+        groups: *mut u32,
+        metas: *mut u32,
+        edge_count: *mut u32,
+        member_count: *mut u32,
+        place: *mut usize,
+    ) -> u32;
+
+    pub fn sendumaal_report_line(
+        names: *const u8,
+        names_len: usize,
+        members: *const u8,
+        members_len: usize,
+        marks: *const u8,
+        marks_len: usize,
+        proteins: *const u32,
+        proteins_len: usize,
+        decoy: u32,
+        tag: *const u8,
+        tag_len: usize,
+        generated: u32,
+        line: *mut u8,
+        line_len: usize,
+        bytes: *mut u32,
+        groups: *mut u32,
+        place: *mut usize,
+    ) -> u32;
 }

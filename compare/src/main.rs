@@ -16,7 +16,10 @@ mod letters;
 mod masses;
 mod model;
 mod oracle;
+mod passes;
 mod peptides;
+mod protein_groups;
+mod report_lines;
 mod reversal;
 mod rng;
 mod room;
@@ -151,6 +154,37 @@ const SUBJECTS: &[(&str, &[Entry])] = &[
             update::greatest_changes,
         ],
     ),
+    (
+        "protein groups",
+        &[
+            protein_groups::examples,
+            protein_groups::refusals::single_reasons,
+            protein_groups::refusals::any_call,
+            protein_groups::without_pairs,
+            protein_groups::small_lists,
+            protein_groups::random_lists,
+            protein_groups::larger_lists,
+            protein_groups::long_lists,
+            protein_groups::model_lists,
+            protein_groups::refusals::large,
+            protein_groups::greatest_lists,
+        ],
+    ),
+    (
+        "report lines",
+        &[
+            report_lines::refusals::single_reasons,
+            report_lines::refusals::any_call,
+            report_lines::small_calls,
+            report_lines::random_calls,
+            report_lines::larger_calls,
+            report_lines::long_calls,
+            report_lines::model_lines,
+            report_lines::refusals::large,
+            report_lines::greatest_calls,
+        ],
+    ),
+    ("passes", &[passes::examples, passes::small_passes, passes::larger_passes, passes::annotated_rows]),
 ];
 
 const SEED: u64 = 1;

@@ -16,6 +16,13 @@
 //! divided by `.`. cover.txt: the numbers of groups and of meta-peptides, the edges as `group.meta`, divided by `;` (`-` if
 //! none), and the marks as digits (`-` if none). update.txt: the two numbers, the old edges, the new edges, the given marks
 //! and the marks of the answer.
+//!
+//! proteins.txt: the flags of the peptides as digits, the number of proteins, the pairs as `peptide.protein`, divided by `;`, the
+//! numbers of groups and of meta-peptides, the edges as `group.meta`, divided by `;`, and the members as `group.protein.decoy`,
+//! divided by `;`, sorted by the original's numbers in each group. lines.txt: the names as in groups.txt, the members as in
+//! proteins.txt, the marks as digits, the peptide's proteins, divided by `.`, its flag, the tag in hexadecimal, whether decoys
+//! are generated, the number of groups, and the line in hexadecimal. passes.txt: the names, the flags of the peptides, the pairs,
+//! the tag, whether decoys are generated, and the lines of all peptides in hexadecimal, divided by `;`. `-` stands for none.
 use crate::answer::Answer;
 use crate::entry::Context;
 use crate::model::{Modification, Rule, MARKS};
@@ -23,7 +30,10 @@ use crate::oracle::hex;
 use crate::rng::Rng;
 use crate::rule_texts::cases::{accepted_texts, distinct, near_miss};
 use crate::table::cases::{filling, from_pool, special};
-use crate::{cover, digest, digest_groups, forms, masses, rule_texts, table, update};
+use crate::{
+    cover, digest, digest_groups, forms, masses, passes, protein_groups, report_lines, rule_texts, table,
+    update,
+};
 use std::{fs, io, path::Path};
 
 /// About so many lines in each file.
@@ -38,7 +48,10 @@ pub fn write(context: &Context, folder: &Path) -> io::Result<()> {
     fs::write(folder.join("forms.txt"), forms::vectors::lines(context))?;
     fs::write(folder.join("groups.txt"), digest_groups::vectors::lines(context))?;
     fs::write(folder.join("cover.txt"), cover::vectors::lines(context))?;
-    fs::write(folder.join("update.txt"), update::vectors::lines(context))
+    fs::write(folder.join("update.txt"), update::vectors::lines(context))?;
+    fs::write(folder.join("proteins.txt"), protein_groups::vectors::lines(context))?;
+    fs::write(folder.join("lines.txt"), report_lines::vectors::lines(context))?;
+    fs::write(folder.join("passes.txt"), passes::vectors::lines(context))
 }
 
 fn random_text(rng: &mut Rng, accepted: &[Vec<u8>]) -> Vec<u8> {

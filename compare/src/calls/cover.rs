@@ -7,7 +7,7 @@ use crate::guard::{answer, Lent, May, Memory};
 use crate::update::model as update;
 
 /// A count as C takes it.
-fn number(count: usize) -> u32 {
+pub fn number(count: usize) -> u32 {
     u32::try_from(count).expect("counts of calls are below 2^32")
 }
 

@@ -4,7 +4,7 @@ use crate::digest::model::{MOST_DIGESTS, MOST_LETTERS, MOST_MISSED};
 use crate::rng::Rng;
 use std::collections::HashSet;
 
-fn padded(name: &[u8]) -> [u8; NAME] {
+pub fn padded(name: &[u8]) -> [u8; NAME] {
     let mut record = [0; NAME];
     record[..name.len()].copy_from_slice(name);
     record

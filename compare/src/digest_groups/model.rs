@@ -96,12 +96,12 @@ impl fmt::Debug for Call {
     }
 }
 
-fn shown_name(record: &[u8]) -> String {
+pub fn shown_name(record: &[u8]) -> String {
     name(record).escape_ascii().to_string()
 }
 
 /// A record without the zeros behind its name.
-fn name(record: &[u8]) -> &[u8] {
+pub fn name(record: &[u8]) -> &[u8] {
     let len = record.iter().rposition(|byte| *byte != 0).map_or(0, |last| last + 1);
     &record[..len]
 }
@@ -113,7 +113,7 @@ fn is_name(record: &[u8]) -> bool {
 }
 
 /// 12 and 13 at the lowest place.
-fn names_test(names: &[u8]) -> Answer<()> {
+pub fn names_test(names: &[u8]) -> Answer<()> {
     let mut earlier = HashSet::new();
     for (place, record) in names.chunks(NAME).enumerate() {
         if !is_name(record) {

@@ -34,17 +34,21 @@ fn bad_name(rng: &mut Rng, name: &mut [u8]) {
 }
 
 /// Bad names and repeated ones: the place is the first one's.
-fn bad_names(rng: &mut Rng, call: &mut Call) {
-    let count = call.names.len() / NAME;
+pub fn damage_names(rng: &mut Rng, names: &mut [u8]) {
+    let count = names.len() / NAME;
     for _ in 0..(1 + rng.below(2)).min(count) {
         let place = rng.below(count);
         if place > 0 && rng.once_in(2) {
             let earlier = rng.below(place);
-            call.names.copy_within(earlier * NAME..(earlier + 1) * NAME, place * NAME);
+            names.copy_within(earlier * NAME..(earlier + 1) * NAME, place * NAME);
         } else {
-            bad_name(rng, &mut call.names[place * NAME..(place + 1) * NAME]);
+            bad_name(rng, &mut names[place * NAME..(place + 1) * NAME]);
         }
     }
+}
+
+fn bad_names(rng: &mut Rng, call: &mut Call) {
+    damage_names(rng, &mut call.names);
 }
 
 /// A first boundary that is not 0, ones that fall or jump, a last one that is not the letter count.

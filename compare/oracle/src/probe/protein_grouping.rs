@@ -4,8 +4,22 @@ use crate::peptide::Peptide;
 /// A protein in a group: its number by first appearance, its name, whether it is a decoy.
 pub type Member = (u32, String, bool);
 
-fn peptide_set(peptides: &[u32]) -> FnvHashSet<PeptideIx> {
+/// The peptides that take part, as the original takes them.
+pub type Peptides = FnvHashSet<PeptideIx>;
+
+pub fn peptide_set(peptides: &[u32]) -> Peptides {
     peptides.iter().map(|&p| PeptideIx(p)).collect()
+}
+
+/// How many groups there are: nothing but the grouping.
+pub fn group_count(db: &IndexedDatabase, peptides: Peptides) -> usize {
+    ProteinGrouper::build(db, peptides).groups.len()
+}
+
+/// The marks of the groups: nothing but the grouping and the cover.
+pub fn marks(db: &IndexedDatabase, peptides: Peptides) -> Vec<bool> {
+    let grouper = ProteinGrouper::build(db, peptides);
+    BipartiteGraph::new(grouper.edges, grouper.groups.len(), grouper.peptide_count).into_cover()
 }
 
 /// The edges, the members of each group, and the number of meta-peptides.
@@ -57,4 +71,15 @@ pub fn report(
 pub fn lines(db: &IndexedDatabase, peptides: &[u32]) -> Vec<Option<String>> {
     let lookup = ProteinGrouper::build(db, peptide_set(peptides)).into_group_map();
     db.peptides.iter().map(|p| lookup.group_string(p, db)).collect()
+}
+
+/// What the original looks lines up in, made once for all peptides.
+pub struct Lookup(ProteinGroupLookup);
+
+pub fn lookup(db: &IndexedDatabase, peptides: Peptides) -> Lookup {
+    Lookup(ProteinGrouper::build(db, peptides).into_group_map())
+}
+
+pub fn line(db: &IndexedDatabase, lookup: &Lookup, peptide: u32) -> Option<String> {
+    lookup.0.group_string(&db[PeptideIx(peptide)], db)
 }

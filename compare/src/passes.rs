@@ -1,0 +1,115 @@
+//! Whole passes: groups of proteins, their cover, and the lines of all peptides, against the original's.
+pub mod cases;
+pub mod said;
+pub mod vectors;
+
+use crate::answer::{Answer, Checked, Fault};
+use crate::calls::{cover as covers, protein_groups, report_lines};
+use crate::cover::model as cover;
+use crate::entry::{Against, Context, Tally};
+use crate::oracle::in_batches;
+use crate::protein_groups::call;
+use crate::protein_groups::model::{MEMBER, MOST_MEMBERS};
+use crate::report_lines::model::{Call, Line};
+use crate::rng::Rng;
+use cases::Pass;
+use said::{ask, ask_of_rows, read, read_rows};
+
+fn accepted<T>(answer: Answer<T>) -> Checked<T> {
+    answer.map_err(|refusal| Fault(format!("it refused: {refusal:?}")))
+}
+
+/// The members, and the marks of their groups.
+fn covered(rng: &mut Rng, pass: &Pass) -> Checked<(Vec<u8>, Vec<u8>)> {
+    let shown = pass.taking();
+    let most = (2 * shown.2).min(MOST_MEMBERS);
+    let (edges, members) = (vec![0; shown.0.len() * cover::EDGE], vec![0; most * MEMBER]);
+    let grouped = protein_groups::group_proteins(&call(rng, &shown), &edges, &members)?;
+    let sizes = accepted(grouped.answer)?;
+    let [groups, metas, edges, members] =
+        [sizes.groups, sizes.metas, sizes.edges, sizes.members].map(|count| count as usize);
+    let work = vec![7; cover::work_for(groups, metas, edges)];
+    let call = cover::Call { edges: grouped.edges[..edges * cover::EDGE].to_vec(), groups, metas, work };
+    let marks = covers::cover(&call, &vec![9; groups])?;
+    accepted(marks.answer)?;
+    Ok((grouped.members[..members * MEMBER].to_vec(), marks.buffer))
+}
+
+/// The lines of all peptides.
+fn lines(rng: &mut Rng, pass: &Pass) -> Checked<Vec<Line>> {
+    let (members, marks) = covered(rng, pass)?;
+    let mut lines = Vec::new();
+    for peptide in 0..pass.flags.len() {
+        let call = Call {
+            names: pass.names.clone(),
+            members: members.clone(),
+            marks: marks.clone(),
+            proteins: pass.proteins_of(peptide),
+            decoy: pass.flags[peptide].into(),
+            tag: pass.tag.clone(),
+            generated: pass.generated,
+        };
+        let said = report_lines::report_line(&call, &vec![0xee; pass.room()])?;
+        let sizes = accepted(said.answer)?;
+        lines.push(Line { text: said.buffer[..sizes.bytes as usize].to_vec(), groups: sizes.groups });
+    }
+    Ok(lines)
+}
+
+fn against_rust(tally: &mut Tally, context: &Context, passes: impl Iterator<Item = Pass>) {
+    let rng = &mut context.rng("passes, work memory");
+    in_batches(passes, |batch| {
+        for (pass, answer) in batch.iter().zip(ask(&context.oracle, batch)) {
+            tally.case(pass, &lines(rng, pass), &read(&answer, pass.flags.len()));
+        }
+    });
+}
+
+pub fn small_passes(context: &Context) -> Tally {
+    let mut tally = Tally::new("passes: small", Against::Rust);
+    let rng = &mut context.rng("passes, small");
+    against_rust(&mut tally, context, (0..60_000).map(|_| cases::small(rng)));
+    tally
+}
+
+pub fn larger_passes(context: &Context) -> Tally {
+    let mut tally = Tally::new("passes: larger", Against::Rust);
+    let rng = &mut context.rng("passes, larger");
+    against_rust(&mut tally, context, (0..2000).map(|_| cases::larger(rng)));
+    tally
+}
+
+/// P10: the cover of its groups is {10}.
+pub fn examples(context: &Context) -> Tally {
+    let mut tally = Tally::new("passes: P10", Against::Rust);
+    let pass = cases::p10();
+    let lines_of = |peptide: usize| match peptide {
+        0 => Line { text: vec![], groups: 0 },
+        _ => Line { text: b"p10".to_vec(), groups: 1 },
+    };
+    let wanted: Vec<Line> = (0..4).map(lines_of).collect();
+    let answer = ask(&context.oracle, std::slice::from_ref(&pass));
+    tally.case(&pass, &Ok(read(&answer[0], 4)), &wanted);
+    tally.case(&pass, &lines(&mut context.rng("passes, P10"), &pass), &wanted);
+    tally
+}
+
+/// The lines of all peptides, where none is written as the original does it: with the names of all proteins.
+fn rows(rng: &mut Rng, pass: &Pass) -> Checked<Vec<Line>> {
+    let row = |(peptide, line): (usize, Line)| if line.groups == 0 { pass.all_names(peptide) } else { line };
+    Ok(lines(rng, pass)?.into_iter().enumerate().map(row).collect())
+}
+
+/// The rows that the original's public function annotates.
+pub fn annotated_rows(context: &Context) -> Tally {
+    let mut tally = Tally::new("passes: rows", Against::Rust);
+    let (rng, words) = (&mut context.rng("passes, rows"), &mut context.rng("passes, work memory of rows"));
+    let passes =
+        (0..30_000).map(|number| if number % 50 == 0 { cases::larger(rng) } else { cases::small(rng) });
+    in_batches(passes, |batch| {
+        for (pass, answer) in batch.iter().zip(ask_of_rows(&context.oracle, batch)) {
+            tally.case(pass, &rows(words, pass), &read_rows(&answer, pass.flags.len()));
+        }
+    });
+    tally
+}

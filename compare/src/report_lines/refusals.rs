@@ -1,0 +1,136 @@
+//! Every refusal of `report_line`, alone and with others: which one is given, and what it leaves of the line.
+use super::cases;
+use super::model::{self, Call, MOST_LIST, MOST_MARKS, MOST_TAG};
+use super::{enough, hold, short};
+use crate::digest_groups::model::{MOST_NAMES, NAME};
+use crate::digest_groups::refusals::damage_names;
+use crate::entry::{Against, Context, Tally};
+use crate::protein_groups::model::{MEMBER, MOST_MEMBERS};
+use crate::rng::Rng;
+
+fn bad_names(rng: &mut Rng, call: &mut Call) {
+    damage_names(rng, &mut call.names);
+}
+
+/// A group without a mark, a protein without a name, a flag that is none, and bytes behind it.
+fn bad_members(rng: &mut Rng, call: &mut Call) {
+    let (count, names) = (call.members.len() / MEMBER, call.names.len() / NAME);
+    let above = |rng: &mut Rng, most: usize| rng.pick(&[0, 0, 1, 1 << 16, 1 << 24, 1 << 31]) | most as u32;
+    for _ in 0..(1 + rng.below(3)).min(count) {
+        let at = rng.below(count) * MEMBER;
+        let record = &mut call.members[at..at + MEMBER];
+        match rng.below(4) {
+            0 => record[..4].copy_from_slice(&above(rng, call.marks.len()).to_le_bytes()),
+            1 => record[4..8].copy_from_slice(&above(rng, names).to_le_bytes()),
+            2 => record[8] = rng.pick(&[2, 3, 128, 129, 255]),
+            _ => record[9 + rng.below(3)] = rng.pick(&[1, 2, 128, 255]),
+        }
+    }
+}
+
+fn bad_marks(rng: &mut Rng, call: &mut Call) {
+    for _ in 0..(1 + rng.below(3)).min(call.marks.len()) {
+        let place = rng.below(call.marks.len());
+        call.marks[place] = rng.pick(&[2, 3, 128, 129, 255]);
+    }
+}
+
+fn bad_list(rng: &mut Rng, call: &mut Call) {
+    let names = (call.names.len() / NAME) as u32;
+    for _ in 0..(1 + rng.below(3)).min(call.proteins.len()) {
+        let place = rng.below(call.proteins.len());
+        call.proteins[place] =
+            rng.pick(&[names, names, names + 1, names | 1 << 16, names | 1 << 24, u32::MAX]);
+    }
+}
+
+/// One that is too long, also much, and bytes that no name has.
+fn bad_tag(rng: &mut Rng, call: &mut Call) {
+    if call.tag.is_empty() || rng.once_in(2) {
+        let len = MOST_TAG + 1 + rng.pick(&[0, 0, 1, 16, 240]);
+        call.tag = cases::any_visible(rng, len);
+    }
+    if rng.once_in(2) {
+        call.tag.truncate(MOST_TAG);
+        let place = rng.below(call.tag.len());
+        call.tag[place] = rng.pick(&[0, 9, 10, 32, 127, 128, b'A' | 128, 255]);
+    }
+}
+
+fn bad_flags(rng: &mut Rng, call: &mut Call) {
+    let number = rng.pick(&[2, 3, 256, 257, 1 << 16, 1 << 31 | 1, u32::MAX]);
+    match rng.below(3) {
+        0 => call.decoy = number,
+        1 => call.generated = number,
+        _ => (call.decoy, call.generated) = (number, 2),
+    }
+}
+
+/// Lists that end within a record.
+fn no_length(rng: &mut Rng, call: &mut Call) {
+    let (list, size) = if rng.once_in(2) { (&mut call.names, NAME) } else { (&mut call.members, MEMBER) };
+    let tail = 1 + rng.below(size - 1);
+    list.extend(rng.bytes(tail));
+}
+
+type Spoil = fn(&mut Rng, &mut Call);
+/// Lists are cut within a record last, so that there are records to damage.
+const SPOILS: [Spoil; 7] = [bad_names, bad_members, bad_marks, bad_list, bad_tag, bad_flags, no_length];
+
+fn held_to_model(tally: &mut Tally, rng: &mut Rng, spoils: &[Spoil], few: bool) {
+    let mut call = cases::random(rng);
+    let bytes = model::line(&call).text.len();
+    let out = if few && bytes > 0 { short(rng, bytes) } else { enough(rng, bytes) };
+    for spoil in spoils {
+        spoil(rng, &mut call);
+    }
+    hold(tally, &call, &out, &model::report_line(&call, &out));
+}
+
+/// Every choice of reasons but sizes, with room enough and without.
+pub fn any_call(context: &Context) -> Tally {
+    let mut tally = Tally::new("report lines: any call", Against::Model);
+    let rng = &mut context.rng("calls of report_line");
+    for number in 0..192_000 {
+        let chosen = (0..SPOILS.len()).filter(|bit| number >> bit & 1 == 1);
+        let spoils: Vec<Spoil> = chosen.map(|bit| SPOILS[bit]).collect();
+        held_to_model(&mut tally, rng, &spoils, number / 128 % 2 == 1);
+    }
+    tally
+}
+
+/// A single reason at a time, or none.
+pub fn single_reasons(context: &Context) -> Tally {
+    let mut tally = Tally::new("report lines: single reasons", Against::Model);
+    let rng = &mut context.rng("single reasons of report_line");
+    for number in 0..120_000 {
+        let spoils: Vec<Spoil> = SPOILS.get(number % 8).copied().into_iter().collect();
+        held_to_model(&mut tally, rng, &spoils, false);
+    }
+    tally
+}
+
+/// Sizes at their limits and above them, alone and with other reasons.
+pub fn large(context: &Context) -> Tally {
+    let mut tally = Tally::new("report lines: large calls", Against::Model);
+    let rng = &mut context.rng("large calls of report_line");
+    for more in [0, 1, 2] {
+        for part in [0, 1] {
+            let mut calls: [Call; 4] = std::array::from_fn(|_| cases::random(rng));
+            calls[0].names.resize((MOST_NAMES + more) * NAME + part, b'A');
+            calls[1].members.resize((MOST_MEMBERS + more) * MEMBER + part, 0);
+            calls[2].marks.resize(MOST_MARKS + more, 0);
+            calls[3].proteins.resize(MOST_LIST + more, 0);
+            for call in &mut calls {
+                for spoil in [None, Some(no_length as Spoil), Some(bad_tag)] {
+                    if let Some(spoil) = spoil {
+                        spoil(rng, call);
+                    }
+                    let out = rng.bytes(50);
+                    hold(&mut tally, call, &out, &model::report_line(call, &out));
+                }
+            }
+        }
+    }
+    tally
+}

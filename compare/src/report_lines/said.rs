@@ -1,0 +1,39 @@
+//! What the original says of the line of a peptide. It has names where ours has numbers.
+use super::model::{Call, Line};
+use crate::digest::said::panicked;
+use crate::oracle::{or_dash, Oracle};
+use crate::protein_groups::model::Member;
+use crate::protein_groups::said::flags_field;
+
+fn text(bytes: &[u8]) -> String {
+    String::from_utf8(bytes.to_vec()).expect("bytes below 128")
+}
+
+/// A list or a tag that is just `-` would be taken for none.
+pub fn can_be_asked(call: &Call) -> bool {
+    let alone = matches!(&call.proteins[..], [protein] if call.name(*protein) == b"-");
+    !alone && call.tag != b"-"
+}
+
+fn line(call: &Call) -> String {
+    let member =
+        |Member { group, protein, decoy }: Member| format!("{group}.{decoy}.{}", text(call.name(protein)));
+    let members: Vec<String> = call.members().map(member).collect();
+    let proteins: Vec<String> = call.proteins.iter().map(|protein| text(call.name(*protein))).collect();
+    let (members, proteins) = (or_dash(members.join(" ")), or_dash(proteins.join(" ")));
+    let (marks, tag) = (flags_field(&call.marks), or_dash(text(&call.tag)));
+    let Call { decoy, generated, .. } = call;
+    format!("REPORT\t{members}\t{marks}\t{proteins}\t{decoy}\t{tag}\t{generated}")
+}
+
+/// One answer for each call that passes its tests.
+pub fn ask<'a>(oracle: &Oracle, calls: impl IntoIterator<Item = &'a Call>) -> Vec<String> {
+    oracle.ask(&calls.into_iter().map(line).collect::<Vec<_>>())
+}
+
+pub fn read(answer: &str) -> Line {
+    assert!(!panicked(answer), "the oracle said {answer}");
+    let (groups, text) = answer.split_once(' ').expect("an answer of the oracle");
+    let groups = groups.parse().expect("a number of the oracle");
+    Line { text: if groups == 0 { vec![] } else { text.into() }, groups }
+}
