@@ -1,5 +1,5 @@
-//! Times the original Rust and the proved library on the same proteins, peptides, digests and edges, in turns, and prints
-//! tables of both: `bench digest`, `bench forms`, `bench groups`, `bench cover`.
+//! Times the original Rust and the proved library on the same proteins, peptides, digests, edges and pairs, in turns, and prints
+//! tables of both: `bench digest`, `bench forms`, `bench groups`, `bench cover`, `bench inference`, `bench lines`.
 mod clock;
 mod cover;
 mod digest;
@@ -8,6 +8,8 @@ mod digest;
 mod ffi;
 mod forms;
 mod groups;
+mod inference;
+mod lines;
 mod proteins;
 #[path = "../../compare/src/rng.rs"]
 #[allow(dead_code)]
@@ -22,6 +24,8 @@ fn main() {
         Some("forms") => forms::print(),
         Some("groups") => groups::print(),
         Some("cover") => cover::print(),
-        _ => panic!("digest, forms, groups or cover"),
+        Some("inference") => inference::print(),
+        Some("lines") => lines::print(),
+        _ => panic!("digest, forms, groups, cover, inference or lines"),
     }
 }

@@ -45,3 +45,9 @@ pub fn protein(rng: &mut Rng, about: usize) -> String {
     let length = about - about / 10 + rng.below(about / 5 + 1);
     letters(rng, length)
 }
+
+/// A name as Swiss-Prot has them, different for each number.
+pub fn name(rng: &mut Rng, number: usize) -> String {
+    let entry = letters(rng, 4);
+    format!("sp|P{:05}|{entry}{number}_HUMAN", number * 40_503 % 65_536)
+}

@@ -1,6 +1,6 @@
 //! What is grouped: the tryptic digests of generated proteins and their decoys.
 use crate::digest::cut;
-use crate::proteins::{letters, protein};
+use crate::proteins::{letters, name, protein};
 use crate::rng::Rng;
 use oracle::enzyme::{Digest, Position};
 use std::sync::Arc;
@@ -31,12 +31,6 @@ fn another(rng: &mut Rng, before: &[String]) -> String {
         isoform[place] = letters(rng, 1).as_bytes()[0];
     }
     String::from_utf8(isoform).expect("letters")
-}
-
-/// A name as Swiss-Prot has them, different for each number.
-fn name(rng: &mut Rng, number: usize) -> String {
-    let entry = letters(rng, 4);
-    format!("sp|P{:05}|{entry}{number}_HUMAN", number * 40_503 % 65_536)
 }
 
 fn position(number: u8) -> Position {
