@@ -80,10 +80,6 @@ catalogueTested names =
     cond (tooManyNames names) (Refused Size)
     (cond (wholeNames names) (namesTested names) (Refused Length))
 
--- what the first bad name and the first that repeats tell of n names: the lower place, at one place 12 before 13
-abbrev pub lowerOf : ℕ → ℕ → ℕ → Checked
-lowerOf bad again n = cond (ltb again bad) (Refused (Repeat again)) (cond (ltb bad n) (Refused (Name bad)) Passed)
-
 -- a table of which two numbers a name were used
 abbrev pub cleared : ℕ → List ℕ → List ℕ
 cleared n tab = replicate (n + n) 0 ++ drop (n + n) tab

@@ -11,7 +11,8 @@ ghost use lib.ListN.{length};
 ghost use Rattle.records.specs.Outcome.{outcome};
 ghost use Rattle.records.specs.Search.{seek};
 ghost use Rattle.sorting_parts.specs.Text.{nameOf};
-ghost use Rattle.catalogue.specs.Names.{nameCount, tooManyNames, wholeNames, isName, badName, lowerOf, namesTested, catalogueTested, cleared, namesOutcome};
+ghost use Rattle.catalogue.specs.Names.{nameCount, tooManyNames, wholeNames, isName, badName, namesTested, catalogueTested, cleared, namesOutcome};
+ghost use Rattle.catalogue.specs.NameLaws.{lowerOf};
 
 // How many names there are; a part of a record is none.
 pub fn name_count(names: &[u8]) -> usize

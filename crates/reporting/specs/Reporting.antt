@@ -80,11 +80,6 @@ abbrev pub lineLined : List ℕ → List ℕ → List ℕ → List ℕ → Bool 
 lineLined names members marks list decoy tag generated out =
     lined (lineText names (membersIn members) marks list decoy tag generated) (lineCount names (membersIn members) marks list decoy tag generated) out
 
--- where sizes and lengths passed
-abbrev pub lineTold : List ℕ → List ℕ → List ℕ → List ℕ → Bool → List ℕ → Bool → List ℕ → Outcome Reported
-lineTold names members marks list decoy tag generated out =
-    unlessRefused (contents names members marks list tag) No (out ∷ []) (lineLined names members marks list decoy tag generated out)
-
 abbrev pub lineOutcome : List ℕ → List ℕ → List ℕ → List ℕ → Bool → List ℕ → Bool → List ℕ → Outcome Reported
 lineOutcome names members marks list decoy tag generated out =
     unlessRefused (tested names members marks list tag) No (out ∷ []) (lineLined names members marks list decoy tag generated out)

@@ -31,7 +31,7 @@ use Rattle.report_rules.specs.Line.{lineText, lineCount}
 use Rattle.reporting.specs.declared.reporting.Report.{Report}
 use Rattle.reporting.specs.declared.reporting.Reported.{Reported}
 use Rattle.reporting.specs.declared.reporting.Reported.the-variants.{Line, Refused as No}
-use Rattle.reporting.specs.Reporting.{tooLarge, uneven, membersTested, marksTested, badProtein, firstBadProtein, listTested, badTagByte, firstBadTagByte, tagTested, listsTested, reportedOf, lineLined, contents, lineTold, lineOutcome, tested}
+use Rattle.reporting.specs.Reporting.{tooLarge, uneven, membersTested, marksTested, badProtein, firstBadProtein, listTested, badTagByte, firstBadTagByte, tagTested, listsTested, reportedOf, lineLined, contents, lineOutcome, tested}
 
 pub fair-names : (names members marks list : List ℕ) → tooLarge names members marks list ≡ false → tooManyNames names ≡ false
 fair-names names members marks list e =
@@ -146,6 +146,11 @@ passed-good names members marks list tag e =
     }
 
 -- ---- the line by a table
+
+-- what a call leaves where sizes and lengths passed
+abbrev pub lineTold : List ℕ → List ℕ → List ℕ → List ℕ → Bool → List ℕ → Bool → List ℕ → Outcome Reported
+lineTold names members marks list decoy tag generated out =
+    unlessRefused (contents names members marks list tag) No (out ∷ []) (lineLined names members marks list decoy tag generated out)
 
 -- sizes and lengths passed
 pub record Fair (names members marks list : List ℕ) : Type 0 where

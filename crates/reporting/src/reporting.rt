@@ -14,8 +14,8 @@ ghost use Rattle.records.specs.Outcome.{outcome};
 ghost use Rattle.catalogue.specs.Names.{nameCount};
 ghost use Rattle.applying_parts.specs.Laying.{Given};
 ghost use Rattle.lining_parts.specs.LineLaws.{Tag};
-ghost use Rattle.reporting.specs.Reporting.{reportedOf, lineLined, lineTold, lineOutcome, tested};
-ghost use Rattle.reporting.specs.ReportingLaws.{Fair, Table, testsOf};
+ghost use Rattle.reporting.specs.Reporting.{reportedOf, lineLined, lineOutcome, tested};
+ghost use Rattle.reporting.specs.ReportingLaws.{lineTold, Fair, Table, testsOf};
 
 // How many bytes the line has, and how many groups it counts.
 pub struct Report {
