@@ -1,80 +1,122 @@
 // The ranges of "none" as records.
-use crate::measuring::clear;
-use crate::measuring::measure;
+use crate::blocks::block_end;
+use crate::blocks::fill_least;
+use crate::blocks::lesser;
 use offering_parts::Step;
 use offering_parts::Terms;
 ghost use mathlib.Core.Path.{_≡_};
-ghost use Prim.Native.Nat.{_≤_, _<_};
+ghost use Prim.Native.Nat.{_+_, _-_, _≤_, _<_, min};
 ghost use lib.ListN.{length};
-ghost use lib.Dec.{ltb};
-ghost use Rattle.cutting_parts.specs.Cutting.{site, ofLength, noneSites};
-ghost use Rattle.offering_parts.specs.Digests.{recordOf};
-ghost use Rattle.offering_parts.specs.Steps.{room, after, decided, offers};
-ghost use Rattle.lengths_parts.specs.Longest.{Measured};
+ghost use Rattle.cutting_parts.specs.Cutting.{starting, ofLength, noneSites};
+ghost use Rattle.offering_parts.specs.Steps.{after, offers};
+ghost use Rattle.lengths_parts.specs.Longest.{Longests, Measured};
 ghost use Rattle.lengths_parts.specs.Listing.{chosenOf};
+ghost use Rattle.lengths_parts.specs.Blocks.{Leasts, Above};
 
-// Writes the record of a..e behind the first count records, where it is new and there is room.
-fn list_range(
-    new: bool,
-    a: usize,
-    e: usize,
-    n: usize,
+fn wide(x: u32) -> usize
+    ensures { λ r. ⌜ r ≡ x ⌝ }
+{
+    x as usize
+}
+
+// Writes the new ranges of a length that start from `from` to `to`.
+fn list_starts(
+    letters: &[u8],
+    longest: &[u32],
+    len: usize,
     protein: u32,
+    from: usize,
+    to: usize,
     out: &mut [u8],
     count: usize,
 ) -> Step
-    requires { ⌜ (a ≤ e) × (e ≤ 65536) ⌝ }
-    ensures { λ r. ⌜ after r (now (out .exit)) ≡ decided new (ltb count (room (now (out .entry)))) count (now (out .entry)) (recordOf n protein (site a e)) ⌝ }
+    requires { ⌜ (length (now letters) ≤ 65536) × Measured (now letters) (now longest) × (to + len ≤ length (now letters) + 1) ⌝ }
+    ensures { λ r. ⌜ after r (now (out .exit)) ≡ chosenOf (now (letters .entry)) protein (starting len from (to - from)) count (now (out .entry)) ⌝ }
 {
-    if !new {
-        return Step::Kept(count);
+    let n = letters.len();
+    let mut a = from;
+    let mut k = count;
+    while a < to {
+        let new = wide(longest[a]) < len;
+        let Step::Kept(x) = offering_parts::write_range(new, a, a + len, 0, 0, n, protein, out, k)
+        else {
+            return Step::Full;
+        };
+        k = x;
+        a += 1;
     }
-    if records::room_for(out.len(), 16, 1048576) <= count {
-        return Step::Full;
-    }
-    offering_parts::put_record(out, 16 * count, a, e, 0, 0, n, protein);
-    let next = count + 1;
-    Step::Kept(next)
+    Step::Kept(k)
 }
 
-// Writes the new ranges of a length.
+// The same, where no start shares less than `least`: with a length up to that none is new, and none is looked at.
+fn list_block(
+    letters: &[u8],
+    longest: &[u32],
+    least: usize,
+    len: usize,
+    protein: u32,
+    from: usize,
+    to: usize,
+    out: &mut [u8],
+    count: usize,
+) -> Step
+    requires { ⌜ (length (now letters) ≤ 65536) × Measured (now letters) (now longest) × (to + len ≤ length (now letters) + 1) × Above (now longest) from (min to (length (now letters))) least ⌝ }
+    ensures { λ r. ⌜ after r (now (out .exit)) ≡ chosenOf (now (letters .entry)) protein (starting len from (to - from)) count (now (out .entry)) ⌝ }
+{
+    if len <= least {
+        return Step::Kept(count);
+    }
+    list_starts(letters, longest, len, protein, from, to, out, count)
+}
+
+// Writes the new ranges of a length, block by block.
 fn list_length(
     letters: &[u8],
     longest: &[u32],
+    least: &[u32],
     len: usize,
     protein: u32,
     out: &mut [u8],
     count: usize,
 ) -> Step
-    requires { ⌜ (length (now letters) ≤ 65536) × (len ≤ 65536) × Measured (now letters) 0 (now longest) ⌝ }
+    requires { ⌜ (length (now letters) ≤ 65536) × (len ≤ length (now letters)) × Measured (now letters) (now longest) × (1025 ≤ length (now least)) × Leasts (length (now letters)) (now longest) (now least) ⌝ }
     ensures { λ r. ⌜ after r (now (out .exit)) ≡ chosenOf (now (letters .entry)) protein (ofLength (length (now (letters .entry))) len) count (now (out .entry)) ⌝ }
 {
-    let n = letters.len();
+    let starts = letters.len() + 1 - len;
+    let mut b = 0;
     let mut a = 0;
-    let mut e = len;
     let mut k = count;
-    while e <= n {
-        let new = (longest[a] as usize) < len;
-        let Step::Kept(x) = list_range(new, a, e, n, protein, out, k) else {
+    while a < starts {
+        let to = block_end(a, starts);
+        let low = wide(least[b]);
+        let Step::Kept(x) = list_block(letters, longest, low, len, protein, a, to, out, k) else {
             return Step::Full;
         };
         k = x;
-        a += 1;
-        e += 1;
+        b += 1;
+        a += 64;
     }
     Step::Kept(k)
 }
 
-// Writes the new ranges of every length from minimum to maximum.
-fn list_lengths(letters: &[u8], longest: &[u32], terms: Terms, out: &mut [u8]) -> Step
-    requires { ⌜ (length (now letters) ≤ 65536) × (terms .maximum ≤ 65536) × Measured (now letters) 0 (now longest) ⌝ }
+// Writes the new ranges of every length from minimum to maximum; a length above the number of letters has none.
+fn list_lengths(
+    letters: &[u8],
+    longest: &[u32],
+    least: &[u32],
+    terms: Terms,
+    out: &mut [u8],
+) -> Step
+    requires { ⌜ (length (now letters) ≤ 65536) × (terms .maximum ≤ 65536) × Measured (now letters) (now longest) × (1025 ≤ length (now least)) × Leasts (length (now letters)) (now longest) (now least) ⌝ }
     ensures { λ r. ⌜ after r (now (out .exit)) ≡ chosenOf (now (letters .entry)) (terms .protein) (noneSites (length (now (letters .entry))) (terms .minimum) (terms .maximum)) 0 (now (out .entry)) ⌝ }
 {
+    let n = letters.len() as u32;
+    let top = lesser(terms.maximum, n);
     let mut len = terms.minimum;
     let mut k = 0;
-    while len <= terms.maximum {
-        let wide = len as usize;
-        let Step::Kept(x) = list_length(letters, longest, wide, terms.protein, out, k) else {
+    while len <= top {
+        let Step::Kept(x) = list_length(letters, longest, least, wide(len), terms.protein, out, k)
+        else {
             return Step::Full;
         };
         k = x;
@@ -83,12 +125,18 @@ fn list_lengths(letters: &[u8], longest: &[u32], terms: Terms, out: &mut [u8]) -
     Step::Kept(k)
 }
 
-// Writes the digests of "none", with tab for the numbers of the starts.
-pub fn list_all(letters: &[u8], terms: Terms, out: &mut [u8], tab: &mut [u32]) -> Step
-    requires { ⌜ (length (now letters) ≤ 65536) × (terms .maximum ≤ 65536) × (length (now letters) < length (now tab)) ⌝ }
+// Writes the digests of "none". longest has for each start the longest stretch that it shares with an earlier one; least
+// holds the least of it in each block of 64 starts on the way.
+pub fn list_measured(
+    letters: &[u8],
+    longest: &[u32],
+    terms: Terms,
+    out: &mut [u8],
+    least: &mut [u32],
+) -> Step
+    requires { ⌜ (length (now letters) ≤ 65536) × (terms .maximum ≤ 65536) × (length (now letters) < length (now longest)) × (1025 ≤ length (now least)) × Longests (now letters) (now longest) ⌝ }
     ensures { λ r. ⌜ after r (now (out .exit)) ≡ offers (now (letters .entry)) terms (noneSites (length (now (letters .entry))) (terms .minimum) (terms .maximum)) 0 (now (out .entry)) ⌝ }
 {
-    clear(tab);
-    measure(letters, tab);
-    list_lengths(letters, tab, terms, out)
+    fill_least(longest, letters.len(), least);
+    list_lengths(letters, longest, least, terms, out)
 }
