@@ -1,0 +1,129 @@
+-- Windows of one site, and the end of the levels. Assumes nothing.
+use Prim.Native.Nat.{ℕ, min, _+_, _≤_, _<_}
+use mathlib.Core.Path.{_≡_, sym, ap, _∙_}
+use mathlib.Core.Bool.{true, false, _&&_}
+use mathlib.Core.Logic.{_⊎_, inl, inr}
+use mathlib.Core.List.{List, [], _++_}
+use native.Mathlib.Omega.{arith}
+use native.Mathlib.Nat.{add-zero}
+use native.Mathlib.Numerals.{add-one}
+use borrow.Author.Tests.{lt-ltb, ltb-true}
+use lib.Dec.{ltb}
+use lib.ListN.{length, getD, take, drop, length-append, take-append-drop}
+use Rattle.records.specs.Tests.{below?, both}
+use Rattle.sorting_parts.specs.SortLaws.{clash}
+use Rattle.cutting_parts.specs.declared.enzyme.Knife.{Knife}
+use Rattle.enzyme_windows.specs.Pieces.{joined, pieces}
+use Rattle.enzyme_windows.specs.Shared.{SameWindow, Named, sharedSites}
+use Rattle.enzyme_windows.specs.PieceLaws.{joined-pieces}
+use Rattle.enzyme_windows.specs.NameLaws.{window-none, window-on, window-back}
+use Rattle.enzyme_windows.specs.WindowLaws.{joined-append}
+use Rattle.enzyme_windows.specs.StartLaws.{startOf, start-next, site-letters}
+use Rattle.enzyme_windows.specs.FirstLaws.{shared-window}
+use Rattle.enzyme_windows.specs.TableLaws.{Counted}
+use Rattle.enzyme_order.specs.Keys.{Site, lettersAt}
+use Rattle.enzyme_runs.specs.Steps.{Has, Stepped}
+use Rattle.enzyme_strewn.specs.Shuffled.{Shuffled}
+use Rattle.enzyme_levels.specs.Levels.{Placed, Level}
+use Rattle.enzyme_levels.specs.ReadyLaws.{counted-below}
+use Rattle.enzyme_levels.specs.LevelLaws.{next-level}
+
+start-low : (ts : List (List ℕ)) (i : ℕ) → startOf ts i ≤ length (joined ts)
+start-low ts i =
+    let e : joined ts ≡ joined (take i ts) ++ joined (drop i ts) = ap joined (sym (take-append-drop i ts)) ∙ joined-append (take i ts) (drop i ts) in
+    let l : length (joined ts) ≡ length (joined (take i ts)) + length (joined (drop i ts)) = ap length e ∙ length-append (joined (take i ts)) (joined (drop i ts)) in
+    omega arith
+
+module _ (ts : List (List ℕ)) (s starts : List ℕ) (m : ℕ) (pl : Placed ts s starts m) where
+  -- each is a site
+  pub placed-site : (z : ℕ) → z < m → Site s starts z
+  placed-site z h =
+      let a = pl .start z (omega arith) in
+      let b = pl .start (z + 1) (omega arith) in
+      let n : startOf ts (z + 1) ≡ startOf ts z + length (getD ts z []) = rw (add-one z) (start-next ts z (omega (arith, pl .many))) in
+      let l = start-low ts (z + 1) in
+      let e = ap length (pl .letters) in
+      record { placed = omega (arith, pl .room); rises = omega arith; within = omega arith }
+
+  -- with the letters of its text
+  site-text : (z : ℕ) → z < m → lettersAt s starts z ≡ getD ts z []
+  site-text z h = rw (pl .start z (omega arith), pl .start (z + 1) (omega arith), ← pl .letters) (site-letters ts z 0 (omega (arith, pl .many)))
+
+  -- all sites are counted up in v, and strewn in y
+  module _ (v y x name rank rank' share share' : List ℕ) (k : ℕ) (all : (i : ℕ) → i < m → (getD v i 0 ≡ i) × (getD share i 0 ≡ 0)) (sh : Shuffled v y m)
+      (st : Stepped (lettersAt s starts) y x rank rank' share share' m k m 1) (cp : (i : ℕ) → i < m → getD name i 0 ≡ getD rank' i 0)
+    where
+      has : (z : ℕ) → z < m → Has y m z
+      has z h = sh .into z (z, h, all z h .0)
+
+      below : (z : ℕ) → Has y m z → z < m
+      below z h = counted-below v share m all z (sh .from z h)
+
+      named : Named ts (λ i. getD name i 0)
+      named = let l = pl .many in record {
+        letters = λ p j hp hj e.
+            let a : p < m = omega arith in
+            let b : j < m = omega arith in
+            sym (site-text p a) ∙ st .back p j (has p a) (has j b) (sym (cp p a) ∙ e ∙ cp j b) ∙ site-text j b;
+        number = λ p j hp hj e.
+            let a : p < m = omega arith in
+            let b : j < m = omega arith in
+            cp p a ∙ st .same p j (has p a) (has j b) (site-text p a ∙ e ∙ sym (site-text j b)) ∙ sym (cp j b);
+      }
+
+      texts : (z v : ℕ) → Has y m z → Has y m v → SameWindow ts 1 z v → lettersAt s starts z ≡ lettersAt s starts v
+      texts z v h j w =
+          let l = pl .many in
+          let a = below z h in
+          let b = below v j in
+          let q = window-back ts (λ i. getD name i 0) named 0 z v w .3 in
+          let f : getD name z 0 ≡ getD name v 0 = rw (add-zero z, add-zero v) at q in
+          site-text z a ∙ named .letters z v (omega arith) (omega arith) f ∙ sym (site-text v b)
+
+      windows : (z v : ℕ) → Has y m z → Has y m v → lettersAt s starts z ≡ lettersAt s starts v → SameWindow ts 1 z v
+      windows z v h j t =
+          let l = pl .many in
+          let a = below z h in
+          let b = below v j in
+          let f : getD name z 0 ≡ getD name v 0 = named .number z v (omega arith) (omega arith) (sym (site-text z a) ∙ t ∙ site-text v b) in
+          let q : getD name (z + 0) 0 ≡ getD name (v + 0) 0 = rw (add-zero z, add-zero v) f in
+          window-on ts (λ i. getD name i 0) named 0 z v (window-none ts (λ i. getD name i 0) named z v (omega arith) (omega arith)) (omega arith) (omega arith) q
+
+      pub level-one : Level ts x name rank' share' 1 k
+      level-one =
+          let l = pl .many in
+          next-level ts (lettersAt s starts) y x name rank rank' share share' m k m 0 l st named
+          (λ z v d w. let a = w .first in has z (omega arith)) texts windows
+          (λ i h. let b = all i (omega arith) .1 in omega arith)
+
+-- ---- the end: no site is left, or windows are as long as wanted
+
+pub levels-done : (ts : List (List ℕ)) (order name rank share : List ℕ) (n g most : ℕ) → n ≤ most → (n < most → g ≡ 0) → Level ts order name rank share n g
+    → Counted ts most (λ i. getD share i 0)
+levels-done ts order name rank share n g most h z lv i l = lv .counted i l ∙ go (below? n most) (below? n (sharedSites ts i))
+  where
+    go : (n < most) ⊎ (most ≤ n) → (n < sharedSites ts i) ⊎ (sharedSites ts i ≤ n) → min n (sharedSites ts i) ≡ min most (sharedSites ts i)
+    go (inl a) (inl b) =
+        let w = shared-window ts n i b in
+        let c = w .1 in
+        let p = lv .each (w .0) i (λ (q : w .0 ≡ i). omega arith) (w .2) in
+        let d = p .1 in
+        absurd (omega (arith, z a))
+    go (inl a) (inr b) = omega arith
+    go (inr a) b = let q : n ≡ most = omega arith in rw q
+
+-- the test of the levels' loop
+pub goes : (k most g : ℕ) → (ltb k most && ltb 0 g) ≡ true → (k < most) × (0 < g)
+goes k most g e = let a = both (ltb k most) (ltb 0 g) e in (ltb-true k most (a .0), ltb-true 0 g (a .1))
+
+pub ends : (k most g : ℕ) → (ltb k most && ltb 0 g) ≡ false → k < most → g ≡ 0
+ends k most g e h = go (below? 0 g)
+  where
+    go : (0 < g) ⊎ (g ≤ 0) → g ≡ 0
+    go (inl l) = clash (rw (lt-ltb k most h, lt-ltb 0 g l)) e
+    go (inr l) = omega arith
+
+-- the sites of a knife, by the table of their starts
+pub pieces-placed : (k : Knife) (s starts : List ℕ) (m : ℕ) → m ≡ length (pieces k s) → m < length starts → ((i : ℕ) → i ≤ m → getD starts i 0 ≡ startOf (pieces k s) i)
+    → Placed (pieces k s) s starts m
+pieces-placed k s starts m e h at = record { letters = joined-pieces k s; many = sym e; room = h; start = at }

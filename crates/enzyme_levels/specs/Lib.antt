@@ -1,0 +1,6 @@
+-- Nothing here has to be believed: Levels says what the tables hold for windows of n sites, the files named Laws how a level makes it.
+-- A caller makes Placed by `pieces-placed` of FirstLaws.
+pub mod Levels
+pub mod LevelLaws
+pub mod FirstLaws
+pub mod ReadyLaws

@@ -1,0 +1,143 @@
+// Windows of more and more sites.
+use enzyme_order::Key;
+ghost use mathlib.Core.Path.{_≡_};
+ghost use mathlib.Core.List.{List};
+ghost use Prim.Native.Nat.{ℕ, _+_, _≤_, _<_};
+ghost use lib.ListN.{length, getD};
+ghost use Rattle.enzyme_windows.specs.TableLaws.{Counted};
+ghost use Rattle.enzyme_order.specs.Keys.{Site, keyOf};
+ghost use Rattle.enzyme_runs.specs.Steps.{Stepped};
+ghost use Rattle.enzyme_levels.specs.Levels.{Placed, Ready, Level};
+
+// Ranks the first g sites by their keys, writes n for those whose key an earlier site has, and leaves first in the order those that have
+// the key of another and a site n places on; says how many there are.
+fn renumber(
+    key: Key,
+    letters: &[u8],
+    starts: &[u32],
+    name: &[u16],
+    rank: &mut [u16],
+    order: &mut [u16],
+    other: &mut [u16],
+    share: &mut [u8],
+    g: usize,
+    m: usize,
+    n: u8,
+) -> usize
+    requires { ⌜ Ready (now letters) (now starts) (now order) g m × (m ≤ length (now rank)) × (m ≤ length (now order)) × (m ≤ length (now other)) × (m ≤ length (now share)) ⌝ }
+    ensures { λ r. ⌜ Stepped (keyOf key (now (letters .entry)) (now (starts .entry)) (now (name .entry)) (now (rank .entry))) (now (order .entry)) (now (order .exit)) (now (rank .entry)) (now (rank .exit)) (now (share .entry)) (now (share .exit)) g r m n ⌝ }
+{
+    enzyme_runs::line_up(key, letters, starts, name, rank, order, other, g);
+    enzyme_runs::bring(order, other, rank, g);
+    enzyme_runs::mark(order, other, share, g, n);
+    enzyme_runs::keep(order, other, g, m, n)
+}
+
+// Windows of one site: all sites by their letters, and their names.
+fn first_level(
+    letters: &[u8],
+    starts: &[u32],
+    name: &mut [u16],
+    rank: &mut [u16],
+    order: &mut [u16],
+    other: &mut [u16],
+    share: &mut [u8],
+    m: usize,
+) -> usize
+    requires { ⌜ (m ≤ 65536) × (m ≤ length (now name)) × (m ≤ length (now rank)) × (m ≤ length (now order)) × (m ≤ length (now other)) × (m ≤ length (now share)) × ((z : ℕ) → z < m → Site (now letters) (now starts) z) ⌝ }
+    ensures { λ r. ⌜ Ready (now (letters .entry)) (now (starts .entry)) (now (order .exit)) r m × ((ts : List (List ℕ)) → Placed ts (now (letters .entry)) (now (starts .entry)) m → Level ts (now (order .exit)) (now (name .exit)) (now (rank .exit)) (now (share .exit)) 1 r) ⌝ }
+{
+    enzyme_runs::count_up(order, share, m);
+    enzyme_strewn::strew(letters, starts, order, m);
+    let g = renumber(
+        Key::Letters,
+        letters,
+        starts,
+        name,
+        rank,
+        order,
+        other,
+        share,
+        m,
+        m,
+        1,
+    );
+    enzyme_runs::copy_names(rank, name, m);
+    g
+}
+
+// From windows of k sites to those of k + 1.
+fn level(
+    letters: &[u8],
+    starts: &[u32],
+    name: &[u16],
+    rank: &mut [u16],
+    order: &mut [u16],
+    other: &mut [u16],
+    share: &mut [u8],
+    g: usize,
+    m: usize,
+    k: usize,
+) -> usize
+    requires { ⌜ Ready (now letters) (now starts) (now order) g m × (m ≤ length (now rank)) × (m ≤ length (now order)) × (m ≤ length (now other)) × (m ≤ length (now share)) × (k < 17) ⌝ }
+    ensures { λ r. ⌜ Ready (now (letters .entry)) (now (starts .entry)) (now (order .exit)) r m × ((ts : List (List ℕ)) → length ts ≡ m → Level ts (now (order .entry)) (now (name .entry)) (now (rank .entry)) (now (share .entry)) k g → Level ts (now (order .exit)) (now (name .entry)) (now (rank .exit)) (now (share .exit)) (k + 1) r) ⌝ }
+{
+    let next = k + 1;
+    let n = next as u8;
+    renumber(
+        Key::Names(k),
+        letters,
+        starts,
+        name,
+        rank,
+        order,
+        other,
+        share,
+        g,
+        m,
+        n,
+    )
+}
+
+// From windows of one site to those of up to `most` sites, as long as there are equal ones.
+fn more_levels(
+    letters: &[u8],
+    starts: &[u32],
+    name: &[u16],
+    rank: &mut [u16],
+    order: &mut [u16],
+    other: &mut [u16],
+    share: &mut [u8],
+    first: usize,
+    m: usize,
+    most: usize,
+)
+    requires { ⌜ Ready (now letters) (now starts) (now order) first m × (m ≤ length (now rank)) × (m ≤ length (now order)) × (m ≤ length (now other)) × (m ≤ length (now share)) × (1 ≤ most) × (most ≤ 17) ⌝ }
+    ensures { λ _. ⌜ ((ts : List (List ℕ)) → length ts ≡ m → Level ts (now (order .entry)) (now (name .entry)) (now (rank .entry)) (now (share .entry)) 1 first → Counted ts most (λ i. getD (now (share .exit)) i 0)) ⌝ }
+{
+    let mut g = first;
+    let mut k = 1;
+    while (k < most) & (0 < g) {
+        g = level(letters, starts, name, rank, order, other, share, g, m, k);
+        k += 1;
+    }
+}
+
+// For each of m sites how many sites, up to `most`, a window from it shares with one from an earlier site. The other tables are lent.
+pub fn levels(
+    letters: &[u8],
+    starts: &[u32],
+    m: usize,
+    most: usize,
+    order: &mut [u16],
+    other: &mut [u16],
+    name: &mut [u16],
+    rank: &mut [u16],
+    share: &mut [u8],
+)
+    requires { ⌜ ((ts : List (List ℕ)) × Placed ts (now letters) (now starts) m) × (m ≤ 65536) × (1 ≤ most) × (most ≤ 17) × (m ≤ length (now order)) × (m ≤ length (now other)) × (m ≤ length (now name)) × (m ≤ length (now rank)) × (m ≤ length (now share)) ⌝ }
+    ensures { λ _. ⌜ ((ts : List (List ℕ)) → Placed ts (now (letters .entry)) (now (starts .entry)) m → Counted ts most (λ i. getD (now (share .exit)) i 0)) ⌝ }
+{
+    let g = first_level(letters, starts, name, rank, order, other, share, m);
+    more_levels(letters, starts, name, rank, order, other, share, g, m, most);
+}

@@ -1,0 +1,99 @@
+-- Offers write the ranges that are kept, one after the other. Assumes nothing.
+use Prim.Native.Nat.{ℕ, _+_, _*_, _/_, _≤_, _<_}
+use mathlib.Core.Path.{_≡_, refl, sym, _∙_}
+use mathlib.Core.Bool.{Bool, true, false, cond}
+use mathlib.Core.List.{List, [], _∷_, _++_, foldl, append-nil, append-assoc}
+use native.Mathlib.Omega.{arith}
+use native.Mathlib.Numerals.{add-one}
+use native.Mathlib.Nat.{min-le-left}
+use lib.ListN.{length}
+use lib.Seq.{sets}
+use lib.Dec.{ltb}
+use borrow.Author.Tests.{ltb-true}
+use Rattle.cutting_parts.specs.Cutting.{Range, wanted, keep}
+use Rattle.cutting_parts.specs.Work.{Inside}
+use Rattle.offering_parts.specs.declared.offering.Step.{Step}
+use Rattle.offering_parts.specs.declared.offering.Step.the-variants.{Kept, Full}
+use Rattle.offering_parts.specs.declared.offering.Terms.{Terms}
+use Rattle.offering_parts.specs.Digests.{recordOf}
+use Rattle.offering_parts.specs.Buffer.{rangesIn}
+use Rattle.offering_parts.specs.BufferLaws.{ranges-more}
+use Rattle.offering_parts.specs.Steps.{room, after, decided, offered, andThen, offers}
+use Rattle.enzyme_picks.specs.Picks.{puts}
+
+-- ---- two lists of ranges, one after the other
+
+puts-append : (n p : ℕ) (xs ys : List Range) (count : ℕ) (out : List ℕ) → puts n p (xs ++ ys) count out ≡ andThen (puts n p xs count out) (puts n p ys)
+puts-append n p [] ys count out = refl
+puts-append n p (r ∷ xs) ys count out =
+    let a = decided true (ltb count (room out)) count out (recordOf n p r) in
+    go (a .step) (a .bytes) (puts-append n p xs ys)
+  where
+    go : (x : Step) (o : List ℕ) → ((count : ℕ) (out : List ℕ) → puts n p (xs ++ ys) count out ≡ andThen (puts n p xs count out) (puts n p ys))
+        → andThen (after x o) (puts n p (xs ++ ys)) ≡ andThen (andThen (after x o) (puts n p xs)) (puts n p ys)
+    go (Kept k) o ih = ih k o
+    go Full o ih = refl
+
+module _ (n p : ℕ) (xs ys : List Range) (count : ℕ) (out o : List ℕ) where
+  pub puts-kept : (k : ℕ) → after (Kept k) o ≡ puts n p xs count out → puts n p (xs ++ ys) count out ≡ puts n p ys k o
+  puts-kept k e = rw (puts-append n p xs ys count out, ← e)
+
+  pub puts-full : after Full o ≡ puts n p xs count out → puts n p (xs ++ ys) count out ≡ after Full o
+  puts-full e = rw (puts-append n p xs ys count out, ← e)
+
+-- ---- a range that may be new, and the rest
+
+puts-one : (n p : ℕ) (w : Bool) (r : Range) (rest : List Range) (count : ℕ) (out : List ℕ)
+    → puts n p (cond w (r ∷ rest) rest) count out ≡ andThen (decided w (ltb count (room out)) count out (recordOf n p r)) (puts n p rest)
+puts-one n p true r rest count out = refl
+puts-one n p false r rest count out = refl
+
+module _ (n p : ℕ) (w : Bool) (r : Range) (rest : List Range) (count : ℕ) (out o : List ℕ) where
+  pub one-kept : (k : ℕ) → after (Kept k) o ≡ decided w (ltb count (room out)) count out (recordOf n p r) → puts n p (cond w (r ∷ rest) rest) count out ≡ puts n p rest k o
+  one-kept k e = rw (puts-one n p w r rest count out, ← e)
+
+  pub one-full : after Full o ≡ decided w (ltb count (room out)) count out (recordOf n p r) → puts n p (cond w (r ∷ rest) rest) count out ≡ after Full o
+  one-full e = rw (puts-one n p w r rest count out, ← e)
+
+-- ---- what offers write
+
+-- of the ranges rs those that are kept behind ks
+abbrev kept : List ℕ → ℕ → ℕ → List Range → List Range → List Range
+kept s mn mx ks [] = []
+kept s mn mx ks (r ∷ rs) =
+    let with = kept s mn mx (ks ++ (r ∷ [])) rs in
+    let without = kept s mn mx ks rs in
+    cond (wanted s mn mx ks r) (r ∷ with) without
+
+keeps : (s : List ℕ) (mn mx : ℕ) (ks rs : List Range) → foldl (keep s mn mx) ks rs ≡ ks ++ kept s mn mx ks rs
+keeps s mn mx ks [] = sym (append-nil ks)
+keeps s mn mx ks (r ∷ rs) = go (wanted s mn mx ks r) (keeps s mn mx (ks ++ (r ∷ [])) rs) (keeps s mn mx ks rs)
+  where
+    go : (w : Bool) → foldl (keep s mn mx) (ks ++ (r ∷ [])) rs ≡ (ks ++ (r ∷ [])) ++ kept s mn mx (ks ++ (r ∷ [])) rs → foldl (keep s mn mx) ks rs ≡ ks ++ kept s mn mx ks rs
+        → foldl (keep s mn mx) (cond w (ks ++ (r ∷ [])) ks) rs ≡ ks ++ cond w (r ∷ kept s mn mx (ks ++ (r ∷ [])) rs) (kept s mn mx ks rs)
+    go true e f = e ∙ append-assoc ks (r ∷ []) (kept s mn mx (ks ++ (r ∷ [])) rs)
+    go false e f = f
+
+module _ (s : List ℕ) (t : Terms) (small : length s ≤ 65536) where
+  offers-kept : (rs : List Range) → Inside (length s) rs → (count : ℕ) (out : List ℕ)
+      → offers s t rs count out ≡ puts (length s) (t .protein) (kept s (t .minimum) (t .maximum) (rangesIn count out) rs) count out
+  unfolding offered
+  offers-kept [] i count out = refl
+  offers-kept (r ∷ rs) i count out = go (wanted s (t .minimum) (t .maximum) (rangesIn count out) r) (ltb count (room out)) refl (offers-kept rs (i .2))
+    where
+      go : (w b : Bool) → ltb count (room out) ≡ b
+          → ((count : ℕ) (out : List ℕ) → offers s t rs count out ≡ puts (length s) (t .protein) (kept s (t .minimum) (t .maximum) (rangesIn count out) rs) count out)
+          → andThen (decided w b count out (recordOf (length s) (t .protein) r)) (offers s t rs)
+          ≡ puts (length s) (t .protein) (cond w (r ∷ kept s (t .minimum) (t .maximum) (rangesIn count out ++ (r ∷ [])) rs) (kept s (t .minimum) (t .maximum) (rangesIn count out) rs)) count out
+      go true true f ih =
+          let l : count < room out = ltb-true _ _ f in
+          let m = min-le-left (length out / 16) 1048576 in
+          let new = sets out (16 * count) (recordOf (length s) (t .protein) r) in
+          let x : rangesIn (count + 1) (sets out (16 * count) (recordOf (length s) (t .protein) r)) ≡ rangesIn count out ++ (r ∷ []) = rw (add-one count) (ranges-more (length s) (t .protein) r count out (omega arith) small (i .0) (i .1)) in
+          rw f (rw x at (ih (count + 1) new))
+      go true false f ih = rw f
+      go false b f ih = ih count out
+
+  pub offers-puts : (rs : List Range) → Inside (length s) rs → (out : List ℕ)
+      → offers s t rs 0 out ≡ puts (length s) (t .protein) (foldl (keep s (t .minimum) (t .maximum)) [] rs) 0 out
+  offers-puts rs i out = rw (keeps s (t .minimum) (t .maximum) [] rs) (offers-kept rs i 0 out)

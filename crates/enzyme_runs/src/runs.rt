@@ -1,0 +1,120 @@
+// Sites put in order, and the runs of those with one key.
+use crate::reading;
+use enzyme_order::Key;
+ghost use mathlib.Core.Path.{_≡_};
+ghost use mathlib.Core.Bool.{cond};
+ghost use Prim.Native.Nat.{_≤_};
+ghost use lib.ListN.{length};
+ghost use Rattle.cutting_parts.specs.Cutting.{same};
+ghost use Rattle.enzyme_order.specs.Keys.{Site, lettersAt, namesAt, keyOf};
+ghost use Rattle.enzyme_runs.specs.Steps.{Apart, Sited, Arranged, Runs};
+
+// Whether two sites have the same letters.
+fn same_site(letters: &[u8], starts: &[u32], a: u16, b: u16) -> bool
+    requires { ⌜ Site (now letters) (now starts) a × Site (now letters) (now starts) b ⌝ }
+    ensures { λ r. ⌜ r ≡ same (lettersAt (now (letters .entry)) (now (starts .entry)) a) (lettersAt (now (letters .entry)) (now (starts .entry)) b) ⌝ }
+{
+    let p = reading::start_of(starts, a);
+    let q = reading::end_of(starts, a);
+    let u = reading::start_of(starts, b);
+    let v = reading::end_of(starts, b);
+    cutting_parts::equal(&letters[p..q], &letters[u..v])
+}
+
+// Whether two sites have the same rank, and the sites k places on the same name.
+fn same_names(name: &[u16], rank: &[u16], k: usize, a: u16, b: u16) -> bool
+    ensures { λ r. ⌜ r ≡ same (namesAt k (now (name .entry)) (now (rank .entry)) a) (namesAt k (now (name .entry)) (now (rank .entry)) b) ⌝ }
+{
+    let x = reading::rank_of(rank, a);
+    let y = reading::rank_of(rank, b);
+    let u = reading::name_on(name, a, k);
+    let v = reading::name_on(name, b, k);
+    (x == y) & (u == v)
+}
+
+// Whether two sites have the same key.
+fn same_key(
+    key: Key,
+    letters: &[u8],
+    starts: &[u32],
+    name: &[u16],
+    rank: &[u16],
+    a: u16,
+    b: u16,
+) -> bool
+    requires { ⌜ Site (now letters) (now starts) a × Site (now letters) (now starts) b ⌝ }
+    ensures { λ r. ⌜ r ≡ same (keyOf key (now (letters .entry)) (now (starts .entry)) (now (name .entry)) (now (rank .entry)) a) (keyOf key (now (letters .entry)) (now (starts .entry)) (now (name .entry)) (now (rank .entry)) b) ⌝ }
+{
+    match key {
+        Key::Letters => same_site(letters, starts, a, b),
+        Key::Names(k) => same_names(name, rank, k, a, b),
+    }
+}
+
+// Where the run of site x at a place starts: with the site before it, whose run starts at `run`, or there.
+fn run_of(
+    key: Key,
+    letters: &[u8],
+    starts: &[u32],
+    name: &[u16],
+    rank: &[u16],
+    before: u16,
+    x: u16,
+    run: u16,
+    place: u16,
+) -> u16
+    requires { ⌜ Site (now letters) (now starts) before × Site (now letters) (now starts) x ⌝ }
+    ensures { λ r. ⌜ r ≡ cond (same (keyOf key (now (letters .entry)) (now (starts .entry)) (now (name .entry)) (now (rank .entry)) before) (keyOf key (now (letters .entry)) (now (starts .entry)) (now (name .entry)) (now (rank .entry)) x)) run place ⌝ }
+{
+    if same_key(key, letters, starts, name, rank, before, x) {
+        run
+    } else {
+        place
+    }
+}
+
+// Writes for each of the first g sites in the order where its run starts. At the first place it does not matter which site is said to
+// stand before it.
+fn number_runs(
+    key: Key,
+    letters: &[u8],
+    starts: &[u32],
+    name: &[u16],
+    rank: &[u16],
+    order: &[u16],
+    runs: &mut [u16],
+    g: usize,
+)
+    requires { ⌜ (g ≤ length (now order)) × (g ≤ length (now runs)) × (g ≤ 65536) × Sited (now letters) (now starts) (now order) g ⌝ }
+    ensures { λ _. ⌜ Runs (keyOf key (now (letters .entry)) (now (starts .entry)) (now (name .entry)) (now (rank .entry))) (now (order .entry)) (now (runs .exit)) g ⌝ }
+{
+    let mut last: u16 = 0;
+    let mut run: u16 = 0;
+    let mut i = 0;
+    while i < g {
+        let x = order[i];
+        let place = i as u16;
+        run = run_of(key, letters, starts, name, rank, last, x, run, place);
+        runs[i] = run;
+        last = x;
+        i += 1;
+    }
+}
+
+// Sorts the first g sites in the order by their keys, and numbers their runs.
+pub fn line_up(
+    key: Key,
+    letters: &[u8],
+    starts: &[u32],
+    name: &[u16],
+    rank: &[u16],
+    order: &mut [u16],
+    runs: &mut [u16],
+    g: usize,
+)
+    requires { ⌜ (g ≤ length (now order)) × (g ≤ length (now runs)) × (g ≤ 65536) × Apart (now order) g × Sited (now letters) (now starts) (now order) g ⌝ }
+    ensures { λ _. ⌜ Arranged (keyOf key (now (letters .entry)) (now (starts .entry)) (now (name .entry)) (now (rank .entry))) (now (order .entry)) (now (order .exit)) g × Runs (keyOf key (now (letters .entry)) (now (starts .entry)) (now (name .entry)) (now (rank .entry))) (now (order .exit)) (now (runs .exit)) g ⌝ }
+{
+    enzyme_order::sort(key, letters, starts, name, rank, order, runs, g);
+    number_runs(key, letters, starts, name, rank, order, runs, g);
+}

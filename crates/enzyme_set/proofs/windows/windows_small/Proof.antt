@@ -1,0 +1,20 @@
+-- `windows_small` meets its contract: its tables are long enough. Assumes nothing.
+use native.Mathlib.Omega.{arith}
+use lib.ListN.{length}
+use denote.Ref.{now}
+use Rattle.enzyme_tables.specs.TableLaws.{as-long, longer}
+use borrow.Author.Needs.{needs}
+use Rattle.enzyme_set.proofs.windows.windows_small.Statement.{statement}
+use Rattle.enzyme_set.proofs.windows.windows_small.Tie as tie
+
+windows-over-requires : tie.Need-windows-over-requires
+windows-over-requires c κs = let s = c .before .before .before .before .before .before .before .before .before in
+    let n = length (now (s .args .letters)) in
+    let l = as-long 1024 n (omega arith) in
+    (omega arith, s .pre .1, longer 1025 n (omega arith), l, l, l, l, l)
+
+pub windows-small-spec : {M : Type 1} → statement M
+windows-small-spec =
+    tie.close
+    (tie.spec (λ c. search needs) (λ c. search needs) (λ c. search needs) (λ c. search needs) (λ c. search needs)
+    (λ c. search needs) windows-over-requires (λ c. search needs) (λ c. search needs))

@@ -1,0 +1,116 @@
+// A set without semi: equal sites have one name, and windows of sites are told apart by the names.
+use cutting_parts::Knife;
+use offering_parts::Step;
+use offering_parts::Terms;
+ghost use mathlib.Core.Path.{_≡_};
+ghost use mathlib.Core.Bool.{false};
+ghost use Prim.Native.Nat.{_+_, _≤_, _<_};
+ghost use lib.ListN.{length};
+ghost use Rattle.cutting_parts.specs.Work.{setWork};
+ghost use Rattle.offering_parts.specs.Steps.{after, offers};
+
+// With tables that are lent: where the sites start; two for their order; their names, and the ranks of windows; and how many
+// sites each window shares with an earlier one.
+fn windows_over(
+    letters: &[u8],
+    knife: Knife,
+    missed: u8,
+    terms: Terms,
+    out: &mut [u8],
+    starts: &mut [u32],
+    order: &mut [u16],
+    other: &mut [u16],
+    name: &mut [u16],
+    rank: &mut [u16],
+    share: &mut [u8],
+) -> Step
+    requires { ⌜ (length (now letters) ≤ 65536) × (missed ≤ 16) × (length (now letters) < length (now starts)) × (length (now letters) ≤ length (now order)) × (length (now letters) ≤ length (now other)) × (length (now letters) ≤ length (now name)) × (length (now letters) ≤ length (now rank)) × (length (now letters) ≤ length (now share)) ⌝ }
+    ensures { λ r. ⌜ after r (now (out .exit)) ≡ offers (now (letters .entry)) terms (setWork knife false missed (now (letters .entry))) 0 (now (out .entry)) ⌝ }
+{
+    let m = enzyme_sites::sites(letters, knife, starts);
+    let most = missed as usize + 1;
+    enzyme_levels::levels(letters, starts, m, most, order, other, name, rank, share);
+    enzyme_picks::list_windows(letters, knife, starts, share, m, missed, terms, out)
+}
+
+// The same with tables of three sizes.
+pub fn windows_small(letters: &[u8], knife: Knife, missed: u8, terms: Terms, out: &mut [u8]) -> Step
+    requires { ⌜ (length (now letters) ≤ 1024) × (missed ≤ 16) ⌝ }
+    ensures { λ r. ⌜ after r (now (out .exit)) ≡ offers (now (letters .entry)) terms (setWork knife false missed (now (letters .entry))) 0 (now (out .entry)) ⌝ }
+{
+    let mut starts = [0 as u32; 1025];
+    let mut order = [0 as u16; 1024];
+    let mut other = [0 as u16; 1024];
+    let mut name = [0 as u16; 1024];
+    let mut rank = [0 as u16; 1024];
+    let mut share = [0 as u8; 1024];
+    windows_over(
+        letters,
+        knife,
+        missed,
+        terms,
+        out,
+        &mut starts,
+        &mut order,
+        &mut other,
+        &mut name,
+        &mut rank,
+        &mut share,
+    )
+}
+
+pub fn windows_middle(
+    letters: &[u8],
+    knife: Knife,
+    missed: u8,
+    terms: Terms,
+    out: &mut [u8],
+) -> Step
+    requires { ⌜ (length (now letters) ≤ 8192) × (missed ≤ 16) ⌝ }
+    ensures { λ r. ⌜ after r (now (out .exit)) ≡ offers (now (letters .entry)) terms (setWork knife false missed (now (letters .entry))) 0 (now (out .entry)) ⌝ }
+{
+    let mut starts = [0 as u32; 8193];
+    let mut order = [0 as u16; 8192];
+    let mut other = [0 as u16; 8192];
+    let mut name = [0 as u16; 8192];
+    let mut rank = [0 as u16; 8192];
+    let mut share = [0 as u8; 8192];
+    windows_over(
+        letters,
+        knife,
+        missed,
+        terms,
+        out,
+        &mut starts,
+        &mut order,
+        &mut other,
+        &mut name,
+        &mut rank,
+        &mut share,
+    )
+}
+
+pub fn windows_large(letters: &[u8], knife: Knife, missed: u8, terms: Terms, out: &mut [u8]) -> Step
+    requires { ⌜ (length (now letters) ≤ 65536) × (missed ≤ 16) ⌝ }
+    ensures { λ r. ⌜ after r (now (out .exit)) ≡ offers (now (letters .entry)) terms (setWork knife false missed (now (letters .entry))) 0 (now (out .entry)) ⌝ }
+{
+    let mut starts = [0 as u32; 65537];
+    let mut order = [0 as u16; 65536];
+    let mut other = [0 as u16; 65536];
+    let mut name = [0 as u16; 65536];
+    let mut rank = [0 as u16; 65536];
+    let mut share = [0 as u8; 65536];
+    windows_over(
+        letters,
+        knife,
+        missed,
+        terms,
+        out,
+        &mut starts,
+        &mut order,
+        &mut other,
+        &mut name,
+        &mut rank,
+        &mut share,
+    )
+}

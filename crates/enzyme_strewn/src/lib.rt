@@ -1,0 +1,5 @@
+// Sites strewn into buckets before they are sorted. Only crates of this repository call this.
+mod codes;
+mod strewing;
+
+pub use strewing::strew;
