@@ -1,0 +1,20 @@
+-- The records that stand are no more than fit. Assumes nothing.
+use Prim.Native.Nat.{ℕ, _*_, _/_, _≤_}
+use mathlib.Core.List.{List}
+use native.Mathlib.Omega.{arith}
+use native.Mathlib.Nat.{min-le-left}
+use lib.ListN.{length}
+use Rattle.cutting_parts.specs.Cutting.{Range}
+use Rattle.offering_parts.specs.declared.offering.Terms.{Terms}
+use Rattle.offering_parts.specs.declared.offering.Step.the-variants.{Kept}
+use Rattle.offering_parts.specs.Buffer.{sealed}
+use Rattle.offering_parts.specs.BufferLaws.{length-sealed}
+use Rattle.offering_parts.specs.Steps.{room, View}
+use Rattle.offering_parts.specs.StepLaws.{offers-roomy}
+
+pub view-fits : (s : List ℕ) (t : Terms) (rs : List Range) (out : List ℕ) (k : ℕ) (o : List ℕ) → View s t rs 0 out (Kept k) o → 16 * k ≤ length o
+view-fits s t rs out k o x =
+    let r : k ≤ room (sealed (t .protein) k o) = offers-roomy s t rs 0 out k (sealed (t .protein) k o) (omega arith) x in
+    let q : k ≤ room o = rw (length-sealed (t .protein) k o) at r in
+    let m = min-le-left (length o / 16) 1048576 in
+    omega arith

@@ -1,0 +1,81 @@
+-- `order_at` meets its contract: the range that was read lies within the letters. Assumes nothing.
+use borrow.Author.Needs.{needs}
+use Prim.Native.Nat.{_≤_}
+use lib.ListN.{length}
+use denote.Ref.{now}
+use Rattle.offering_parts.specs.BufferLaws.{read-inside}
+use Rattle.enzyme_list.specs.ChainLaws.{range-read}
+use Rattle.enzyme_list.proofs.order.order_at.Statement.{statement}
+use Rattle.enzyme_list.proofs.order.order_at.Tie as tie
+
+-- the start and the end that were read lie within the letters
+ok : (c : tie.After-u32-at2) → (c .before .u32-at .result ≤ c .u32-at2 .result) × (c .u32-at2 .result ≤ length (now (c .before .before .before .before .args .letters)))
+ok c = let a = c .before .before .before .before .args in
+    read-inside (a .count) (now (a .out)) (a .j) _ _ (c .before .before .before .before .pre .2) (c .before .u32-at .ensures) (c .u32-at2 .ensures) (length (now (a .letters))) (c .before .before .before .before .pre .1)
+
+mul-u32-at : tie.Need-mul-u32-at
+mul-u32-at c = search needs
+
+u32-at-requires : tie.Need-u32-at-requires
+u32-at-requires c κs = search needs
+
+cast-start : tie.Need-cast-start
+cast-start c = search needs
+
+mul-u32-at-2 : tie.Need-mul-u32-at-2
+mul-u32-at-2 c = search needs
+
+add-u32-at : tie.Need-add-u32-at
+add-u32-at c = search needs
+
+u32-at-requires-2 : tie.Need-u32-at-requires-2
+u32-at-requires-2 c κs = search needs
+
+cast-end : tie.Need-cast-end
+cast-end c = search needs
+
+sub-order : tie.Need-sub-order
+sub-order c = ok c .0
+
+part-order-start : tie.Need-part-order-start
+part-order-start c = ok c .0
+
+part-order-end : tie.Need-part-order-end
+part-order-end c = ok c .1
+
+sub-order-2 : tie.Need-sub-order-2
+sub-order-2 c = search needs
+
+part-order-start-2 : tie.Need-part-order-start-2
+part-order-start-2 c = search needs
+
+part-order-end-2 : tie.Need-part-order-end-2
+part-order-end-2 c = search needs
+
+order-requires : tie.Need-order-requires
+order-requires c κs = search needs
+
+returns : tie.Need-returns
+returns c = let a = c .before .before .before .before .before .before .before .args in
+    let r = range-read (a .count) (now (a .out)) (a .j) (c .before .before .before .before .before .before .before .pre .2) in
+    rw (r, ← (c .before .before .before .before .u32-at .ensures), ← (c .before .before .before .u32-at2 .ensures)) (c .order .ensures)
+
+pub order-at-spec : {M : Type 1} → statement M
+order-at-spec =
+    tie.close
+    (tie.spec
+    mul-u32-at
+    u32-at-requires
+    cast-start
+    mul-u32-at-2
+    add-u32-at
+    u32-at-requires-2
+    cast-end
+    sub-order
+    part-order-start
+    part-order-end
+    sub-order-2
+    part-order-start-2
+    part-order-end-2
+    order-requires
+    returns)

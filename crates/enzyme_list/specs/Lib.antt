@@ -1,0 +1,10 @@
+-- Nothing here is for a reader to believe: Order, Chain, Insert and Offer say what the code does; the files named Laws say what follows.
+pub mod Chain
+pub mod Insert
+pub mod Offer
+pub mod ChainLaws
+pub mod InsertLaws
+pub mod StoreLaws
+pub mod AdviceLaws
+pub mod OfferLaws
+pub mod WriteLaws

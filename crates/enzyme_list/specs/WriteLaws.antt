@@ -1,0 +1,97 @@
+-- Laws of a range that is known to be new: it is written and not linked in. Assumes nothing.
+use Prim.Native.Nat.{ℕ, suc, _+_, _-_, _*_, _/_, _≤_, _<_}
+use mathlib.Core.Path.{_≡_, refl, sym, ap, _∙_}
+use mathlib.Core.Bool.{true, false}
+use mathlib.Core.Logic.{inl, inr}
+use mathlib.Core.List.{List, [], _∷_, _++_}
+use native.Mathlib.Omega.{arith}
+use native.Mathlib.Numerals.{add-one}
+use native.Mathlib.Nat.{min-le-left, min-le-right}
+use lib.ListN.{length, length-append}
+use lib.Seq.{sets, length-sets}
+use lib.Dec.{ltb}
+use borrow.Author.Tests.{lt-ltb, le-ltb}
+use Rattle.cutting_parts.specs.Cutting.{Range, same, part, seenIn, within, wanted}
+use Rattle.cutting_parts.specs.InsideLaws.{inside-append}
+use Rattle.offering_parts.specs.declared.offering.Step.the-variants.{Kept}
+use Rattle.offering_parts.specs.declared.offering.Terms.{Terms}
+use Rattle.offering_parts.specs.Digests.{recordOf}
+use Rattle.offering_parts.specs.Buffer.{rangesIn, linksIn, sealed}
+use Rattle.offering_parts.specs.BufferLaws.{length-ranges, length-links, ranges-more, links-more, sealed-more}
+use Rattle.offering_parts.specs.Steps.{room, after, offers}
+use Rattle.enzyme_list.specs.declared.offering.Offered.the-variants.{Left, NoRoom}
+use Rattle.enzyme_list.specs.Chain.{Listed}
+use Rattle.enzyme_list.specs.ChainLaws.{linked-one}
+use Rattle.enzyme_list.specs.InsertLaws.{Among, linked-among, linked-grown, rises-grown}
+use Rattle.enzyme_list.specs.AdviceLaws.{tells-put}
+use Rattle.enzyme_list.specs.Offer.{Keeps, Knows, Has, run, Wrote}
+use Rattle.enzyme_list.specs.OfferLaws.{one}
+
+listed-grown : (s : List ℕ) (ks : List Range) (ls : List ℕ) (head : ℕ) (r : Range) (x : ℕ) (c : List ℕ) → length ks ≡ length ls → Listed s ks ls head c → Listed s (ks ++ (r ∷ [])) (ls ++ (x ∷ [])) head c
+listed-grown s ks ls head r x c n l =
+    let a : Among (length ks) c = rw n (linked-among ls head c (l .linked)) in
+    let k = length-append ls (x ∷ []) in
+    let f = l .few in
+    record { linked = linked-grown ls x head c (l .linked); rises = rises-grown s ks r c a (l .rises); few = omega arith }
+
+module _ (s : List ℕ) (t : Terms) (r : Range) (count head : ℕ) (out : List ℕ) (keeps : Keeps s count head out) where
+  -- the length does not fit
+  pub wrote-other : within (t .minimum) (t .maximum) (r .to - r .from) ≡ false → Wrote s t r count head out (Left (run count head)) out
+  wrote-other w =
+      let e : wanted s (t .minimum) (t .maximum) (rangesIn count out) r ≡ false = rw w in
+      record { view = one s t r count head out keeps false (ltb count (room out)) e refl; next = keeps; knows = λ new x k. k; has = λ u h. h; grown = inl refl }
+
+  module _ (fits : within (t .minimum) (t .maximum) (r .to - r .from) ≡ true) (fresh : seenIn s (rangesIn count out) (part s r) ≡ false) where
+    want : wanted s (t .minimum) (t .maximum) (rangesIn count out) r ≡ true
+    want = rw (fits, fresh)
+
+    pub wrote-full : room out ≤ count → Wrote s t r count head out NoRoom out
+    wrote-full h =
+        let f : room out ≡ count = omega (arith, keeps .fits, keeps .capped) in
+        record { view = rw f (one s t r count head out keeps true false want (le-ltb count (room out) h)); next = tt; knows = λ new x k. tt; has = λ u h. tt; grown = tt }
+
+    module _ (free : count < room out) (i : r .from ≤ r .to) (j : r .to ≤ length s) where
+      enough : 16 * count + 16 ≤ length out
+      enough = let m = min-le-left (length out / 16) 1048576 in omega arith
+
+      ranges : rangesIn (suc count) (sets out (16 * count) (recordOf (length s) 0 r)) ≡ rangesIn count out ++ (r ∷ [])
+      ranges = ranges-more (length s) 0 r count out enough (keeps .small) i j
+
+      links : linksIn (suc count) (sets out (16 * count) (recordOf (length s) 0 r)) ≡ linksIn count out ++ (0 ∷ [])
+      links = links-more (length s) 0 r count out enough (omega arith)
+
+      alike : length (rangesIn count out) ≡ length (linksIn count out)
+      alike = length-ranges count out ∙ sym (length-links count out)
+
+      now-listed : Listed s (rangesIn (suc count) (sets out (16 * count) (recordOf (length s) 0 r))) (linksIn (suc count) (sets out (16 * count) (recordOf (length s) 0 r))) head (keeps .c)
+      now-listed = rw (ranges, links) (listed-grown s (rangesIn count out) (linksIn count out) head r 0 (keeps .c) alike (keeps .listed))
+
+      now-keeps : Keeps s (suc count) head (sets out (16 * count) (recordOf (length s) 0 r))
+      now-keeps =
+          let u = min-le-right (length out / 16) 1048576 in
+          let m = enough in
+          let l = length-sets out (16 * count) (recordOf (length s) 0 r) in
+          record {
+            small = keeps .small;
+            capped = omega arith;
+            fits = omega arith;
+            inside = rw ranges (inside-append (length s) (rangesIn count out) (r ∷ []) (keeps .inside) (i, j, tt));
+            c = keeps .c;
+            listed = now-listed;
+          }
+
+      now-knows : (x : List ℕ) → same (part s r) x ≡ false → Knows s count head out x → Knows s (suc count) head (sets out (16 * count) (recordOf (length s) 0 r)) x
+      now-knows x d k c l =
+          let e : c ≡ keeps .c = linked-one (linksIn (suc count) (sets out (16 * count) (recordOf (length s) 0 r))) head c (keeps .c) (l .linked) (now-listed .linked) in
+          let t' = tells-put s (rangesIn count out) (linksIn count out) head r (keeps .c) x alike (keeps .listed) d (k (keeps .c) (keeps .listed)) in
+          rw (e, ranges) t'
+
+      now-has : (u : ℕ) → Has count head out u → Has (suc count) head (sets out (16 * count) (recordOf (length s) 0 r)) u
+      now-has u h = record { xs = h .xs; ys = h .ys; linked = rw links (linked-grown (linksIn count out) 0 head (h .xs ++ (u ∷ h .ys)) (h .linked)) }
+
+      pub wrote-kept : Wrote s t r count head out (Left (run (count + 1) head)) (sets out (16 * count) (recordOf (length s) 0 r))
+      wrote-kept =
+          let v : after (Kept (count + 1)) (sealed (t .protein) (count + 1) (sets out (16 * count) (recordOf (length s) 0 r))) ≡ offers s t (r ∷ []) count (sealed (t .protein) count out) =
+          ap (after (Kept (count + 1))) (sealed-more (length s) (t .protein) 0 r count out)
+          ∙ one s t r count head out keeps true true want (lt-ltb count (room out) free) in
+          record { view = v; next = rw (add-one count) now-keeps; knows = λ x d k. rw (add-one count) (now-knows x d k); has = λ u h. rw (add-one count) (now-has u h); grown = inr (rw (add-one count) ranges) }

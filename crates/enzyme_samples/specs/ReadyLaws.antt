@@ -1,0 +1,142 @@
+-- Laws of ranges that are each offered once. Assumes nothing.
+use Prim.Native.Nat.{ℕ, _+_, _-_, _≤_, _<_}
+use mathlib.Core.Path.{_≡_, refl, sym, _∙_}
+use mathlib.Core.Bool.{true, false}
+use mathlib.Core.Logic.{_⊎_, inl, inr, ⊎-elim}
+use mathlib.Core.List.{List, [], _∷_, _++_, append-assoc}
+use native.Mathlib.Omega.{arith}
+use lib.ListN.{length, drop, getD, length-take, length-drop}
+use Rattle.records.specs.Tests.{same?, truth?}
+use Rattle.cutting_parts.specs.Cutting.{Range, site, same, part, seenIn}
+use Rattle.cutting_parts.specs.SameLaws.{same-self, same-eq, same-short}
+use Rattle.cutting_parts.specs.Work.{Inside}
+use Rattle.offering_parts.specs.declared.offering.Step.{Step}
+use Rattle.offering_parts.specs.declared.offering.Step.the-variants.{Kept, Full}
+use Rattle.offering_parts.specs.declared.offering.Terms.{Terms}
+use Rattle.offering_parts.specs.Buffer.{rangesIn, sealed}
+use Rattle.offering_parts.specs.Steps.{room, After, after, offered, andThen, offers, View}
+use Rattle.offering_parts.specs.StepLaws.{view-then, view-full}
+use Rattle.enzyme_once.specs.ThinLaws.{Hit, hit-left, hit-right, hit-either}
+use Rattle.enzyme_once.specs.DistinctLaws.{Distinct}
+use Rattle.enzyme_list.specs.OfferLaws.{keeps-start, knows-start}
+use Rattle.enzyme_samples.specs.declared.offering.Run.{Run}
+use Rattle.enzyme_samples.specs.declared.offering.Offered.{Offered}
+use Rattle.enzyme_samples.specs.declared.offering.Offered.the-variants.{Left, NoRoom}
+use Rattle.enzyme_samples.specs.Ready.{started, Ready, stepOf, Offers}
+use Rattle.enzyme_words.specs.Words.{Far}
+
+-- ---- ranges that stand once
+
+distinct-left : (xs ys : List Range) → Distinct (xs ++ ys) → Distinct xs
+distinct-left [] ys d = tt
+distinct-left (x ∷ xs) ys d = (λ h. d .0 (hit-left (x .from) (x .to) xs ys h), distinct-left xs ys (d .1))
+
+-- one of them left out
+pub distinct-less : (xs : List Range) (r : Range) (ys : List Range) → Distinct (xs ++ (r ∷ ys)) → Distinct (xs ++ ys)
+distinct-less [] r ys d = d .1
+distinct-less (x ∷ xs) r ys d = (λ h. d .0 (more (hit-either (x .from) (x .to) xs ys h)), distinct-less xs r ys (d .1))
+  where
+    more : Hit (x .from) (x .to) xs ⊎ Hit (x .from) (x .to) ys → Hit (x .from) (x .to) (xs ++ (r ∷ ys))
+    more (inl h) = hit-left (x .from) (x .to) xs (r ∷ ys) h
+    more (inr h) = hit-right (x .from) (x .to) xs (r ∷ ys) (inr h)
+
+inside-left : (n : ℕ) (xs ys : List Range) → Inside n (xs ++ ys) → Inside n xs
+inside-left n [] ys i = tt
+inside-left n (x ∷ xs) ys i = (i .0, i .1, inside-left n xs ys (i .2))
+
+inside-right : (n : ℕ) (xs ys : List Range) → Inside n (xs ++ ys) → Inside n ys
+inside-right n [] ys i = i
+inside-right n (x ∷ xs) ys i = inside-right n xs ys (i .2)
+
+-- ---- letters that stand at one place
+
+part-length : (s : List ℕ) (r : Range) → r .from ≤ r .to → r .to ≤ length s → length (part s r) ≡ r .to - r .from
+part-length s r i j = length-take (r .to - r .from) (drop (r .from) s) ∙ rw (length-drop (r .from) s) (omega arith)
+
+-- a range longer than what f has for its start has other letters than any other range
+pub far-new : (s f : List ℕ) (r k : Range) → Far s f → r .from ≤ r .to → r .to ≤ length s → k .from ≤ k .to → k .to ≤ length s → getD f (r .from) 0 < r .to - r .from
+    → ((k .from ≡ r .from) × (k .to ≡ r .to) → ⊥) → same (part s r) (part s k) ≡ false
+far-new s f r k far i j p q long other = go (same? (r .to - r .from) (k .to - k .from))
+  where
+    go : (r .to - r .from ≡ k .to - k .from) ⊎ (r .to - r .from ≡ k .to - k .from → ⊥) → same (part s r) (part s k) ≡ false
+    go (inr n) = same-short (part s r) (part s k) (λ e. let x = part-length s r i j in let y = part-length s k p q in n (omega arith))
+    go (inl e) =
+        let len : ℕ = r .to - r .from in
+        let g : r .from ≡ k .from → ⊥ = λ h. other (sym h, omega arith) in
+        let u : r .from + len ≡ r .to = omega arith in
+        let v : k .from + len ≡ k .to = omega arith in
+        let x = far (r .from) (k .from) len (omega arith) (omega arith) g long in
+        rw (u, v) at x
+
+same-back : (a b : List ℕ) → same a b ≡ false → same b a ≡ false
+same-back a b h = ⊎-elim (λ (e : same b a ≡ true). absurd (no e)) (λ (e : same b a ≡ false). e) (truth? (same b a))
+  where
+    no : same b a ≡ true → ⊥
+    no e =
+        let g : b ≡ a = same-eq b a e in
+        let k : same a b ≡ true = rw g (same-self a) in
+        let z : true ≡ false = sym k ∙ h in
+        let y : _≡_ {A = ℕ} 0 1 = cc in
+        omega arith
+
+pub far-unseen : (s f : List ℕ) (ks : List Range) (r : Range) (rest : List Range) → Far s f → Inside (length s) ks → r .from ≤ r .to → r .to ≤ length s → getD f (r .from) 0 < r .to - r .from
+    → Distinct (ks ++ (r ∷ rest)) → seenIn s ks (part s r) ≡ false
+far-unseen s f [] r rest far ins i j long d = refl
+far-unseen s f (k ∷ ks) r rest far ins i j long d =
+    let x : same (part s r) (part s k) ≡ false =
+    far-new s f r k far i j (ins .0) (ins .1) long (λ h. d .0 (hit-right (k .from) (k .to) ks (r ∷ rest) (inl (sym (h .0), sym (h .1))))) in
+    rw (same-back (part s r) (part s k) x) (far-unseen s f ks r rest far (ins .2) i j long (d .1))
+
+-- ---- lists of ranges, one after the other
+
+-- no record yet
+pub ready-start : (s f : List ℕ) (rs : List Range) (out marks : List ℕ) → length s ≤ 65536 → Far s f → Inside (length s) rs → Distinct rs → Ready s f rs started out marks
+ready-start s f rs out marks h far i d = record {
+  keeps = keeps-start s out h;
+  far = far;
+  knows = λ a e p q l. knows-start s out (part s (site a e));
+  marked = record { room = omega arith; listed = λ i l. absurd (omega arith) };
+  inside = i;
+  once = d;
+}
+
+-- the first of them may be offered
+pub ready-first : {s f : List ℕ} {run : Run} {out marks : List ℕ} (xs ys : List Range) → Ready s f (xs ++ ys) run out marks → Ready s f xs run out marks
+ready-first {s} {f} {run} {out} {marks} xs ys h = record {
+  keeps = h .keeps;
+  far = h .far;
+  knows = h .knows;
+  marked = h .marked;
+  inside = inside-left (length s) xs ys (h .inside);
+  once = distinct-left (rangesIn (run .count) out ++ xs) ys (rw (append-assoc (rangesIn (run .count) out) xs ys) (h .once));
+}
+
+module _ {s f : List ℕ} {t : Terms} {run : Run} {out marks : List ℕ} where
+  pub offers-none : Offers s f t [] run out marks (Left run) out marks
+  offers-none = record { view = refl; next = λ rest h. h }
+
+  pub offers-then : {xs ys : List Range} {at : Run} {o m : List ℕ} {a : Offered} {o′ m′ : List ℕ} → Offers s f t xs run out marks (Left at) o m → Offers s f t ys at o m a o′ m′
+      → Offers s f t (xs ++ ys) run out marks a o′ m′
+  offers-then {xs} {ys} {at} {o} {m} {a} {o′} {m′} x y = record {
+    view = view-then s t xs ys (run .count) out (at .count) o (stepOf a) o′ (x .view) (y .view);
+    next = λ rest h. y .next rest (x .next (ys ++ rest) (rw (append-assoc xs ys rest) at h));
+  }
+
+  pub offers-full : {xs : List Range} {o m : List ℕ} (ys : List Range) → Offers s f t xs run out marks NoRoom o m → Offers s f t (xs ++ ys) run out marks NoRoom o m
+  offers-full {xs} {o} {m} ys x = record { view = view-full s t xs ys (run .count) out o (x .view); next = λ rest h. tt }
+
+-- ---- what is ahead of a loop: offering the rest gives the claim
+
+abbrev pub Ahead : List ℕ → List ℕ → Terms → (Offered → List ℕ → List ℕ → Type 0) → List Range → Run → List ℕ → List ℕ → Type 0
+Ahead s f t claim rest run out marks = (a : Offered) (o m : List ℕ) → Offers s f t rest run out marks a o m → claim a o m
+
+module _ {s f : List ℕ} {t : Terms} {claim : Offered → List ℕ → List ℕ → Type 0} {run : Run} {out marks : List ℕ} where
+  pub ahead-end : Ahead s f t claim [] run out marks → claim (Left run) out marks
+  ahead-end g = g (Left run) out marks offers-none
+
+  module _ (xs ys : List Range) (g : Ahead s f t claim (xs ++ ys) run out marks) {o m : List ℕ} where
+    pub ahead-on : {at : Run} → Offers s f t xs run out marks (Left at) o m → Ahead s f t claim ys at o m
+    ahead-on x a o′ m′ y = g a o′ m′ (offers-then x y)
+
+    pub ahead-full : Offers s f t xs run out marks NoRoom o m → claim NoRoom o m
+    ahead-full x = g NoRoom o m (offers-full ys x)

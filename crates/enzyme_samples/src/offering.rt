@@ -1,0 +1,143 @@
+// Ranges offered to the list of records.
+use crate::noting::note;
+use offering_parts::Terms;
+ghost use mathlib.Core.Path.{_≡_};
+ghost use mathlib.Core.List.{[], _∷_};
+ghost use Prim.Native.Nat.{_-_, _≤_, _<_};
+ghost use lib.ListN.{getD};
+ghost use Rattle.cutting_parts.specs.Cutting.{range};
+ghost use Rattle.enzyme_samples.specs.Ready.{started, Ready, Offers};
+
+// How many records there are, the first of the list, and how many samples of it there are: the first of them is the
+// list's first, and from each to the next there are fewer than `limit` records.
+pub struct Run {
+    pub count: usize,
+    pub head: usize,
+    pub samples: usize,
+    pub limit: usize,
+}
+
+// What came of a range that was offered: where the records are now, or there was no room for it.
+pub enum Offered {
+    Left(Run),
+    NoRoom,
+}
+
+// No record yet.
+pub fn start_run() -> Run
+    ensures { λ r. ⌜ r ≡ started ⌝ }
+{
+    Run {
+        count: 0,
+        head: 0,
+        samples: 0,
+        limit: 8,
+    }
+}
+
+// The number at a place, 0 behind the end.
+fn far_at(far: &[u32], at: usize) -> usize
+    ensures { λ r. ⌜ r ≡ getD (now (far .entry)) at 0 ⌝ }
+{
+    if at < far.len() { far[at] as usize } else { 0 }
+}
+
+// A range that is longer than what its start shares with any other is new: it is neither sought nor linked in.
+fn write_range(
+    letters: &[u8],
+    far: &[u32],
+    a: usize,
+    e: usize,
+    missed: u8,
+    semi: u8,
+    terms: Terms,
+    out: &mut [u8],
+    marks: &[u32],
+    run: Run,
+) -> Offered
+    requires { ⌜ Ready (now letters) (now far) (range a e missed semi ∷ []) run (now out) (now marks) × (getD (now far) a 0 < e - a) ⌝ }
+    ensures { λ r. ⌜ Offers (now (letters .entry)) (now (far .entry)) terms (range a e missed semi ∷ []) run (now (out .entry)) (now (marks .entry)) r (now (out .exit)) (now (marks .entry)) ⌝ }
+{
+    let got = enzyme_list::write(letters, a, e, missed, semi, terms, out, run.count, run.head);
+    let enzyme_list::Offered::Left(at) = got else {
+        return Offered::NoRoom;
+    };
+    Offered::Left(Run {
+        count: at.count,
+        head: at.head,
+        samples: run.samples,
+        limit: run.limit,
+    })
+}
+
+// Any other is sought, and linked in where it is new: from the last sample below it on.
+fn seek_range(
+    letters: &[u8],
+    far: &[u32],
+    a: usize,
+    e: usize,
+    missed: u8,
+    semi: u8,
+    terms: Terms,
+    out: &mut [u8],
+    marks: &mut [u32],
+    run: Run,
+) -> Offered
+    requires { ⌜ Ready (now letters) (now far) (range a e missed semi ∷ []) run (now out) (now marks) × (e - a ≤ getD (now far) a 0) ⌝ }
+    ensures { λ r. ⌜ Offers (now (letters .entry)) (now (far .entry)) terms (range a e missed semi ∷ []) run (now (out .entry)) (now (marks .entry)) r (now (out .exit)) (now (marks .exit)) ⌝ }
+{
+    let head = enzyme_marks::head_of(&letters[a..e]);
+    let k = enzyme_marks::last_below(letters, out, run.count, marks, run.samples, a, e, head);
+    let from = enzyme_marks::sample(marks, k);
+    let got = enzyme_list::offer(
+        letters,
+        a,
+        e,
+        missed,
+        semi,
+        terms,
+        out,
+        run.count,
+        run.head,
+        from,
+    );
+    let enzyme_list::Offered::Left(at) = got else {
+        return Offered::NoRoom;
+    };
+    let next = Run {
+        count: at.count,
+        head: at.head,
+        samples: run.samples,
+        limit: run.limit,
+    };
+    if at.count == run.count {
+        return Offered::Left(next);
+    }
+    Offered::Left(note(letters, out, marks, next, k, head))
+}
+
+// Writes the record of a..e, where it is wanted, no record has its letters, and there is room. `far` has for each start the
+// most letters that any other start may share with it.
+pub fn offer_range(
+    letters: &[u8],
+    far: &[u32],
+    a: usize,
+    e: usize,
+    missed: u8,
+    semi: u8,
+    terms: Terms,
+    out: &mut [u8],
+    marks: &mut [u32],
+    run: Run,
+) -> Offered
+    requires { ⌜ Ready (now letters) (now far) (range a e missed semi ∷ []) run (now out) (now marks) ⌝ }
+    ensures { λ r. ⌜ Offers (now (letters .entry)) (now (far .entry)) terms (range a e missed semi ∷ []) run (now (out .entry)) (now (marks .entry)) r (now (out .exit)) (now (marks .exit)) ⌝ }
+{
+    if offering_parts::length_within(e - a, terms.minimum, terms.maximum) {
+        if far_at(far, a) < e - a {
+            return write_range(letters, far, a, e, missed, semi, terms, out, marks, run);
+        }
+        return seek_range(letters, far, a, e, missed, semi, terms, out, marks, run);
+    }
+    Offered::Left(run)
+}

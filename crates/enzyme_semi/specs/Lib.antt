@@ -1,0 +1,8 @@
+-- Nothing here has to be believed: Walk says what a table of starts stands for, Going where a loop stands; the files named Laws say
+-- what follows.
+pub mod Walk
+pub mod WalkLaws
+pub mod SpotLaws
+pub mod SemiLaws
+pub mod Going
+pub mod GoingLaws

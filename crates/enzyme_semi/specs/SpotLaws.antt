@@ -1,0 +1,47 @@
+-- The list of semi ranges, by the table of starts. Assumes nothing.
+use Prim.Native.Nat.{ℕ, suc, _+_, _≤_}
+use mathlib.Core.Path.{_≡_, refl, ap, _∙_}
+use mathlib.Core.Bool.{true}
+use mathlib.Core.List.{List, [], _∷_, _++_, append-nil}
+use native.Mathlib.Omega.{arith}
+use lib.ListN.{length, take, getD, length-append}
+use Rattle.cutting_parts.specs.declared.enzyme.Knife.{Knife}
+use Rattle.cutting_parts.specs.Cutting.{Range, site, setSites, windowsFrom}
+use Rattle.enzyme_windows.specs.Pieces.{pieces, joined, placed}
+use Rattle.enzyme_windows.specs.SiteLaws.{nonEmpty, sites-pieces}
+use Rattle.enzyme_windows.specs.StartLaws.{startOf}
+use Rattle.enzyme_once.specs.Once.{filled, ownsFrom, onceOf, once}
+use Rattle.enzyme_once.specs.SpotLaws.{spots}
+use Rattle.enzyme_sites.specs.Starts.{Starts}
+use Rattle.enzyme_semi.specs.Walk.{placeIn, sitesIn}
+
+filled-same : (rs : List Range) → filled rs ≡ nonEmpty rs
+filled-same [] = refl
+filled-same (r ∷ rs) = rw (filled-same rs)
+
+placed-spots : (f : ℕ → ℕ) (i a : ℕ) (ts : List (List ℕ)) → ((j : ℕ) → j ≤ length ts → f (i + j) ≡ a + startOf ts j) → placed a ts ≡ spots f i (length ts)
+placed-spots f i a [] h = refl
+placed-spots f i a (t ∷ ts) h =
+    let p : i + 0 ≡ i = omega arith in
+    let q : i + 1 ≡ suc i = omega arith in
+    let u : a + 0 ≡ a = omega arith in
+    let x : f i ≡ a = rw (p, u) at (h 0 (omega arith)) in
+    let y : f (suc i) ≡ a + length t = rw (q, append-nil t) at (h 1 (omega arith)) in
+    rw (x, y) (ap (λ (rs : List Range). site a (a + length t) ∷ rs) (placed-spots f (suc i) (a + length t) ts (λ j l.
+    let e : suc i + j ≡ i + suc j = omega arith in
+    let z = length-append t (joined (take j ts)) in
+    ap f e ∙ h (suc j) (omega arith) ∙ omega arith)))
+
+pub filled-spots : (k : Knife) (s x : List ℕ) (m : ℕ) → Starts k s x m → filled (setSites k 0 0 s) ≡ sitesIn x m
+filled-spots k s x m g =
+    let h : (j : ℕ) → j ≤ length (pieces k s) → placeIn x (0 + j) ≡ 0 + startOf (pieces k s) j = λ j l.
+    let e : 0 + j ≡ j = omega arith in
+    let n = g .count in
+    let d : getD x j 0 ≡ startOf (pieces k s) j = g .at j (omega arith) in
+    ap (placeIn x) e ∙ omega arith in
+    filled-same (setSites k 0 0 s) ∙ sites-pieces k s ∙ placed-spots (placeIn x) 0 0 (pieces k s) h ∙ rw (g .count)
+
+-- all windows, and behind them the parts of each
+pub once-spots : (k : Knife) (missed : ℕ) (s x : List ℕ) (m : ℕ) → Starts k s x m
+    → once k true missed s ≡ windowsFrom 0 (suc missed) (sitesIn x m) ++ ownsFrom 0 (suc missed) (sitesIn x m)
+once-spots k missed s x m g = ap (onceOf true missed) (filled-spots k s x m g)

@@ -1,0 +1,104 @@
+// The parts of windows of neighbouring sites, by the table of their starts.
+use crate::parts::offer_own;
+use crate::windows::place;
+use enzyme_samples::Offered;
+use enzyme_samples::Run;
+use offering_parts::Terms;
+ghost use Prim.Native.Nat.{suc, _+_, _<_, _≤_};
+ghost use lib.ListN.{length};
+ghost use Rattle.cutting_parts.specs.Cutting.{site};
+ghost use Rattle.enzyme_once.specs.Once.{own, owns, ownsFrom};
+ghost use Rattle.enzyme_samples.specs.Ready.{Ready, Offers};
+ghost use Rattle.enzyme_semi.specs.Walk.{placeIn, sitesIn};
+
+// Offers the parts of the window of the sites i to j.
+fn offer_parts(
+    letters: &[u8],
+    far: &[u32],
+    starts: &[u32],
+    i: usize,
+    j: usize,
+    missed: u8,
+    terms: Terms,
+    out: &mut [u8],
+    marks: &mut [u32],
+    run: Run,
+) -> Offered
+    requires { ⌜ (i ≤ j) × (j + 1 < length (now starts)) × Ready (now letters) (now far) (own missed (site (placeIn (now starts) i) (placeIn (now starts) (i + 1))) (site (placeIn (now starts) j) (placeIn (now starts) (j + 1)))) run (now out) (now marks) ⌝ }
+    ensures { λ r. ⌜ Offers (now (letters .entry)) (now (far .entry)) terms (own missed (site (placeIn (now (starts .entry)) i) (placeIn (now (starts .entry)) (i + 1))) (site (placeIn (now (starts .entry)) j) (placeIn (now (starts .entry)) (j + 1)))) run (now (out .entry)) (now (marks .entry)) r (now (out .exit)) (now (marks .exit)) ⌝ }
+{
+    let a = place(starts, i);
+    let z = place(starts, i + 1);
+    let b = place(starts, j);
+    let e = place(starts, j + 1);
+    offer_own(letters, far, a, z, b, e, missed, terms, out, marks, run)
+}
+
+// Offers the parts of the windows of missed + 1 sites.
+fn offer_owns(
+    letters: &[u8],
+    far: &[u32],
+    starts: &[u32],
+    m: usize,
+    missed: u8,
+    terms: Terms,
+    out: &mut [u8],
+    marks: &mut [u32],
+    run: Run,
+) -> Offered
+    requires { ⌜ (m < length (now starts)) × Ready (now letters) (now far) (owns missed (sitesIn (now starts) m)) run (now out) (now marks) ⌝ }
+    ensures { λ r. ⌜ Offers (now (letters .entry)) (now (far .entry)) terms (owns missed (sitesIn (now (starts .entry)) m)) run (now (out .entry)) (now (marks .entry)) r (now (out .exit)) (now (marks .exit)) ⌝ }
+{
+    let mut i = 0;
+    let mut j = missed as usize;
+    let mut at = run;
+    while j < m {
+        let Offered::Left(x) = offer_parts(
+            letters,
+            far,
+            starts,
+            i,
+            j,
+            missed,
+            terms,
+            out,
+            marks,
+            at,
+        ) else {
+            return Offered::NoRoom;
+        };
+        at = x;
+        i += 1;
+        j += 1;
+    }
+    Offered::Left(at)
+}
+
+// Offers the parts of the windows of 1 to missed + 1 sites.
+pub(crate) fn offer_all_owns(
+    letters: &[u8],
+    far: &[u32],
+    starts: &[u32],
+    m: usize,
+    missed: u8,
+    terms: Terms,
+    out: &mut [u8],
+    marks: &mut [u32],
+    run: Run,
+) -> Offered
+    requires { ⌜ (m < length (now starts)) × (missed < 255) × Ready (now letters) (now far) (ownsFrom 0 (suc missed) (sitesIn (now starts) m)) run (now out) (now marks) ⌝ }
+    ensures { λ r. ⌜ Offers (now (letters .entry)) (now (far .entry)) terms (ownsFrom 0 (suc missed) (sitesIn (now (starts .entry)) m)) run (now (out .entry)) (now (marks .entry)) r (now (out .exit)) (now (marks .exit)) ⌝ }
+{
+    let mut k: u8 = 0;
+    let mut left = missed + 1;
+    let mut at = run;
+    while 0 < left {
+        let Offered::Left(x) = offer_owns(letters, far, starts, m, k, terms, out, marks, at) else {
+            return Offered::NoRoom;
+        };
+        at = x;
+        k += 1;
+        left -= 1;
+    }
+    Offered::Left(at)
+}

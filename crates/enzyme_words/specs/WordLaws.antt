@@ -1,0 +1,186 @@
+-- A word that was counted once stands once, so no stretch over it stands at another start. Assumes nothing.
+use Prim.Native.Nat.{ℕ, suc, _+_, _-_, _*_, _%_, _≤_, _<_}
+use mathlib.Core.Path.{_≡_, refl, sym, ap, _∙_}
+use mathlib.Core.Bool.{Bool, true, false, cond}
+use mathlib.Core.Logic.{_⊎_, inl, inr, ⊎-elim}
+use mathlib.Core.List.{List}
+use native.Mathlib.Omega.{arith}
+use lib.ListN.{length, drop, getD, set}
+use lib.Seq.{getD-set-same, getD-set-other, getD-take, getD-drop}
+use lib.Dec.{eqb}
+use borrow.Author.Tests.{eqb-true, eqb-false, eq-eqb, ne-eqb}
+use Rattle.records.specs.Tests.{below?, same?}
+use Rattle.cutting_parts.specs.Cutting.{site, same, part}
+use Rattle.cutting_parts.specs.SameLaws.{same-eq}
+use Rattle.enzyme_words.specs.Words.{digitOf, threeOf, codeAt, wordsOf, Zeros, Coded, Twice, Tallied, Picked, Unlike, Far, Reach, Swept}
+
+-- ---- the number of a word
+
+pub three-small : (x y z : ℕ) → threeOf x y z < 17576
+unfolding threeOf
+three-small x y z = omega arith
+
+pub code-small : (s : List ℕ) (i q : ℕ) → codeAt s i q < wordsOf q
+unfolding codeAt
+code-small s i q = go (eqb q 3) (three-small (getD s i 0) (getD s (i + 1) 0) (getD s (i + 2) 0))
+  where
+    go : (b : Bool) → threeOf (getD s i 0) (getD s (i + 1) 0) (getD s (i + 2) 0) < 17576
+        → cond b (threeOf (getD s i 0) (getD s (i + 1) 0) (getD s (i + 2) 0)) ((26 * threeOf (getD s i 0) (getD s (i + 1) 0) (getD s (i + 2) 0) + digitOf (getD s (i + 3) 0)) % 131072) < cond b 17576 131072
+    go true h = h
+    go false h = omega arith
+
+-- the two ways to it
+module _ (s : List ℕ) (i q x : ℕ) (e : x ≡ threeOf (getD s i 0) (getD s (i + 1) 0) (getD s (i + 2) 0)) where
+  pub code-three : q ≡ 3 → (x ≡ codeAt s i q) × (x < wordsOf q)
+  unfolding codeAt
+  code-three f = let l = three-small (getD s i 0) (getD s (i + 1) 0) (getD s (i + 2) 0) in rw (eq-eqb q 3 f) (e, omega arith)
+
+  pub code-four : (q ≡ 3 → ⊥) → (y : ℕ) → y ≡ digitOf (getD s (i + 3) 0) → ((26 * x + y) % 131072 ≡ codeAt s i q) × ((26 * x + y) % 131072 < wordsOf q)
+  unfolding codeAt
+  code-four f y g = let l = three-small (getD s i 0) (getD s (i + 1) 0) (getD s (i + 2) 0) in rw (ne-eqb q 3 f) (rw (e, g), omega arith)
+
+-- equal words have equal numbers
+pub code-same : (s : List ℕ) (i j q : ℕ) → 3 ≤ q → q ≤ 4 → ((k : ℕ) → k < q → getD s (i + k) 0 ≡ getD s (j + k) 0) → codeAt s i q ≡ codeAt s j q
+unfolding codeAt
+code-same s i j q low high h =
+    let zi : i + 0 ≡ i = omega arith in
+    let zj : j + 0 ≡ j = omega arith in
+    let x : getD s i 0 ≡ getD s j 0 = rw (zi, zj) at (h 0 (omega arith)) in
+    rw (x, h 1 (omega arith), h 2 (omega arith)) (go (eqb q 3) refl)
+  where
+    go : (b : Bool) → eqb q 3 ≡ b
+        → cond b (threeOf (getD s j 0) (getD s (j + 1) 0) (getD s (j + 2) 0)) ((26 * threeOf (getD s j 0) (getD s (j + 1) 0) (getD s (j + 2) 0) + digitOf (getD s (i + 3) 0)) % 131072)
+        ≡ cond b (threeOf (getD s j 0) (getD s (j + 1) 0) (getD s (j + 2) 0)) ((26 * threeOf (getD s j 0) (getD s (j + 1) 0) (getD s (j + 2) 0) + digitOf (getD s (j + 3) 0)) % 131072)
+    go true e = refl
+    go false e = rw (h 3 (four (eqb-false q 3 e)))
+      where
+        four : (q ≡ 3 → ⊥) → 3 < q
+        four ne = ⊎-elim (λ (l : 3 < q). l) (λ (l : q ≤ 3). absurd (ne (omega arith))) (below? 3 q)
+
+-- ---- counting
+
+pub tallied-none : (s : List ℕ) (q : ℕ) (far count : List ℕ) → Tallied s q 0 far count
+tallied-none s q far count = record { codes = λ j h l. absurd (omega arith); some = λ j h. absurd (omega arith); twice = λ j k h l e. absurd (omega arith) }
+
+-- one more word
+module _ (s : List ℕ) (q n : ℕ) (far count : List ℕ) (t : Tallied s q n far count) (c v : ℕ) (e : c ≡ codeAt s n q)
+    (f : v ≡ cond (eqb (getD count c 0) 0) 1 2) (wide : n < length far) (room : c < length count) where
+  value : (0 < v) × (0 < getD count c 0 → v ≡ 2)
+  value = go (eqb (getD count c 0) 0) refl f
+    where
+      go : (b : Bool) → eqb (getD count c 0) 0 ≡ b → v ≡ cond b 1 2 → (0 < v) × (0 < getD count c 0 → v ≡ 2)
+      go true g h = let z : getD count c 0 ≡ 0 = eqb-true _ _ g in (omega arith, λ l. absurd (omega arith))
+      go false g h = (omega arith, λ l. h)
+
+  here : (x : ℕ) → (x ≡ c) → getD (set count c v) x 0 ≡ v
+  here x g = rw g (getD-set-same count c v 0 room)
+
+  there : (x : ℕ) → (x ≡ c → ⊥) → getD (set count c v) x 0 ≡ getD count x 0
+  there x g = getD-set-other count c x v 0 g
+
+  -- a number that was counted stays so
+  stays : (x : ℕ) → 0 < getD count x 0 → 0 < getD (set count c v) x 0
+  stays x h = ⊎-elim (λ (g : x ≡ c). rw (here x g) (value .0)) (λ (g : x ≡ c → ⊥). rw (there x g) h) (same? x c)
+
+  -- one that was counted and is the word's, or was counted twice, is 2
+  two-here : (x : ℕ) → x ≡ c → 0 < getD count x 0 → getD (set count c v) x 0 ≡ 2
+  two-here x g h = here x g ∙ value .1 (rw g at h)
+
+  two-stays : (x : ℕ) → getD count x 0 ≡ 2 → getD (set count c v) x 0 ≡ 2
+  two-stays x h = ⊎-elim (λ (g : x ≡ c). two-here x g (omega arith)) (λ (g : x ≡ c → ⊥). there x g ∙ h) (same? x c)
+
+  pub tallied-one : Tallied s q (n + 1) (set far n c) (set count c v)
+  tallied-one = record {
+    codes = λ j h l. ⊎-elim (λ (g : j ≡ n). rw g (getD-set-same far n c 0 wide ∙ e)) (λ (g : j ≡ n → ⊥). getD-set-other far n j c 0 g ∙ t .codes j (before j h g) l) (same? j n);
+    some = λ j h. ⊎-elim (λ (g : j ≡ n). rw (here (codeAt s j q) (rw g (sym e))) (value .0)) (λ (g : j ≡ n → ⊥). stays (codeAt s j q) (t .some j (before j h g))) (same? j n);
+    twice = λ j k h l m. ⊎-elim (λ (g : k ≡ n). two-here (codeAt s j q) (m ∙ rw g (sym e)) (t .some j (omega arith))) (λ (g : k ≡ n → ⊥). two-stays (codeAt s j q) (t .twice j k h (before k l g) m)) (same? k n);
+  }
+    where
+      before : (j : ℕ) → j < n + 1 → (j ≡ n → ⊥) → j < n
+      before j h g = ⊎-elim (λ (l : j < n). l) (λ (l : n ≤ j). absurd (g (omega arith))) (below? j n)
+
+module _ (s : List ℕ) (q n : ℕ) (far count : List ℕ) (t : Tallied s q n far count) (all : length s < n + q) where
+  pub tallied-coded : Coded s q (length s) far
+  tallied-coded j h l = t .codes j (omega arith) l
+
+  pub tallied-twice : Twice s q count
+  tallied-twice j k h l e = t .twice j k h (omega arith) e
+
+-- ---- a word that stands once
+
+-- equal stretches are equal letter by letter
+letters-same : (s : List ℕ) (a b len k : ℕ) → part s (site a (a + len)) ≡ part s (site b (b + len)) → k < len → getD s (a + k) 0 ≡ getD s (b + k) 0
+letters-same s a b len k e h =
+    let x = ap (λ (l : List ℕ). getD l k 0) e in
+    let u : getD (part s (site a (a + len))) k 0 ≡ getD s (a + k) 0 = getD-take (a + len - a) (drop a s) k 0 (omega arith) ∙ getD-drop a s k 0 in
+    let w : getD (part s (site b (b + len))) k 0 ≡ getD s (b + k) 0 = getD-take (b + len - b) (drop b s) k 0 (omega arith) ∙ getD-drop b s k 0 in
+    sym u ∙ x ∙ w
+
+module _ (s : List ℕ) (q : ℕ) (low : 3 ≤ q) (high : q ≤ 4) (count : List ℕ) (two : Twice s q count) where
+  -- two places with the same number
+  never : (j k : ℕ) → j + q ≤ length s → k + q ≤ length s → (j ≡ k → ⊥) → codeAt s j q ≡ codeAt s k q → getD count (codeAt s j q) 0 ≡ 1 → ⊥
+  never j k h l ne e one = ⊎-elim
+      (λ (g : j < k). let x = two j k g l e in omega arith)
+      (λ (g : k ≤ j). let x = two k j (apart g (below? k j)) h (sym e) in let y : getD count (codeAt s j q) 0 ≡ 2 = rw e x in omega arith)
+      (below? j k)
+    where
+      apart : k ≤ j → (k < j) ⊎ (j ≤ k) → k < j
+      apart g (inl m) = m
+      apart g (inr m) = absurd (ne (omega arith))
+
+  pub reach-once : (i : ℕ) → i + q ≤ length s → getD count (codeAt s i q) 0 ≡ 1 → Reach s i (i + q)
+  reach-once i h one a b len before ends inside other ne = go (same (part s (site a (a + len))) (part s (site b (b + len)))) refl
+    where
+      d : ℕ
+      d = i - a
+
+      go : (t : Bool) → same (part s (site a (a + len))) (part s (site b (b + len))) ≡ t → t ≡ false
+      go false e = refl
+      go true e =
+          let p = same-eq (part s (site a (a + len))) (part s (site b (b + len))) e in
+          let word : (k : ℕ) → k < q → getD s (i + k) 0 ≡ getD s (b + (i - a) + k) 0 = λ k l.
+          let x : a + (i - a + k) ≡ i + k = omega arith in
+          let y : b + (i - a + k) ≡ b + (i - a) + k = omega arith in
+          rw (x, y) at (letters-same s a b len (i - a + k) p (omega arith)) in
+          absurd (never i (b + (i - a)) h (omega arith) (λ g. ne (omega arith)) (code-same s i (b + (i - a)) q low high word) one)
+
+-- ---- from the last start down
+
+pub swept-start : (s : List ℕ) (q : ℕ) (far : List ℕ) → Coded s q (length s) far → Swept s q (length s) far (length s + 1)
+swept-start s q far codes = record {
+  codes = codes;
+  above = omega arith;
+  low = omega arith;
+  reach = λ a b len before ends inside other ne. absurd (omega arith);
+  done = λ a b len h inside other ne long. absurd (omega arith);
+}
+
+module _ (s : List ℕ) (q : ℕ) (low : 3 ≤ q) (high : q ≤ 4) (count : List ℕ) (two : Twice s q count) (i j : ℕ) (far : List ℕ) (r : ℕ) (w : Swept s q i far r) (e : i ≡ j + 1)
+    (wide : j < length far) (x : ℕ) (p : Picked j q (length s) (getD far j 0) count r x) where
+  pub on-reach : (j < x) × (x ≤ length s + 1) × Reach s j x
+  on-reach = ⊎-elim
+      (λ (g : x ≡ r). (omega (arith, w .above), omega (arith, w .low), rw g (λ a b len before. w .reach a b len (omega arith))))
+      (λ (g : (x ≡ j + q) × (j + q ≤ length s) × (getD count (getD far j 0) 0 ≡ 1)).
+      (omega (arith, g .0), omega (arith, g .0, g .1), rw (g .0) (reach-once s q low high count two j (g .1) (rw (w .codes j (omega arith) (g .1)) at (g .2)))))
+      p
+
+  pub swept-on : Swept s q j (set far j (x - j - 1)) x
+  swept-on = record {
+    codes = λ k h l. getD-set-other far j k (x - j - 1) 0 (λ g. omega arith) ∙ w .codes k (omega arith) l;
+    above = on-reach .0;
+    low = on-reach .1;
+    reach = on-reach .2;
+    done = λ a b len h inside other ne long. ⊎-elim
+        (λ (g : a ≡ j). on-reach .2 a b len (omega arith) (reaches a len g long) inside other ne)
+        (λ (g : a ≡ j → ⊥). w .done a b len (behind a h g) inside other ne (rw (getD-set-other far j a (x - j - 1) 0 g) at long))
+        (same? a j);
+  }
+    where
+      reaches : (a len : ℕ) → a ≡ j → getD (set far j (x - j - 1)) a 0 < len → x ≤ a + len
+      reaches a len g long = let y : getD (set far j (x - j - 1)) a 0 ≡ x - j - 1 = rw g (getD-set-same far j (x - j - 1) 0 wide) in omega arith
+
+      behind : (a : ℕ) → j ≤ a → (a ≡ j → ⊥) → i ≤ a
+      behind a h g = ⊎-elim (λ (l : a < i). absurd (g (omega arith))) (λ (l : i ≤ a). l) (below? a i)
+
+pub swept-end : (s : List ℕ) (q i : ℕ) (far : List ℕ) (r : ℕ) → i ≤ 0 → Swept s q i far r → Far s far
+swept-end s q i far r h w a b len inside other ne long = w .done a b len (omega arith) inside other ne long
