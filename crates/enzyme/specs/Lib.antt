@@ -4,8 +4,6 @@ pub mod Digestion
 pub mod Reversal
 pub mod CheckLaws
 pub mod RunLaws
-pub mod Choice
-pub mod ChoiceLaws
 pub mod ReversalLaws
 pub mod SpellingLaws
 pub mod Cases

@@ -16,9 +16,8 @@ use Rattle.records.specs.Room.{written}
 use Rattle.records.specs.RoomLaws.{Sized, Standing, written-none, written-more, standing-length, standing-done, standing-full}
 use Rattle.cutting_parts.specs.declared.enzyme.Enzyme.{Enzyme}
 use Rattle.cutting_parts.specs.Cutting.{Range, keep, wanted, digests}
-use Rattle.cutting_parts.specs.Work.{Inside, work}
-use Rattle.cutting_parts.specs.KeepLaws.{work-keeps}
-use Rattle.cutting_parts.specs.InsideLaws.{inside-append, inside-work}
+use Rattle.cutting_parts.specs.Work.{Inside}
+use Rattle.cutting_parts.specs.InsideLaws.{inside-append}
 use Rattle.offering_parts.specs.declared.offering.Step.{Step}
 use Rattle.offering_parts.specs.declared.offering.Step.the-variants.{Kept, Full}
 use Rattle.offering_parts.specs.declared.offering.Terms.{Terms}
@@ -26,6 +25,8 @@ use Rattle.offering_parts.specs.Digests.{recordOf}
 use Rattle.offering_parts.specs.Buffer.{rangesIn}
 use Rattle.offering_parts.specs.BufferLaws.{length-record, ranges-more}
 use Rattle.offering_parts.specs.Steps.{room, After, after, decided, offered, andThen, offers}
+use Rattle.enzyme_ways.specs.Ways.{way}
+use Rattle.enzyme_ways.specs.WayLaws.{way-keeps, way-inside}
 use Rattle.records.specs.declared.refusal.Counted.{Counted}
 use Rattle.records.specs.declared.refusal.Counted.the-variants.{Count, Refused}
 use Rattle.enzyme.specs.Digestion.{listed, digestRecords}
@@ -166,9 +167,9 @@ module _ (run : Run) where
 
 -- what the code offers gives what the definition says
 pub run-all : (e : Enzyme) (missed : ℕ) (t : Terms) (s old : List ℕ) → length s ≤ 65536
-    → ended (offers s t (work e missed (t .minimum) (t .maximum) s) 0 old) ≡ listed old (digestRecords e missed (t .minimum) (t .maximum) (t .protein) s)
+    → ended (offers s t (way e missed (t .minimum) (t .maximum) s) 0 old) ≡ listed old (digestRecords e missed (t .minimum) (t .maximum) (t .protein) s)
 run-all e missed t s old small =
     let run : Run = record { s = s; terms = t; old = old; all = digests e missed (t .minimum) (t .maximum) s; small = small } in
-    let cs = work e missed (t .minimum) (t .maximum) s in
-    let st : State run cs old 0 = record { ks = []; bytes = sym (written-none old); ranges = refl; number = refl; free = omega arith; inside = tt; ahead = work-keeps s (t .minimum) (t .maximum) e missed } in
-    run-ends run cs old 0 st (inside-work e missed (t .minimum) (t .maximum) s)
+    let cs = way e missed (t .minimum) (t .maximum) s in
+    let st : State run cs old 0 = record { ks = []; bytes = sym (written-none old); ranges = refl; number = refl; free = omega arith; inside = tt; ahead = way-keeps e missed (t .minimum) (t .maximum) s } in
+    run-ends run cs old 0 st (way-inside e missed (t .minimum) (t .maximum) s)

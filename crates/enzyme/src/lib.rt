@@ -1,6 +1,5 @@
 // Digestion: the digests of a protein, their reversal, and their letters.
 mod checks;
-mod choosing;
 mod digesting;
 mod reversal;
 mod settings;

@@ -6,11 +6,12 @@ use mathlib.Core.List.{List, [], _∷_, _++_, append-assoc}
 use native.Mathlib.Omega.{arith}
 use native.Mathlib.Numerals.{add-one}
 use lib.ListN.{length, take, drop, getD, set, length-append}
-use lib.Seq.{sets, sets-eq, length-sets, set-set, set-comm, drop-at, drop-drop, getD-drop, length-take-le}
+use lib.Seq.{sets, sets-eq, getD-at, length-sets, set-set, set-comm, drop-at, drop-drop, getD-drop, length-take-le}
 use Rattle.records.specs.Le.{le, value, numberAt}
 use Rattle.records.specs.LeLaws.{value-le, length-le, Apart, getD-sets-other, number-apart}
 use Rattle.records.specs.Tests.{below?}
 use Rattle.cutting_parts.specs.Cutting.{Range, range}
+use Rattle.cutting_parts.specs.Work.{Inside}
 use Rattle.offering_parts.specs.Digests.{positionOf, recordOf}
 use Rattle.offering_parts.specs.Buffer.{rangeAt, rangesIn, linksIn, sealed}
 
@@ -25,11 +26,11 @@ set-sets : (vs l : List ℕ) (i a j : ℕ) → i < j → sets (set l i a) j vs �
 set-sets [] l i a j h = refl
 set-sets (v ∷ vs) l i a j h = rw (set-comm l i j a v (λ e. omega arith)) (set-sets vs (set l j v) i a (suc j) (omega arith))
 
-sets-comm : (xs ys l : List ℕ) (i j : ℕ) → i + length xs ≤ j → sets (sets l i xs) j ys ≡ sets (sets l j ys) i xs
+pub sets-comm : (xs ys l : List ℕ) (i j : ℕ) → i + length xs ≤ j → sets (sets l i xs) j ys ≡ sets (sets l j ys) i xs
 sets-comm [] ys l i j h = refl
 sets-comm (x ∷ xs) ys l i j h = sets-comm xs ys (set l i x) (suc i) j (omega arith) ∙ rw (set-sets ys l i x j (omega arith))
 
-sets-over : (xs ys l : List ℕ) (i : ℕ) → length xs ≡ length ys → sets (sets l i xs) i ys ≡ sets l i ys
+pub sets-over : (xs ys l : List ℕ) (i : ℕ) → length xs ≡ length ys → sets (sets l i xs) i ys ≡ sets l i ys
 sets-over [] [] l i e = refl
 sets-over [] (y ∷ ys) l i e = absurd (omega arith)
 sets-over (x ∷ xs) [] l i e = absurd (omega arith)
@@ -128,7 +129,7 @@ ranges-sealed p k (suc m) out = ranges-apart (le 4 p) (sealed p m out) (16 * m +
     away j (inr x) = inr (omega (arith, length-le 4 p))
 
 -- a record behind the sealed ones
-sealed-past : (p : ℕ) (vs : List ℕ) (k i : ℕ) (out : List ℕ) → 16 * k ≤ i → sealed p k (sets out i vs) ≡ sets (sealed p k out) i vs
+pub sealed-past : (p : ℕ) (vs : List ℕ) (k i : ℕ) (out : List ℕ) → 16 * k ≤ i → sealed p k (sets out i vs) ≡ sets (sealed p k out) i vs
 sealed-past p vs zero i out h = refl
 sealed-past p vs (suc k) i out h =
     let l : length (le 4 p) ≡ 4 = length-le 4 p in
@@ -157,3 +158,39 @@ sealed-more n p q r k out =
     let c = sets-over (le 4 q) (le 4 p) (sets X (16 * k) (front n r)) (16 * k + 12) (omega arith) in
     let d : sealed p k (sets out (16 * k) (recordOf n q r)) ≡ sets X (16 * k) (recordOf n q r) = sealed-past p (recordOf n q r) k (16 * k) out (omega arith) in
     rw (add-one k, d, ← a) (c ∙ b)
+
+-- ---- range j and link j of those in a buffer, as they are read
+
+inside-last : (n : ℕ) (ks : List Range) (r : Range) → Inside n (ks ++ (r ∷ [])) → Inside n ks × (r .from ≤ r .to) × (r .to ≤ n)
+inside-last n [] r i = (tt, i .0, i .1)
+inside-last n (k ∷ ks) r i = let x = inside-last n ks r (i .2) in ((i .0, i .1, x .0), x .1, x .2)
+
+inside-read : (n count : ℕ) (out : List ℕ) (j : ℕ) → j < count → Inside n (rangesIn count out)
+    → (rangeAt out (16 * j) .from ≤ rangeAt out (16 * j) .to) × (rangeAt out (16 * j) .to ≤ n)
+inside-read n zero out j h i = absurd (omega arith)
+inside-read n (suc k) out j h i =
+    let x = inside-last n (rangesIn k out) (rangeAt out (16 * k)) i in
+    ⊎-elim (λ (g : j < k). inside-read n k out j g (x .0)) (λ (g : k ≤ j). let e : j ≡ k = omega arith in rw e (x .1, x .2)) (below? j k)
+
+-- the same, with the start and the end as they were read
+module _ (count : ℕ) (out : List ℕ) (j a b : ℕ) (h : j < count) (ea : a ≡ numberAt 4 out (16 * j)) (eb : b ≡ numberAt 4 out (16 * j + 4)) where
+  pub read-inside : (n : ℕ) → Inside n (rangesIn count out) → (a ≤ b) × (b ≤ n)
+  read-inside n i = rw (ea, eb) (inside-read n count out j h i)
+
+get-before : (ls : List ℕ) (x j : ℕ) → j < length ls → getD (ls ++ (x ∷ [])) j 0 ≡ getD ls j 0
+get-before [] x j g = absurd (omega arith)
+get-before (y ∷ ys) x zero g = refl
+get-before (y ∷ ys) x (suc j) g = get-before ys x j (omega arith)
+
+pub link-read : (count : ℕ) (out : List ℕ) (j : ℕ) → j < count → getD (linksIn count out) j 0 ≡ numberAt 4 out (16 * j + 12)
+link-read zero out j h = absurd (omega arith)
+link-read (suc k) out j h = ⊎-elim (λ (g : j < k). inner g (link-read k out j g)) last (below? j k)
+  where
+    l : length (linksIn k out) ≡ k
+    l = length-links k out
+
+    inner : j < k → getD (linksIn k out) j 0 ≡ numberAt 4 out (16 * j + 12) → getD (linksIn (suc k) out) j 0 ≡ numberAt 4 out (16 * j + 12)
+    inner g ih = get-before (linksIn k out) (numberAt 4 out (16 * k + 12)) j (omega (arith, l)) ∙ ih
+
+    last : k ≤ j → getD (linksIn (suc k) out) j 0 ≡ numberAt 4 out (16 * j + 12)
+    last g = let e : j ≡ k = omega arith in rw e (getD-at (linksIn k out) (numberAt 4 out (16 * k + 12)) [] 0 k l)

@@ -1,9 +1,7 @@
--- What a reader has to believe: Digests. Buffer, Table and Steps say what the code does; the files named Laws say what
+-- What a reader has to believe: Digests. Buffer and Steps say what the code does; the files named Laws say what
 -- follows.
 pub mod Digests
 pub mod Buffer
-pub mod Table
 pub mod Steps
 pub mod BufferLaws
-pub mod TableLaws
 pub mod StepLaws

@@ -1,6 +1,6 @@
 -- Ranges that are offered to the buffer one after the other: what a call asks, answers and leaves. The public statement
 -- does not cite this.
-use Prim.Native.Nat.{ℕ, _+_, _-_, _*_, _≤_, _<_}
+use Prim.Native.Nat.{ℕ, _+_, _-_, _*_}
 use mathlib.Core.Path.{_≡_}
 use mathlib.Core.Bool.{Bool, cond}
 use mathlib.Core.List.{List, [], _∷_}
@@ -9,13 +9,11 @@ use lib.Seq.{sets}
 use lib.Dec.{ltb}
 use Rattle.records.specs.Room.{roomOf}
 use Rattle.cutting_parts.specs.Cutting.{Range, wanted}
-use Rattle.cutting_parts.specs.Work.{Inside}
 use Rattle.offering_parts.specs.declared.offering.Step.{Step}
 use Rattle.offering_parts.specs.declared.offering.Step.the-variants.{Kept, Full}
 use Rattle.offering_parts.specs.declared.offering.Terms.{Terms}
 use Rattle.offering_parts.specs.Digests.{recordOf}
-use Rattle.offering_parts.specs.Buffer.{rangesIn, linksIn, sealed}
-use Rattle.offering_parts.specs.Table.{Covers}
+use Rattle.offering_parts.specs.Buffer.{rangesIn, sealed}
 
 -- a digest takes 16 bytes, and a list holds at most 1,048,576
 abbrev pub room : List ℕ → ℕ
@@ -54,15 +52,6 @@ offers s t (r ∷ rs) count out = andThen (offered s t r count out) (offers s t 
 
 -- ---- with links in the place of the protein
 
--- out holds count whole records, whose ranges lie within the letters, and tab tells of those behind the first `past`
-pub record Held (past : ℕ) (s : List ℕ) (count : ℕ) (out tab : List ℕ) : Type 0 where
-  pub small : length s ≤ 65536
-  pub older : past ≤ count
-  pub capped : count ≤ 1048576
-  pub fits : 16 * count ≤ length out
-  pub inside : Inside (length s) (rangesIn count out)
-  pub covers : Covers s past (rangesIn count out) (linksIn count out) tab
-
 -- a step, and the bytes with the protein in the place of the links
 abbrev pub viewed : ℕ → Step → List ℕ → After
 viewed p (Kept k) out = after (Kept k) (sealed p k out)
@@ -71,26 +60,3 @@ viewed p Full out = after Full (sealed p (room out) out)
 -- the ranges rs were offered to count records in out: that gave r, and left out′
 abbrev pub View : List ℕ → Terms → List Range → ℕ → List ℕ → Step → List ℕ → Type 0
 View s t rs count out r out′ = viewed (t .protein) r out′ ≡ offers s t rs count (sealed (t .protein) count out)
-
-abbrev pub Next : ℕ → List ℕ → Step → List ℕ → List ℕ → Type 0
-Next past s (Kept k) out tab = Held past s k out tab
-Next past s Full out tab = Unit {0}
-
--- the same with the table tab, which became tab′ and still tells of what it told
-pub record Ran (past : ℕ) (s : List ℕ) (t : Terms) (rs : List Range) (count : ℕ) (out tab : List ℕ) (r : Step) (out′ tab′ : List ℕ) : Type 0 where
-  pub view : View s t rs count out r out′
-  pub next : Next past s r out′ tab′
-
-abbrev pub NextAny : List ℕ → Step → List ℕ → List ℕ → Type 0
-NextAny s (Kept k) out tab = (past : ℕ) × Held past s k out tab
-NextAny s Full out tab = Unit {0}
-
--- the same, where the table may have come to tell of fewer
-pub record Ended (s : List ℕ) (t : Terms) (rs : List Range) (count : ℕ) (out tab : List ℕ) (r : Step) (out′ tab′ : List ℕ) : Type 0 where
-  pub view : View s t rs count out r out′
-  pub next : NextAny s r out′ tab′
-
--- each range is shorter than n
-abbrev pub Shorter : ℕ → List Range → Type 0
-Shorter n [] = Unit {0}
-Shorter n (k ∷ ks) = (k .to - k .from < n) × Shorter n ks

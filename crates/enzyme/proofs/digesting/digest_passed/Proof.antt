@@ -1,0 +1,29 @@
+-- `digest_passed` meets its contract: a whole run. Assumes nothing.
+use native.Mathlib.Omega.{arith}
+use mathlib.Core.Path.{ap, _∙_}
+use denote.Ref.{now}
+use Rattle.offering_parts.specs.StepLaws.{offers-capped}
+use Rattle.enzyme_ways.specs.Ways.{way}
+use Rattle.enzyme.specs.RunLaws.{ended, run-all}
+use borrow.Author.Needs.{needs}
+use Rattle.enzyme.proofs.digesting.digest_passed.Statement.{statement}
+use Rattle.enzyme.proofs.digesting.digest_passed.Tie as tie
+
+returns : tie.Need-returns
+returns c = let s = c .before .before .before .before .before .before .before .before in
+    let a = s .args in
+    ap ended (rw (c .enum-told .given .1) at (c .before .before .before .before .offer-all .ensures)) ∙ run-all (a .enzyme) (a .missed) (a .terms) (now (a .letters)) (now (a .out)) (s .pre .0)
+
+cast-count : tie.Need-cast-count
+cast-count c = let a = c .before .before .before .before .before .before .before .before .before .args in
+    omega (arith, offers-capped (now (a .letters)) (a .terms) (way (a .enzyme) (a .missed) (a .terms .minimum) (a .terms .maximum) (now (a .letters))) 0 (now (a .out)) (c .before .k .given .0 .0) _ (omega arith) (rw (c .before .k .given .1) at (c .before .before .before .before .before .offer-all .ensures)))
+
+returns-2 : tie.Need-returns-2
+returns-2 c = let s = c .before .before .before .before .before .before .before .before .before in
+    let a = s .args in
+    ap ended (rw (c .before .k .given .1) at (c .before .before .before .before .before .offer-all .ensures)) ∙ run-all (a .enzyme) (a .missed) (a .terms) (now (a .letters)) (now (a .out)) (s .pre .0)
+
+pub digest-passed-spec : {M : Type 1} → statement M
+digest-passed-spec =
+    tie.close
+    (tie.spec (λ c κs. search needs) (λ c. search needs) (λ c. search needs) (λ c. search needs) returns cast-count (λ c. search needs) returns-2)

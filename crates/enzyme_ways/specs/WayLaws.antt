@@ -1,0 +1,52 @@
+-- Each way keeps the digests. Assumes nothing.
+use Prim.Native.Nat.{ℕ, _-_}
+use mathlib.Core.Path.{_≡_, refl, sym, ap, _∙_}
+use mathlib.Core.Bool.{Bool, true, false, and-true}
+use mathlib.Core.List.{List, [], _∷_, foldl}
+use native.Mathlib.Omega.{arith}
+use lib.ListN.{length}
+use lib.Dec.{ltb}
+use Rattle.letters.specs.declared.letter_set.LetterSet.{LetterSet}
+use Rattle.cutting_parts.specs.declared.enzyme.Kind.{Kind}
+use Rattle.cutting_parts.specs.declared.enzyme.Kind.the-variants.{None, End, Set}
+use Rattle.cutting_parts.specs.declared.enzyme.Enzyme.{Enzyme}
+use Rattle.cutting_parts.specs.Cutting.{Range, site, knife, meant, keep, digests, within}
+use Rattle.cutting_parts.specs.Work.{Inside, setWork, workOf, work}
+use Rattle.cutting_parts.specs.KeepLaws.{work-keeps}
+use Rattle.cutting_parts.specs.InsideLaws.{inside-work}
+use Rattle.offering_parts.specs.declared.offering.Terms.{Terms}
+use Rattle.offering_parts.specs.Digests.{recordOf}
+use Rattle.offering_parts.specs.Steps.{room, decided, offered, offers}
+use Rattle.offering_parts.specs.StepLaws.{offers-one}
+use Rattle.enzyme_once.specs.Once.{once}
+use Rattle.enzyme_once.specs.OnceLaws.{once-keeps}
+use Rattle.enzyme_once.specs.RangeLaws.{once-inside}
+use Rattle.enzyme_ways.specs.Ways.{wayOf, way}
+
+module _ (e : Enzyme) (missed mn mx : ℕ) (s : List ℕ) where
+  -- what holds of the candidates that were looked at before, and with semi of each range once, holds of the way
+  either : (P : List Range → Type 0) → P (work e missed mn mx s)
+      → ((cleave : LetterSet) → meant (e .kind) ≡ Set cleave → e .semi ≡ true → P (once (knife cleave (e .skip) (e .side)) true missed s)) → P (way e missed mn mx s)
+  either P w o = go (meant (e .kind)) refl (e .semi) refl w
+    where
+      go : (K : Kind) → meant (e .kind) ≡ K → (x : Bool) → e .semi ≡ x → P (workOf K e missed mn mx s) → P (wayOf K e missed mn mx s)
+      go None f x g w = w
+      go End f x g w = w
+      go (Set cleave) f true g w = rw g (o cleave f g)
+      go (Set cleave) f false g w = rw g (rw g at w)
+
+  -- THE LAW: the digests are what is kept of the way
+  pub way-keeps : foldl (keep s mn mx) [] (way e missed mn mx s) ≡ digests e missed mn mx s
+  way-keeps = either (λ rs. foldl (keep s mn mx) [] rs ≡ digests e missed mn mx s) (work-keeps s mn mx e missed)
+      (λ cleave f g. ap (λ (x : Bool). foldl (keep s mn mx) [] (once (knife cleave (e .skip) (e .side)) x missed s)) (sym g) ∙ once-keeps e cleave f missed s mn mx)
+
+  pub way-inside : Inside (length s) (way e missed mn mx s)
+  way-inside = either (Inside (length s)) (inside-work e missed mn mx s) (λ cleave f g. once-inside (knife cleave (e .skip) (e .side)) true missed s)
+
+-- ---- "end": one range, and no record before it
+pub end-offers : (s : List ℕ) (t : Terms) (out : List ℕ)
+    → decided (within (t .minimum) (t .maximum) (length s)) (ltb 0 (room out)) 0 out (recordOf (length s) (t .protein) (site 0 (length s))) ≡ offers s t (site 0 (length s) ∷ []) 0 out
+unfolding offered
+end-offers s t out =
+    let z : length s - 0 ≡ length s = omega arith in
+    sym (offers-one s t (site 0 (length s)) 0 out ∙ rw (z, and-true (within (t .minimum) (t .maximum) (length s))))

@@ -1,0 +1,27 @@
+-- The ranges that each way to the digests goes through. The public statement does not cite this.
+use Prim.Native.Nat.{ℕ}
+use mathlib.Core.Bool.{true, false, cond}
+use mathlib.Core.List.{List, [], _∷_}
+use lib.ListN.{length}
+use Rattle.cutting_parts.specs.declared.enzyme.Kind.{Kind}
+use Rattle.cutting_parts.specs.declared.enzyme.Kind.the-variants.{None, End, Set}
+use Rattle.cutting_parts.specs.declared.enzyme.Enzyme.{Enzyme}
+use Rattle.cutting_parts.specs.Cutting.{Range, site, knife, noneSites, meant}
+use Rattle.cutting_parts.specs.Work.{setWork}
+use Rattle.enzyme_once.specs.Once.{once}
+
+-- all of "none", the whole protein of "end", the windows of a set, or with semi each different range of it once
+abbrev pub wayOf : Kind → Enzyme → ℕ → ℕ → ℕ → List ℕ → List Range
+wayOf None e missed minimum maximum s = noneSites (length s) minimum maximum
+wayOf End e missed minimum maximum s = site 0 (length s) ∷ []
+wayOf (Set cleave) e missed minimum maximum s =
+    cond (e .semi) (once (knife cleave (e .skip) (e .side)) true missed s) (setWork (knife cleave (e .skip) (e .side)) false missed s)
+
+abbrev pub way : Enzyme → ℕ → ℕ → ℕ → List ℕ → List Range
+way e missed minimum maximum s = wayOf (meant (e .kind)) e missed minimum maximum s
+
+-- how often a kind is looked at again: an empty set as "none"
+abbrev pub turns : Kind → ℕ
+turns None = 0
+turns End = 0
+turns (Set cleave) = 1

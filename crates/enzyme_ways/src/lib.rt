@@ -1,0 +1,5 @@
+// The ways to the digests of a protein, by the enzyme and by how long the protein is. Only crates of this repository call this.
+mod ends;
+mod ways;
+
+pub use ways::offer_all;
