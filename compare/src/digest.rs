@@ -1,6 +1,7 @@
 //! Cutting a protein: against the original as far as it shows its digests, and byte for byte against the model.
 pub mod beyond;
 pub mod cases;
+pub mod colliding;
 pub mod model;
 pub mod refusals;
 pub mod said;
@@ -78,7 +79,16 @@ fn hold_with_rooms(tally: &mut Tally, rng: &mut Rng, call: &Call, all: &[Seen<'_
 }
 
 fn against_rust(tally: &mut Tally, context: &Context, calls: impl Iterator<Item = Call>) {
-    let rooms = &mut context.rng("digest, rooms");
+    against_rust_in(tally, context, &mut context.rng("digest, rooms"), calls);
+}
+
+/// The same with rooms that go on from call to call.
+fn against_rust_in(
+    tally: &mut Tally,
+    context: &Context,
+    rooms: &mut Rng,
+    calls: impl Iterator<Item = Call>,
+) {
     in_batches(calls, |batch| {
         for (call, answer) in batch.iter().zip(ask_digests(&context.oracle, batch)) {
             hold_with_rooms(tally, rooms, call, &read_digests(&answer, call.protein));
@@ -113,6 +123,17 @@ pub fn long_proteins(context: &Context) -> Tally {
     let mut tally = Tally::new("digest: long proteins", Against::Rust);
     for call in long_calls(&mut context.rng("long proteins")) {
         against_rust(&mut tally, context, std::iter::once(call));
+    }
+    tally
+}
+
+pub fn hostile_proteins(context: &Context) -> Tally {
+    let mut tally = Tally::new("digest: hostile proteins", Against::Rust);
+    let rng = &mut context.rng("hostile proteins");
+    let calls = [hostile_calls(rng), greatest_calls(rng)].concat();
+    let rooms = &mut context.rng("hostile proteins, rooms");
+    for call in calls {
+        against_rust_in(&mut tally, context, rooms, std::iter::once(call));
     }
     tally
 }

@@ -2,7 +2,7 @@
 //!
 //! `compare [SEED]` prints a line for each entry and fails if there is a difference; `compare until SUBJECT` does so for
 //! the entries of one subject up to the first that differs; `compare vectors FOLDER` writes a sample of the original's
-//! answers. ORACLE and ORACLE_ALT are the programs that oracle/setup has built. `run` does it all.
+//! answers; `compare stack` prints how much stack each function takes. ORACLE and ORACLE_ALT are the programs that oracle/setup has built. `run` does it all.
 mod answer;
 mod calls;
 mod cover;
@@ -25,6 +25,7 @@ mod rng;
 mod room;
 mod rule_records;
 mod rule_texts;
+mod stack;
 mod table;
 mod update;
 mod vectors;
@@ -75,6 +76,7 @@ const SUBJECTS: &[(&str, &[Entry])] = &[
             digest::random_proteins,
             digest::repetitive_proteins,
             digest::long_proteins,
+            digest::hostile_proteins,
             digest::model_sites,
             digest::model_digests,
         ],
@@ -185,6 +187,7 @@ const SUBJECTS: &[(&str, &[Entry])] = &[
         ],
     ),
     ("passes", &[passes::examples, passes::small_passes, passes::larger_passes, passes::annotated_rows]),
+    ("stack", &[stack::every_function]),
 ];
 
 const SEED: u64 = 1;
@@ -248,10 +251,14 @@ fn main() -> ExitCode {
         [] => compare(&context(SEED)),
         ["until", subject] => compare_until(&context(SEED), subject),
         ["vectors", folder] => write_vectors(&context(SEED), folder),
+        ["stack"] => {
+            stack::print(&context(SEED));
+            ExitCode::SUCCESS
+        }
         [seed] => match seed.parse() {
             Ok(seed) => compare(&context(seed)),
             Err(_) => complain("the seed is a number"),
         },
-        _ => complain("[SEED], or: until SUBJECT, or: vectors FOLDER"),
+        _ => complain("[SEED], or: until SUBJECT, or: vectors FOLDER, or: stack"),
     }
 }

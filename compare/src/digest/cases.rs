@@ -1,4 +1,5 @@
 //! The proteins and enzymes that are tried.
+use super::colliding;
 use super::model::{Call, Enzyme, C_SIDE, END, MOST_LETTERS, NONE, N_SIDE, SET};
 use crate::model;
 use crate::rng::Rng;
@@ -247,6 +248,64 @@ pub fn repetitive_calls(rng: &mut Rng) -> Vec<Call> {
         for letters in repetitive(rng, len) {
             calls.extend([none, long, semi].map(|enzyme| call(rng, letters.clone(), enzyme)));
         }
+    }
+    calls
+}
+
+/// Blocks of A that each end in K, every one longer than the last, again and again.
+fn blocks(len: usize) -> Vec<u8> {
+    let block = |size: usize| std::iter::repeat_n(b'A', size).chain([b'K']);
+    (0..120).cycle().flat_map(block).take(len).collect()
+}
+
+/// A stretch that stands so many times.
+fn again(rng: &mut Rng, times: usize, len: usize) -> Vec<u8> {
+    let stretch: Vec<u8> = (0..len.div_ceil(times)).map(|_| rng.pick(b"ACDEFGHIKLMNPQRSTVWY")).collect();
+    stretch.into_iter().cycle().take(len).collect()
+}
+
+/// What someone sends who wants many equal peptides, or many that are equal nearly to their ends.
+fn hostile(rng: &mut Rng, len: usize) -> Vec<Vec<u8>> {
+    let three = (0..len).map(|_| rng.pick(b"KPA")).collect();
+    let collided = colliding::protein(len);
+    vec![again(rng, 2, len), again(rng, 16, len), three, blocks(len), collided]
+}
+
+/// Lengths around those at which another table is taken, for every way of cutting.
+const HOSTILE: [usize; 12] = [1, 2, 17, 130, 511, 512, 513, 1023, 1024, 1025, 4097, 8193];
+
+fn hostile_enzymes() -> Vec<Enzyme> {
+    let [trypsin, ..] = long_enzymes()[..] else { unreachable!("there are some") };
+    let any = Enzyme { minimum: 1, maximum: 128, ..trypsin };
+    vec![
+        Enzyme { missed: 2, ..trypsin },
+        Enzyme { missed: 16, minimum: 1, maximum: 65_536, ..trypsin },
+        Enzyme { side: N_SIDE, skip: 0, missed: 16, ..any },
+        Enzyme { cleave: set_of(b"A"), skip: set_of(b"K"), missed: 5, ..any },
+        Enzyme { semi: 1, ..trypsin },
+        Enzyme { semi: 1, missed: 2, ..any },
+        Enzyme { semi: 1, side: N_SIDE, skip: 0, missed: 16, maximum: 40, ..any },
+        Enzyme { kind: NONE, minimum: 1, maximum: 40, ..any },
+        Enzyme { kind: NONE, minimum: 60, maximum: 70, ..any },
+    ]
+}
+
+pub fn hostile_calls(rng: &mut Rng) -> Vec<Call> {
+    let mut calls = Vec::new();
+    for enzyme in hostile_enzymes() {
+        for len in HOSTILE {
+            calls.extend(hostile(rng, len).into_iter().map(|letters| call(rng, letters, enzyme)));
+        }
+    }
+    calls
+}
+
+/// The longest proteins, as hostile.
+pub fn greatest_calls(rng: &mut Rng) -> Vec<Call> {
+    let [windows, _, _, _, semi, _, _, _, none] = hostile_enzymes()[..] else { unreachable!("nine") };
+    let mut calls = Vec::new();
+    for enzyme in [windows, semi, none] {
+        calls.extend(hostile(rng, MOST_LETTERS).into_iter().map(|letters| call(rng, letters, enzyme)));
     }
     calls
 }
