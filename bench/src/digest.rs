@@ -5,7 +5,7 @@ mod sides;
 use crate::clock::seconds;
 use crate::rng::Rng;
 use crate::turns::{measure, Measured, Sides};
-use rows::{rows, Cutting, Row, TRYPTIC};
+use rows::{doubling_rows, greatest_rows, rows, Cutting, Row, TRYPTIC};
 use sides::{Ours, Rust};
 use std::cell::RefCell;
 use std::hint::black_box;
@@ -51,11 +51,40 @@ pub fn cut(protein: &str, number: u32) -> Vec<u8> {
     OURS.with_borrow_mut(|ours| ours.records(&TRYPTIC, protein, number))
 }
 
-pub fn print() {
-    let mut ours = Ours::new();
+fn print_rows(ours: &mut Ours, rows: Vec<Row>) {
     Measured::print_head("protein, enzyme", "digests", "protein");
-    for Row { name, cutting, blocks } in rows(&mut Rng::new(crate::SEED, "benchmark")) {
-        let both = Both { rust: Rust::new(&cutting), ours: &mut ours, cutting };
+    for Row { name, cutting, blocks } in rows {
+        let both = Both { rust: Rust::new(&cutting), ours, cutting };
         measure(both, &blocks).print_row(&name, 0);
+    }
+}
+
+pub fn print() {
+    print_rows(&mut Ours::new(), rows(&mut Rng::new(crate::SEED, "benchmark")));
+}
+
+pub fn print_greatest() {
+    print_rows(&mut Ours::new(), greatest_rows(&mut Rng::new(crate::SEED, "greatest proteins")));
+}
+
+/// The least of seven calls, in milliseconds.
+fn least(ours: &mut Ours, cutting: &Cutting, protein: &str) -> f64 {
+    let mut call = || {
+        seconds(|| {
+            black_box(ours.count(cutting, protein));
+        })
+    };
+    (0..7).map(|_| call()).fold(f64::MAX, f64::min) * 1e3
+}
+
+/// Ours alone: how the time grows where the letters double.
+pub fn print_doubling() {
+    println!("| protein, enzyme | 8,192 letters, ms | 16,384 | 32,768 | 65,536 | last doubling |");
+    println!("|---|--:|--:|--:|--:|--:|");
+    let mut ours = Ours::new();
+    for (name, cutting, proteins) in doubling_rows(&mut Rng::new(crate::SEED, "proteins that double")) {
+        let times: Vec<f64> = proteins.iter().map(|protein| least(&mut ours, &cutting, protein)).collect();
+        let cells: Vec<String> = times.iter().map(|time| format!("{time:.3}")).collect();
+        println!("| {name} | {} | {:.2} |", cells.join(" | "), times[3] / times[2]);
     }
 }

@@ -1,6 +1,8 @@
 //! Times the original Rust and the proved library on the same proteins, peptides, digests, edges and pairs, in turns, and prints
-//! tables of both: `bench digest`, `bench forms`, `bench groups`, `bench cover`, `bench inference`, `bench lines`.
+//! tables of both: `bench digest`, `bench greatest`, `bench doubling`, `bench forms`, `bench groups`, `bench cover`, `bench inference`, `bench lines`.
 mod clock;
+#[path = "../../compare/src/digest/colliding.rs"]
+mod colliding;
 mod cover;
 mod digest;
 #[path = "../../compare/src/ffi.rs"]
@@ -21,11 +23,13 @@ const SEED: u64 = 1;
 fn main() {
     match std::env::args().nth(1).as_deref() {
         Some("digest") => digest::print(),
+        Some("greatest") => digest::print_greatest(),
+        Some("doubling") => digest::print_doubling(),
         Some("forms") => forms::print(),
         Some("groups") => groups::print(),
         Some("cover") => cover::print(),
         Some("inference") => inference::print(),
         Some("lines") => lines::print(),
-        _ => panic!("digest, forms, groups, cover, inference or lines"),
+        _ => panic!("digest, greatest, doubling, forms, groups, cover, inference or lines"),
     }
 }

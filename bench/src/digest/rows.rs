@@ -1,5 +1,6 @@
-//! What is timed: proteins of some lengths with the enzymes in use, and proteins of one letter.
-use crate::proteins::protein;
+//! What is timed: proteins of some lengths with the enzymes in use, proteins of one letter, and the longest, random and hostile.
+use crate::colliding;
+use crate::proteins::{letters, protein};
 use crate::rng::Rng;
 use crate::turns::Block;
 
@@ -58,6 +59,75 @@ fn cuttings() -> Vec<Cutting> {
     let missed = [0, 1, 2].map(|missed| Cutting { missed, ..SET });
     let semi = [0, 2].map(|missed| Cutting { semi: true, missed, ..SET });
     [&missed[..], &semi, &[NONE]].concat()
+}
+
+/// The longest protein that there is.
+const MOST: usize = 65_536;
+
+/// Proteins that someone may send who wants a call to take long, each with its name.
+fn hostile(rng: &mut Rng, length: usize) -> Vec<(&'static str, String)> {
+    let again = |rng: &mut Rng, times: usize| {
+        let stretch = letters(rng, length.div_ceil(times));
+        stretch.chars().cycle().take(length).collect::<String>()
+    };
+    let block = |size: usize| std::iter::repeat_n('A', size).chain(['K']);
+    let of_three = (0..length).map(|_| rng.pick(b"KPA") as char).collect();
+    let collided = String::from_utf8(colliding::protein(length)).expect("letters");
+    vec![
+        ("random", letters(rng, length)),
+        ("a stretch twice", again(rng, 2)),
+        ("a stretch 16 times", again(rng, 16)),
+        ("K, P and A at random", of_three),
+        ("blocks A..AK", (0..120).cycle().flat_map(block).take(length).collect()),
+        ("made to collide", collided),
+    ]
+}
+
+/// Every way of cutting, for the longest proteins.
+fn greatest_cuttings() -> Vec<Cutting> {
+    let tryptic = [2, 16].map(|missed| Cutting { missed, ..SET });
+    let semi = [0, 2].map(|missed| Cutting { semi: true, missed, ..SET });
+    let none = Cutting { maximum: 20, ..NONE };
+    [&tryptic[..], &semi, &[none]].concat()
+}
+
+fn single_row(name: &str, length: usize, protein: String, cutting: Cutting) -> Row {
+    let name = format!("{length} letters, {name}, {}", name_of(&cutting));
+    Row { name, cutting, blocks: vec![vec![protein]] }
+}
+
+/// The longest proteins, random and hostile.
+pub fn greatest_rows(rng: &mut Rng) -> Vec<Row> {
+    let proteins = hostile(rng, MOST);
+    let row = |cutting: Cutting| {
+        proteins.iter().map(move |(name, protein)| single_row(name, MOST, protein.clone(), cutting))
+    };
+    let mut rows: Vec<Row> = greatest_cuttings().into_iter().flat_map(row).collect();
+    let most = Cutting { semi: true, missed: 16, minimum: 1, maximum: 100, ..SET };
+    for place in [0, 5] {
+        let (name, protein) = &proteins[place];
+        rows.push(single_row(name, MOST, protein.clone(), most));
+    }
+    rows
+}
+
+/// Proteins of each kind whose letters double, with the way of cutting that each is worst for, and one letter without bounds.
+pub fn doubling_rows(rng: &mut Rng) -> Vec<(String, Cutting, Vec<String>)> {
+    const LENGTHS: [usize; 4] = [8_192, 16_384, 32_768, 65_536];
+    let of_lengths: Vec<_> = LENGTHS.map(|length| hostile(rng, length)).into();
+    let mut rows = Vec::new();
+    for cutting in greatest_cuttings() {
+        for (place, (name, _)) in of_lengths[0].iter().enumerate() {
+            let proteins = of_lengths.iter().map(|proteins| proteins[place].1.clone()).collect();
+            rows.push((format!("{name}, {}", name_of(&cutting)), cutting, proteins));
+        }
+    }
+    let one = LENGTHS.map(|length| "A".repeat(length)).to_vec();
+    let none = Cutting { minimum: 1, maximum: 65_536, ..NONE };
+    rows.push((format!("A alone, {}", name_of(&none)), none, one.clone()));
+    let semi = Cutting { semi: true, minimum: 1, maximum: 65_536, ..SET };
+    rows.push((format!("A alone, {}", name_of(&semi)), semi, one));
+    rows
 }
 
 pub fn rows(rng: &mut Rng) -> Vec<Row> {
