@@ -103,7 +103,7 @@ pub fn greatest_rows(rng: &mut Rng) -> Vec<Row> {
         proteins.iter().map(move |(name, protein)| single_row(name, MOST, protein.clone(), cutting))
     };
     let mut rows: Vec<Row> = greatest_cuttings().into_iter().flat_map(row).collect();
-    let most = Cutting { semi: true, missed: 16, minimum: 1, maximum: 100, ..SET };
+    let most = Cutting { semi: true, missed: 16, minimum: 1, maximum: 64, ..SET };
     for place in [0, 5] {
         let (name, protein) = &proteins[place];
         rows.push(single_row(name, MOST, protein.clone(), most));
