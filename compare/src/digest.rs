@@ -83,12 +83,7 @@ fn against_rust(tally: &mut Tally, context: &Context, calls: impl Iterator<Item 
 }
 
 /// The same with rooms that go on from call to call.
-fn against_rust_in(
-    tally: &mut Tally,
-    context: &Context,
-    rooms: &mut Rng,
-    calls: impl Iterator<Item = Call>,
-) {
+fn against_rust_in(tally: &mut Tally, context: &Context, rooms: &mut Rng, calls: impl Iterator<Item = Call>) {
     in_batches(calls, |batch| {
         for (call, answer) in batch.iter().zip(ask_digests(&context.oracle, batch)) {
             hold_with_rooms(tally, rooms, call, &read_digests(&answer, call.protein));

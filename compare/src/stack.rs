@@ -90,9 +90,7 @@ fn protein_lists(rng: &mut Rng) -> Vec<Run> {
     for (name, shown) in [("group_proteins, small", small), ("group_proteins, the most", most)] {
         let call = protein_groups::call(rng, &shown);
         let (edges, members) = (vec![0; shown.0.len() * 8], vec![0; MOST_GROUPS * 12]);
-        runs.push(run(name, move || {
-            drop(calls::protein_groups::group_proteins(&call, &edges, &members))
-        }));
+        runs.push(run(name, move || drop(calls::protein_groups::group_proteins(&call, &edges, &members))));
     }
     let small = report_lines::cases::random(rng);
     let most = report_lines::cases::greatest(rng).swap_remove(0);
@@ -136,7 +134,8 @@ fn small_calls() -> Vec<Run> {
 }
 
 fn all(rng: &mut Rng) -> Vec<Run> {
-    let parts = [digests(rng), digest_lists(rng), covers(rng), protein_lists(rng), of_peptides(), small_calls()];
+    let parts =
+        [digests(rng), digest_lists(rng), covers(rng), protein_lists(rng), of_peptides(), small_calls()];
     parts.into_iter().flatten().collect()
 }
 
