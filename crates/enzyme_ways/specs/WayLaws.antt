@@ -24,7 +24,7 @@ use Rattle.enzyme_once.specs.RangeLaws.{once-inside}
 use Rattle.enzyme_ways.specs.Ways.{wayOf, way}
 
 module _ (e : Enzyme) (missed mn mx : ℕ) (s : List ℕ) where
-  -- what holds of the candidates that were looked at before, and with semi of each range once, holds of the way
+  -- what holds of the candidates, and with semi of each range once, holds of the way
   either : (P : List Range → Type 0) → P (work e missed mn mx s)
       → ((cleave : LetterSet) → meant (e .kind) ≡ Set cleave → e .semi ≡ true → P (once (knife cleave (e .skip) (e .side)) true missed s)) → P (way e missed mn mx s)
   either P w o = go (meant (e .kind)) refl (e .semi) refl w

@@ -20,6 +20,10 @@ wayOf (Set cleave) e missed minimum maximum s =
 abbrev pub way : Enzyme → ℕ → ℕ → ℕ → List ℕ → List Range
 way e missed minimum maximum s = wayOf (meant (e .kind)) e missed minimum maximum s
 
+-- the enzyme that cuts everywhere
+abbrev pub none : Enzyme → Enzyme
+none e = record { kind = None; skip = e .skip; side = e .side; semi = e .semi }
+
 -- how often a kind is looked at again: an empty set as "none"
 abbrev pub turns : Kind → ℕ
 turns None = 0

@@ -3,85 +3,81 @@ use crate::ends::offer_end;
 use cutting_parts::Enzyme;
 use cutting_parts::Kind;
 use cutting_parts::Knife;
+use letters::LetterSet;
 use offering_parts::Step;
 use offering_parts::Terms;
 ghost use mathlib.Core.Path.{_≡_};
-ghost use mathlib.Core.Bool.{true, false};
 ghost use Prim.Native.Nat.{_≤_};
 ghost use lib.ListN.{length};
-ghost use Rattle.cutting_parts.specs.Cutting.{noneSites};
-ghost use Rattle.cutting_parts.specs.Work.{setWork};
+ghost use Rattle.cutting_parts.specs.Cutting.{knife};
 ghost use Rattle.offering_parts.specs.Steps.{after, offers};
-ghost use Rattle.enzyme_once.specs.Once.{once};
-ghost use Rattle.enzyme_ways.specs.Ways.{way};
+ghost use Rattle.enzyme_ways.specs.Ways.{none, way};
 
-fn offer_none(letters: &[u8], terms: Terms, out: &mut [u8]) -> Step
-    requires { ⌜ (length (now letters) ≤ 65536) × (terms .maximum ≤ 65536) ⌝ }
-    ensures { λ r. ⌜ after r (now (out .exit)) ≡ offers (now (letters .entry)) terms (noneSites (length (now (letters .entry))) (terms .minimum) (terms .maximum)) 0 (now (out .entry)) ⌝ }
+// The enzyme that cuts everywhere.
+fn without_set(enzyme: Enzyme) -> Enzyme
+    ensures { λ r. ⌜ r ≡ none enzyme ⌝ }
 {
-    if letters.len() <= 1024 {
-        return enzyme_none::none_small(letters, terms, out);
+    let skip = enzyme.skip;
+    let side = enzyme.side;
+    Enzyme {
+        kind: Kind::None,
+        skip,
+        side,
+        semi: enzyme.semi,
     }
-    if letters.len() <= 8192 {
-        return enzyme_none::none_middle(letters, terms, out);
-    }
-    enzyme_none::none_large(letters, terms, out)
 }
 
-fn offer_windows(letters: &[u8], knife: Knife, missed: u8, terms: Terms, out: &mut [u8]) -> Step
-    requires { ⌜ (length (now letters) ≤ 65536) × (missed ≤ 16) ⌝ }
-    ensures { λ r. ⌜ after r (now (out .exit)) ≡ offers (now (letters .entry)) terms (setWork knife false missed (now (letters .entry))) 0 (now (out .entry)) ⌝ }
+// What it cuts at.
+fn knife_of(enzyme: Enzyme, cleave: LetterSet) -> Knife
+    ensures { λ r. ⌜ r ≡ knife cleave (enzyme .skip) (enzyme .side) ⌝ }
 {
-    if letters.len() <= 1024 {
-        return enzyme_set::windows_small(letters, knife, missed, terms, out);
-    }
-    if letters.len() <= 8192 {
-        return enzyme_set::windows_middle(letters, knife, missed, terms, out);
-    }
-    enzyme_set::windows_large(letters, knife, missed, terms, out)
+    let skip = enzyme.skip;
+    let side = enzyme.side;
+    Knife { cleave, skip, side }
 }
 
-fn offer_semi(letters: &[u8], knife: Knife, missed: u8, terms: Terms, out: &mut [u8]) -> Step
-    requires { ⌜ (length (now letters) ≤ 65536) × (missed ≤ 16) ⌝ }
-    ensures { λ r. ⌜ after r (now (out .exit)) ≡ offers (now (letters .entry)) terms (once knife true missed (now (letters .entry))) 0 (now (out .entry)) ⌝ }
-{
-    if letters.len() <= 1024 {
-        return enzyme_halves::semi_small(letters, knife, missed, terms, out);
-    }
-    if letters.len() <= 8192 {
-        return enzyme_halves::semi_middle(letters, knife, missed, terms, out);
-    }
-    enzyme_halves::semi_large(letters, knife, missed, terms, out)
-}
-
-// Writes what is kept of the sites of an enzyme. An empty set means "none": said by a call of itself, for into a function that
-// calls itself the compiler joins none that has large tables, and each way has its stack to itself.
+// Writes what is kept of the sites of an enzyme, with tables for as many letters. An empty set means "none": said by a call of
+// itself, for into a function that calls itself the compiler joins none that has large tables. So each way has its stack to
+// itself at each size.
 pub fn offer_all(letters: &[u8], enzyme: Enzyme, missed: u8, terms: Terms, out: &mut [u8]) -> Step
     requires { ⌜ (length (now letters) ≤ 65536) × (missed ≤ 16) × (terms .maximum ≤ 65536) ⌝ }
     ensures { λ r. ⌜ after r (now (out .exit)) ≡ offers (now (letters .entry)) terms (way enzyme missed (terms .minimum) (terms .maximum) (now (letters .entry))) 0 (now (out .entry)) ⌝ }
 {
+    let n = letters.len();
     let kind = enzyme.kind;
     match kind {
-        Kind::None => offer_none(letters, terms, out),
+        Kind::None => {
+            if n <= 1024 {
+                return enzyme_none::none_small(letters, terms, out);
+            }
+            if n <= 8192 {
+                return enzyme_none::none_middle(letters, terms, out);
+            }
+            enzyme_none::none_large(letters, terms, out)
+        }
         Kind::End => offer_end(letters, terms, out),
         Kind::Set(cleave) => {
-            let side = enzyme.side;
-            let skip = enzyme.skip;
-            let semi = enzyme.semi;
             if cleave.mask == 0 {
-                let none = Enzyme {
-                    kind: Kind::None,
-                    skip,
-                    side,
-                    semi,
-                };
+                let none = without_set(enzyme);
                 return offer_all(letters, none, missed, terms, out);
             }
-            let knife = Knife { cleave, skip, side };
-            if semi {
-                return offer_semi(letters, knife, missed, terms, out);
+            let knife = knife_of(enzyme, cleave);
+            if enzyme.semi {
+                if n <= 1024 {
+                    return enzyme_halves::semi_small(letters, knife, missed, terms, out);
+                }
+                if n <= 8192 {
+                    return enzyme_halves::semi_middle(letters, knife, missed, terms, out);
+                }
+                return enzyme_halves::semi_large(letters, knife, missed, terms, out);
             }
-            offer_windows(letters, knife, missed, terms, out)
+            if n <= 1024 {
+                return enzyme_set::windows_small(letters, knife, missed, terms, out);
+            }
+            if n <= 8192 {
+                return enzyme_set::windows_middle(letters, knife, missed, terms, out);
+            }
+            enzyme_set::windows_large(letters, knife, missed, terms, out)
         }
     }
 }

@@ -11,10 +11,18 @@ use borrow.Fn.PlainCycle.{Measures, is, falls, and}
 use Rattle.enzyme_ways.proofs.ways.offer_all.Reads as offer-all
 use Rattle.enzyme_ways.proofs.ways.offer_all.Kinds as offer-all-kinds
 use Rattle.enzyme_ways.proofs.ways.+offer_all.Lts-offer_all as offer-all-lts
+use Rattle.enzyme_halves.proofs.semi_large.Reads as semi-large-reads
+use Rattle.enzyme_halves.proofs.semi_middle.Reads as semi-middle-reads
+use Rattle.enzyme_halves.proofs.semi_small.Reads as semi-small-reads
+use Rattle.enzyme_none.proofs.none_large.Reads as none-large-reads
+use Rattle.enzyme_none.proofs.none_middle.Reads as none-middle-reads
+use Rattle.enzyme_none.proofs.none_small.Reads as none-small-reads
+use Rattle.enzyme_set.proofs.windows_large.Reads as windows-large-reads
+use Rattle.enzyme_set.proofs.windows_middle.Reads as windows-middle-reads
+use Rattle.enzyme_set.proofs.windows_small.Reads as windows-small-reads
 use Rattle.enzyme_ways.proofs.ends.offer_end.Reads as offer-end-reads
-use Rattle.enzyme_ways.proofs.ways.offer_none.Reads as offer-none-reads
-use Rattle.enzyme_ways.proofs.ways.offer_semi.Reads as offer-semi-reads
-use Rattle.enzyme_ways.proofs.ways.offer_windows.Reads as offer-windows-reads
+use Rattle.enzyme_ways.proofs.ways.knife_of.Reads as knife-of-reads
+use Rattle.enzyme_ways.proofs.ways.without_set.Reads as without-set-reads
 use Rattle.enzyme_ways.proofs.ways.+offer_all.{statement}
 use Rattle.enzyme_ways.proofs.ways.+offer_all.Tie.{close}
 
@@ -28,300 +36,82 @@ abbrev offer-all-below : ℕ → In 2 offer-all-kinds.ps
 offer-all-below t =
     and 2 offer-all-kinds.ps (falls 2 offer-all-kinds.ps _<_ μ-offer-all t) offer-all.Pre
 
-offer-all-enum-told : (t : ℕ) → offer-all-lts.Need-enum-told (
-  offer-none-reads.Asked,
-  offer-none-reads.Learnt,
-  offer-end-reads.Asked,
-  offer-end-reads.Learnt,
-  offer-all-below t,
-  offer-all.Post,
-  offer-semi-reads.Asked,
-  offer-semi-reads.Learnt,
-  offer-windows-reads.Asked,
-  offer-windows-reads.Learnt,
-) (offer-all-at t) offer-all.Post
-offer-all-enum-told t c = search needs
-
-offer-all-offer-none-requires : (t : ℕ) → offer-all-lts.Need-offer-none-requires (
-  offer-none-reads.Asked,
-  offer-none-reads.Learnt,
-  offer-end-reads.Asked,
-  offer-end-reads.Learnt,
-  offer-all-below t,
-  offer-all.Post,
-  offer-semi-reads.Asked,
-  offer-semi-reads.Learnt,
-  offer-windows-reads.Asked,
-  offer-windows-reads.Learnt,
-) (offer-all-at t) offer-all.Post
-offer-all-offer-none-requires t c κs = (c .before .before .before .before .before .pre .1 .0, c .before .before .before .before .before .pre .1 .2)
-
-offer-all-enum-told-2 : (t : ℕ) → offer-all-lts.Need-enum-told-2 (
-  offer-none-reads.Asked,
-  offer-none-reads.Learnt,
-  offer-end-reads.Asked,
-  offer-end-reads.Learnt,
-  offer-all-below t,
-  offer-all.Post,
-  offer-semi-reads.Asked,
-  offer-semi-reads.Learnt,
-  offer-windows-reads.Asked,
-  offer-windows-reads.Learnt,
-) (offer-all-at t) offer-all.Post
-offer-all-enum-told-2 t c = search needs
-
-offer-all-offer-end-requires : (t : ℕ) → offer-all-lts.Need-offer-end-requires (
-  offer-none-reads.Asked,
-  offer-none-reads.Learnt,
-  offer-end-reads.Asked,
-  offer-end-reads.Learnt,
-  offer-all-below t,
-  offer-all.Post,
-  offer-semi-reads.Asked,
-  offer-semi-reads.Learnt,
-  offer-windows-reads.Asked,
-  offer-windows-reads.Learnt,
-) (offer-all-at t) offer-all.Post
-offer-all-offer-end-requires t c κs = c .before .before .before .before .before .pre .1 .0
-
-offer-all-enum-known-kind : (t : ℕ) → offer-all-lts.Need-enum-known-kind (
-  offer-none-reads.Asked,
-  offer-none-reads.Learnt,
-  offer-end-reads.Asked,
-  offer-end-reads.Learnt,
-  offer-all-below t,
-  offer-all.Post,
-  offer-semi-reads.Asked,
-  offer-semi-reads.Learnt,
-  offer-windows-reads.Asked,
-  offer-windows-reads.Learnt,
-) (offer-all-at t) offer-all.Post
-offer-all-enum-known-kind t c = search needs
-
-offer-all-offer-all-requires : (t : ℕ) → offer-all-lts.Need-offer-all-requires (
-  offer-none-reads.Asked,
-  offer-none-reads.Learnt,
-  offer-end-reads.Asked,
-  offer-end-reads.Learnt,
-  offer-all-below t,
-  offer-all.Post,
-  offer-semi-reads.Asked,
-  offer-semi-reads.Learnt,
-  offer-windows-reads.Asked,
-  offer-windows-reads.Learnt,
-) (offer-all-at t) offer-all.Post
-offer-all-offer-all-requires t c κs =
-    let s = c .before .before .before .before .before .before .before .before .before in
-    let k : s .args .enzyme .kind ≡ Set (c .before .before .before .before .before .kind .given .0 .0) = c .before .before .before .before .before .kind .given .1 in
-    let e : turns (s .args .enzyme .kind) ≡ 1 = ap turns k in
-    (omega (arith, s .pre .0, e), s .pre .1)
-
-offer-all-same-length : (t : ℕ) → offer-all-lts.Need-same-length (
-  offer-none-reads.Asked,
-  offer-none-reads.Learnt,
-  offer-end-reads.Asked,
-  offer-end-reads.Learnt,
-  offer-all-below t,
-  offer-all.Post,
-  offer-semi-reads.Asked,
-  offer-semi-reads.Learnt,
-  offer-windows-reads.Asked,
-  offer-windows-reads.Learnt,
-) (offer-all-at t) offer-all.Post
-offer-all-same-length t c = search needs
-
-offer-all-returns : (t : ℕ) → offer-all-lts.Need-returns (
-  offer-none-reads.Asked,
-  offer-none-reads.Learnt,
-  offer-end-reads.Asked,
-  offer-end-reads.Learnt,
-  offer-all-below t,
-  offer-all.Post,
-  offer-semi-reads.Asked,
-  offer-semi-reads.Learnt,
-  offer-windows-reads.Asked,
-  offer-windows-reads.Learnt,
-) (offer-all-at t) offer-all.Post
-offer-all-returns t c =
-    let k : c .before .before .before .before .before .before .before .before .before .before .before .before .args .enzyme .kind ≡ Set (c .before .before .before .before .before .before .before .before .kind .given .0 .0) = c .before .before .before .before .before .before .before .before .kind .given .1 in
-    rw (k, eq-eqb (c .before .before .before .before .before .before .before .before .kind .given .0 .0 .mask) 0 (c .before .before .before .before .if1 .taken)) (c .before .before .offer-all .ensures)
-
-offer-all-offer-semi-requires : (t : ℕ) → offer-all-lts.Need-offer-semi-requires (
-  offer-none-reads.Asked,
-  offer-none-reads.Learnt,
-  offer-end-reads.Asked,
-  offer-end-reads.Learnt,
-  offer-all-below t,
-  offer-all.Post,
-  offer-semi-reads.Asked,
-  offer-semi-reads.Learnt,
-  offer-windows-reads.Asked,
-  offer-windows-reads.Learnt,
-) (offer-all-at t) offer-all.Post
-offer-all-offer-semi-requires t c κs = (c .before .before .before .before .before .before .before .before .before .before .pre .1 .0, c .before .before .before .before .before .before .before .before .before .before .pre .1 .1)
-
-offer-all-same-length-2 : (t : ℕ) → offer-all-lts.Need-same-length-2 (
-  offer-none-reads.Asked,
-  offer-none-reads.Learnt,
-  offer-end-reads.Asked,
-  offer-end-reads.Learnt,
-  offer-all-below t,
-  offer-all.Post,
-  offer-semi-reads.Asked,
-  offer-semi-reads.Learnt,
-  offer-windows-reads.Asked,
-  offer-windows-reads.Learnt,
-) (offer-all-at t) offer-all.Post
-offer-all-same-length-2 t c = search needs
-
-offer-all-returns-2 : (t : ℕ) → offer-all-lts.Need-returns-2 (
-  offer-none-reads.Asked,
-  offer-none-reads.Learnt,
-  offer-end-reads.Asked,
-  offer-end-reads.Learnt,
-  offer-all-below t,
-  offer-all.Post,
-  offer-semi-reads.Asked,
-  offer-semi-reads.Learnt,
-  offer-windows-reads.Asked,
-  offer-windows-reads.Learnt,
-) (offer-all-at t) offer-all.Post
-offer-all-returns-2 t c =
-    let k : c .before .before .before .before .before .before .before .before .before .before .before .before .before .args .enzyme .kind ≡ Set (c .before .before .before .before .before .before .before .before .before .kind .given .0 .0) = c .before .before .before .before .before .before .before .before .before .kind .given .1 in
-    rw (k, ne-eqb (c .before .before .before .before .before .before .before .before .before .kind .given .0 .0 .mask) 0 (c .before .before .before .before .before .if1 .left), c .before .before .before .before .if2 .taken) (c .before .before .offer-semi .ensures)
-
-offer-all-offer-windows-requires : (t : ℕ) → offer-all-lts.Need-offer-windows-requires (
-  offer-none-reads.Asked,
-  offer-none-reads.Learnt,
-  offer-end-reads.Asked,
-  offer-end-reads.Learnt,
-  offer-all-below t,
-  offer-all.Post,
-  offer-semi-reads.Asked,
-  offer-semi-reads.Learnt,
-  offer-windows-reads.Asked,
-  offer-windows-reads.Learnt,
-) (offer-all-at t) offer-all.Post
-offer-all-offer-windows-requires t c κs = (c .before .before .before .before .before .before .before .before .before .before .pre .1 .0, c .before .before .before .before .before .before .before .before .before .before .pre .1 .1)
-
-offer-all-same-length-3 : (t : ℕ) → offer-all-lts.Need-same-length-3 (
-  offer-none-reads.Asked,
-  offer-none-reads.Learnt,
-  offer-end-reads.Asked,
-  offer-end-reads.Learnt,
-  offer-all-below t,
-  offer-all.Post,
-  offer-semi-reads.Asked,
-  offer-semi-reads.Learnt,
-  offer-windows-reads.Asked,
-  offer-windows-reads.Learnt,
-) (offer-all-at t) offer-all.Post
-offer-all-same-length-3 t c = search needs
-
-offer-all-returns-3 : (t : ℕ) → offer-all-lts.Need-returns-3 (
-  offer-none-reads.Asked,
-  offer-none-reads.Learnt,
-  offer-end-reads.Asked,
-  offer-end-reads.Learnt,
-  offer-all-below t,
-  offer-all.Post,
-  offer-semi-reads.Asked,
-  offer-semi-reads.Learnt,
-  offer-windows-reads.Asked,
-  offer-windows-reads.Learnt,
-) (offer-all-at t) offer-all.Post
-offer-all-returns-3 t c =
-    let k : c .before .before .before .before .before .before .before .before .args .enzyme .kind ≡ None = c .before .before .before .before .enum-told .given .1 in rw k (c .before .before .offer-none .ensures)
-
-offer-all-same-length-4 : (t : ℕ) → offer-all-lts.Need-same-length-4 (
-  offer-none-reads.Asked,
-  offer-none-reads.Learnt,
-  offer-end-reads.Asked,
-  offer-end-reads.Learnt,
-  offer-all-below t,
-  offer-all.Post,
-  offer-semi-reads.Asked,
-  offer-semi-reads.Learnt,
-  offer-windows-reads.Asked,
-  offer-windows-reads.Learnt,
-) (offer-all-at t) offer-all.Post
-offer-all-same-length-4 t c = search needs
-
-offer-all-returns-4 : (t : ℕ) → offer-all-lts.Need-returns-4 (
-  offer-none-reads.Asked,
-  offer-none-reads.Learnt,
-  offer-end-reads.Asked,
-  offer-end-reads.Learnt,
-  offer-all-below t,
-  offer-all.Post,
-  offer-semi-reads.Asked,
-  offer-semi-reads.Learnt,
-  offer-windows-reads.Asked,
-  offer-windows-reads.Learnt,
-) (offer-all-at t) offer-all.Post
-offer-all-returns-4 t c =
-    let k : c .before .before .before .before .before .before .before .before .args .enzyme .kind ≡ End = c .before .before .before .before .enum-told2 .given .1 in rw k (c .before .before .offer-end .ensures)
-
-offer-all-same-length-5 : (t : ℕ) → offer-all-lts.Need-same-length-5 (
-  offer-none-reads.Asked,
-  offer-none-reads.Learnt,
-  offer-end-reads.Asked,
-  offer-end-reads.Learnt,
-  offer-all-below t,
-  offer-all.Post,
-  offer-semi-reads.Asked,
-  offer-semi-reads.Learnt,
-  offer-windows-reads.Asked,
-  offer-windows-reads.Learnt,
-) (offer-all-at t) offer-all.Post
-offer-all-same-length-5 t c = search needs
-
-offer-all-returns-5 : (t : ℕ) → offer-all-lts.Need-returns-5 (
-  offer-none-reads.Asked,
-  offer-none-reads.Learnt,
-  offer-end-reads.Asked,
-  offer-end-reads.Learnt,
-  offer-all-below t,
-  offer-all.Post,
-  offer-semi-reads.Asked,
-  offer-semi-reads.Learnt,
-  offer-windows-reads.Asked,
-  offer-windows-reads.Learnt,
-) (offer-all-at t) offer-all.Post
-offer-all-returns-5 t c =
-    let k : c .before .before .before .before .before .before .before .before .before .before .before .before .before .args .enzyme .kind ≡ Set (c .before .before .before .before .before .before .before .before .before .kind .given .0 .0) = c .before .before .before .before .before .before .before .before .before .kind .given .1 in
-    rw (k, ne-eqb (c .before .before .before .before .before .before .before .before .before .kind .given .0 .0 .mask) 0 (c .before .before .before .before .before .if1 .left), c .before .before .before .before .if2 .left) (c .before .before .offer-windows .ensures)
-
 pub +offer-all-spec : {M : Type 1} → statement M
 +offer-all-spec = close μ-offer-all λ t. offer-all-lts.spec (
-  offer-none-reads.Asked,
-  offer-none-reads.Learnt,
+  none-small-reads.Asked,
+  none-small-reads.Learnt,
+  none-middle-reads.Asked,
+  none-middle-reads.Learnt,
+  none-large-reads.Asked,
+  none-large-reads.Learnt,
   offer-end-reads.Asked,
   offer-end-reads.Learnt,
+  without-set-reads.Asked,
+  without-set-reads.Learnt,
   offer-all-below t,
   offer-all.Post,
-  offer-semi-reads.Asked,
-  offer-semi-reads.Learnt,
-  offer-windows-reads.Asked,
-  offer-windows-reads.Learnt,
+  knife-of-reads.Asked,
+  knife-of-reads.Learnt,
+  semi-small-reads.Asked,
+  semi-small-reads.Learnt,
+  semi-middle-reads.Asked,
+  semi-middle-reads.Learnt,
+  semi-large-reads.Asked,
+  semi-large-reads.Learnt,
+  windows-small-reads.Asked,
+  windows-small-reads.Learnt,
+  windows-middle-reads.Asked,
+  windows-middle-reads.Learnt,
+  windows-large-reads.Asked,
+  windows-large-reads.Learnt,
 )
     (offer-all-at t)
     offer-all.Post
-    (offer-all-enum-told t)
-    (offer-all-offer-none-requires t)
-    (offer-all-enum-told-2 t)
-    (offer-all-offer-end-requires t)
-    (offer-all-enum-known-kind t)
-    (offer-all-offer-all-requires t)
-    (offer-all-same-length t)
-    (offer-all-returns t)
-    (offer-all-offer-semi-requires t)
-    (offer-all-same-length-2 t)
-    (offer-all-returns-2 t)
-    (offer-all-offer-windows-requires t)
-    (offer-all-same-length-3 t)
-    (offer-all-returns-3 t)
-    (offer-all-same-length-4 t)
-    (offer-all-returns-4 t)
-    (offer-all-same-length-5 t)
-    (offer-all-returns-5 t)
+    (λ c. search needs)
+    (λ c κs. search needs)
+    (λ c. search needs)
+    (λ c. let k : c .before .before .before .before .before .before .before .before .before .args .enzyme .kind ≡ None = c .before .before .before .before .before .enum-told .given .1 in rw k (c .before .before .none-small .ensures))
+    (λ c κs. search needs)
+    (λ c. search needs)
+    (λ c. let k : c .before .before .before .before .before .before .before .before .before .before .args .enzyme .kind ≡ None = c .before .before .before .before .before .before .enum-told .given .1 in rw k (c .before .before .none-middle .ensures))
+    (λ c κs. search needs)
+    (λ c. search needs)
+    (λ c κs. search needs)
+    (λ c. search needs)
+    (λ c κs. search needs)
+    (λ c κs. let s = c .before .before .before .before .before .before .before .before .before in
+    let k : s .args .enzyme .kind ≡ Set (c .before .before .before .before .before .kind .given .0 .0) = c .before .before .before .before .before .kind .given .1 in
+    let e : turns (s .args .enzyme .kind) ≡ 1 = ap turns k in
+    (rw (c .before .without-set .ensures) (omega (arith, s .pre .0, e)), s .pre .1))
+    (λ c. search needs)
+    (λ c. let k : c .before .before .before .before .before .before .before .before .before .before .before .before .args .enzyme .kind ≡ Set (c .before .before .before .before .before .before .before .before .kind .given .0 .0) = c .before .before .before .before .before .before .before .before .kind .given .1 in
+    rw (k, eq-eqb (c .before .before .before .before .before .before .before .before .kind .given .0 .0 .mask) 0 (c .before .before .before .before .before .if3 .taken)) (rw (c .before .before .before .before .without-set .ensures) at (c .before .before .offer-all .ensures)))
+    (λ c κs. search needs)
+    (λ c κs. search needs)
+    (λ c. search needs)
+    (λ c. let k : c .before .before .before .before .before .before .before .before .before .before .before .before .before .before .args .enzyme .kind ≡ Set (c .before .before .before .before .before .before .before .before .before .before .kind .given .0 .0) = c .before .before .before .before .before .before .before .before .before .before .kind .given .1 in
+    rw (k, ne-eqb (c .before .before .before .before .before .before .before .before .before .before .kind .given .0 .0 .mask) 0 (c .before .before .before .before .before .before .before .if3 .left), c .before .before .before .before .before .if4 .taken) (rw (c .before .before .before .before .before .before .knife-of .ensures) at (c .before .before .semi-small .ensures)))
+    (λ c κs. search needs)
+    (λ c. search needs)
+    (λ c. let k : c .before .before .before .before .before .before .before .before .before .before .before .before .before .before .before .args .enzyme .kind ≡ Set (c .before .before .before .before .before .before .before .before .before .before .before .kind .given .0 .0) = c .before .before .before .before .before .before .before .before .before .before .before .kind .given .1 in
+    rw (k, ne-eqb (c .before .before .before .before .before .before .before .before .before .before .before .kind .given .0 .0 .mask) 0 (c .before .before .before .before .before .before .before .before .if3 .left), c .before .before .before .before .before .before .if4 .taken) (rw (c .before .before .before .before .before .before .before .knife-of .ensures) at (c .before .before .semi-middle .ensures)))
+    (λ c κs. search needs)
+    (λ c. search needs)
+    (λ c. let k : c .before .before .before .before .before .before .before .before .before .before .before .before .before .before .before .args .enzyme .kind ≡ Set (c .before .before .before .before .before .before .before .before .before .before .before .kind .given .0 .0) = c .before .before .before .before .before .before .before .before .before .before .before .kind .given .1 in
+    rw (k, ne-eqb (c .before .before .before .before .before .before .before .before .before .before .before .kind .given .0 .0 .mask) 0 (c .before .before .before .before .before .before .before .before .if3 .left), c .before .before .before .before .before .before .if4 .taken) (rw (c .before .before .before .before .before .before .before .knife-of .ensures) at (c .before .before .semi-large .ensures)))
+    (λ c κs. search needs)
+    (λ c. search needs)
+    (λ c. let k : c .before .before .before .before .before .before .before .before .before .before .before .before .before .before .args .enzyme .kind ≡ Set (c .before .before .before .before .before .before .before .before .before .before .kind .given .0 .0) = c .before .before .before .before .before .before .before .before .before .before .kind .given .1 in
+    rw (k, ne-eqb (c .before .before .before .before .before .before .before .before .before .before .kind .given .0 .0 .mask) 0 (c .before .before .before .before .before .before .before .if3 .left), c .before .before .before .before .before .if4 .left) (rw (c .before .before .before .before .before .before .knife-of .ensures) at (c .before .before .windows-small .ensures)))
+    (λ c κs. search needs)
+    (λ c. search needs)
+    (λ c. let k : c .before .before .before .before .before .before .before .before .before .before .before .before .before .before .before .args .enzyme .kind ≡ Set (c .before .before .before .before .before .before .before .before .before .before .before .kind .given .0 .0) = c .before .before .before .before .before .before .before .before .before .before .before .kind .given .1 in
+    rw (k, ne-eqb (c .before .before .before .before .before .before .before .before .before .before .before .kind .given .0 .0 .mask) 0 (c .before .before .before .before .before .before .before .before .if3 .left), c .before .before .before .before .before .before .if4 .left) (rw (c .before .before .before .before .before .before .before .knife-of .ensures) at (c .before .before .windows-middle .ensures)))
+    (λ c κs. search needs)
+    (λ c. search needs)
+    (λ c. let k : c .before .before .before .before .before .before .before .before .before .before .args .enzyme .kind ≡ None = c .before .before .before .before .before .before .enum-told .given .1 in rw k (c .before .before .none-large .ensures))
+    (λ c. search needs)
+    (λ c. let k : c .before .before .before .before .before .before .before .before .args .enzyme .kind ≡ End = c .before .before .before .before .enum-told2 .given .1 in rw k (c .before .before .offer-end .ensures))
+    (λ c. search needs)
+    (λ c. let k : c .before .before .before .before .before .before .before .before .before .before .before .before .before .before .before .args .enzyme .kind ≡ Set (c .before .before .before .before .before .before .before .before .before .before .before .kind .given .0 .0) = c .before .before .before .before .before .before .before .before .before .before .before .kind .given .1 in
+    rw (k, ne-eqb (c .before .before .before .before .before .before .before .before .before .before .before .kind .given .0 .0 .mask) 0 (c .before .before .before .before .before .before .before .before .if3 .left), c .before .before .before .before .before .before .if4 .left) (rw (c .before .before .before .before .before .before .before .knife-of .ensures) at (c .before .before .windows-large .ensures)))
