@@ -3,6 +3,8 @@
 pub mod Passing
 pub mod Enumeration
 pub mod PassingLaws
+pub mod SizeLaws
+pub mod UsedLaws
 pub mod TurnLaws
 pub mod VisitLaws
 pub mod RunLaws

@@ -3,18 +3,19 @@
 use Prim.Native.Nat.{ℕ, suc, _+_, _-_, _*_, _≤_, _<_}
 use mathlib.Core.Path.{_≡_, refl, sym, ap, _∙_, subst}
 use mathlib.Core.Bool.{Bool, true, false}
-use mathlib.Core.List.{List, [], _∷_, _++_, map}
+use mathlib.Core.List.{List, [], _∷_, _++_, map, append-nil}
 use native.Mathlib.Omega.{arith}
 use native.Mathlib.Numerals.{add-one}
 use lib.ListN.{length}
 use lib.Seq.{sets}
 use Rattle.records.specs.RoomLaws.{Standing, standing-more}
 use Rattle.choice_parts.specs.declared.choice.Stepped.{Stepped}
-use Rattle.choice_parts.specs.Choices.{choicesOf, bySize}
+use Rattle.choice_parts.specs.Choices.{choicesOf, bySize, keep}
 use Rattle.choice_parts.specs.KeepLaws.{Sound}
 use Rattle.choice_parts.specs.LoopLaws.{Left, Moved, wordOf, moved, ended, left-first, count-left, fewer}
 use Rattle.choice_parts.specs.Steps.{begun, stepped}
-use Rattle.forms_parts.specs.Enumeration.{mostForms, reached}
+use Rattle.forms_parts.specs.Enumeration.{mostForms, reached, accepted}
+use Rattle.forms_parts.specs.SizeLaws.{larger-none, sizes-none}
 use Rattle.forms_parts.specs.RunLaws.{todo, todo-same, todo-stop, todo-take, todo-none, Runs, Finished, run-done, run-full}
 
 -- at size n, with s the state of the counter; old and count₀ are from when the inner loop began
@@ -25,6 +26,9 @@ pub record Here (ok : List ℕ → Bool) (form : List ℕ → List ℕ) (m limit
   pub left : Left m n s xs
   pub within : count ≤ room
   pub len : length out ≡ length old
+  pub grown : count₀ ≤ count
+  -- while none is taken, none of those behind passed
+  pub none : count ≡ count₀ → keep ok (choicesOf n m 0) ≡ keep ok xs
   pub runs : Runs room (map form (todo ok cap count₀ (choicesOf n m 0 ++ bySize m (suc n) (limit - n)))) old count₀ (map form (todo ok cap count (xs ++ bySize m (suc n) (limit - n)))) out count
 
 pub record Outer (ok : List ℕ → Bool) (form : List ℕ → List ℕ) (m limit cap room : ℕ) (old out : List ℕ) (count n : ℕ) : Type 0 where
@@ -53,7 +57,7 @@ module _ (ok : List ℕ → Bool) (form : List ℕ → List ℕ) (m limit cap ro
       }
 
   pub here-first : (n : ℕ) (old : List ℕ) (count : ℕ) → 1 ≤ n → n ≤ limit → count ≤ room → Here ok form m limit cap n room count old old count (begun n m)
-  here-first n old count a b h = record { low = a; high = b; xs = choicesOf n m 0; left = left-first m n; within = h; len = refl; runs = λ first all q s g. g }
+  here-first n old count a b h = record { low = a; high = b; xs = choicesOf n m 0; left = left-first m n; within = h; len = refl; grown = omega arith; none = λ q. refl; runs = λ first all q s g. g }
 
   module _ (n k₀ : ℕ) (old out : List ℕ) (k : ℕ) (s : Stepped) (h : Here ok form m limit cap n room k₀ old out k s) where
     abbrev more : List (List ℕ)
@@ -76,6 +80,8 @@ module _ (ok : List ℕ → Bool) (form : List ℕ → List ℕ) (m limit cap ro
             left = got .next;
             within = h .within;
             len = h .len;
+            grown = h .grown;
+            none = λ q. h .none q ∙ ap (keep ok) (sym (append-nil (h .xs))) ∙ got .no f [] ∙ ap (keep ok) (append-nil (got .rest));
             runs =
                 runs-as start old k₀ (todo ok cap k (h .xs ++ more)) (todo ok cap k (got .rest ++ more)) out k
                 (todo-same ok cap k (h .xs ++ more) (got .rest ++ more) (got .no f more))
@@ -99,6 +105,8 @@ module _ (ok : List ℕ → Bool) (form : List ℕ → List ℕ) (m limit cap ro
             left = got .next;
             within = omega arith;
             len = l ∙ h .len;
+            grown = omega (arith, h .grown);
+            none = λ (q : k + 1 ≡ k₀). absurd (omega (arith, h .grown));
             runs =
                 λ first all q z t.
                 subst (λ (o : List ℕ). Standing 66 mostForms first all (map form (todo ok cap (k + 1) (got .rest ++ more))) o (k + 1)) (sym w)
@@ -110,6 +118,11 @@ module _ (ok : List ℕ → Bool) (form : List ℕ → List ℕ) (m limit cap ro
 
     pub stopped : reached cap k ≡ true → Runs room start old k₀ [] out k
     stopped g = runs-as start old k₀ (todo ok cap k (h .xs ++ more)) [] out k (todo-stop ok cap k (h .xs ++ more) g) (h .runs)
+
+    -- a size of which none was taken has none that passes
+    pub none-of-size : s .more ≡ false → k ≡ k₀ → keep ok (choicesOf n m 0) ≡ []
+    unfolding keep
+    none-of-size e q = h .none q ∙ ap (keep ok) (ended m n s (h .xs) (h .left) e)
 
     pub all-of-size : s .more ≡ false → Runs room start old k₀ (map form (todo ok cap k (bySize m (n + 1) (limit + 1 - (n + 1))))) out k
     all-of-size e =
@@ -143,6 +156,19 @@ module _ (ok : List ℕ → Bool) (form : List ℕ → List ℕ) (m limit cap ro
 
     pub answer-cap : reached cap k ≡ true → Finished room whole first out (record { fits = true; count = k })
     answer-cap g = run-done room whole first out k (so-far [] (stopped n k₀ old out k s h g))
+
+    -- after a size of which none passes no larger one has any
+    nothing-left : ((p q : List ℕ) → ok p ≡ false → ok (p ++ q) ≡ false) → keep ok (choicesOf n m 0) ≡ [] → (i : ℕ) → keep ok (bySize m (n + 1) i) ≡ []
+    nothing-left bad e i = ap (λ (z : ℕ). keep ok (bySize m z i)) (add-one n) ∙ sizes-none ok bad m (suc n) i (larger-none ok bad m n e)
+
+    pub answer-none : ((p q : List ℕ) → ok p ≡ false → ok (p ++ q) ≡ false) → s .more ≡ false → k ≡ k₀ → Finished room whole first out (record { fits = true; count = k })
+    unfolding accepted
+    answer-none bad e q =
+        run-done room whole first out k
+        (so-far []
+        (runs-as (map form (todo ok cap k₀ (choicesOf n m 0 ++ bySize m (suc n) (limit - n)))) old k₀ (todo ok cap k (bySize m (n + 1) (limit + 1 - (n + 1)))) [] out k
+        (ap (accepted cap k) (nothing-left bad (none-of-size n k₀ old out k s h e q) (limit + 1 - (n + 1))))
+        (all-of-size n k₀ old out k s h e)))
 
     pub outer-next : s .more ≡ false → Outer ok form m limit cap room first out k (n + 1)
     outer-next e =

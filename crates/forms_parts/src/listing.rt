@@ -46,7 +46,8 @@ fn made(bare: Form, table: Form, c: Choice, sites: &[u16], rules: &[u8]) -> Form
 }
 
 // Writes the forms of all choices that pass behind the unchanged one, which stands at place 0 already. Where a choice
-// clashes, the counter skips all that begin with the places that do.
+// clashes, the counter skips all that begin with the places that do. After a size of which no choice passes none of a
+// larger one does.
 pub fn list_forms(
     bare: Form,
     table: Form,
@@ -64,6 +65,7 @@ pub fn list_forms(
     let mut count = 1;
     let mut n = 1;
     'outer: while n <= limit {
+        let had = count;
         let mut s = Choice::first(n, m);
         while s.more {
             let c = s.choice;
@@ -80,6 +82,9 @@ pub fn list_forms(
                 count += 1;
             }
             s = c.next(kept, m);
+        }
+        if count == had {
+            break;
         }
         n += 1;
     }

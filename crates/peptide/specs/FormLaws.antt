@@ -3,7 +3,7 @@
 use Prim.Native.Nat.{ℕ, _/_, _%_, _≤_, _<_}
 use mathlib.Core.Path.{_≡_, refl, sym, ap, _∙_, subst}
 use mathlib.Core.Bool.{Bool, true, false, cond, _&&_, _||_}
-use mathlib.Core.List.{List, [], _∷_, map}
+use mathlib.Core.List.{List, [], _∷_, map, map-map}
 use native.Mathlib.Omega.{arith}
 use lib.ListN.{length, getD, replicate}
 use lib.Seq.{sets}
@@ -21,6 +21,7 @@ use Rattle.modification.specs.Rules.{firstBadRule}
 use Rattle.choice_parts.specs.Choices.{keep, bySize}
 use Rattle.choice_parts.specs.ListingLaws.{Complete, complete}
 use Rattle.peptide_parts.specs.Filling.{apply}
+use Rattle.peptide_parts.specs.Used.{used}
 use Rattle.peptide_parts.specs.FillLaws.{length-apply, filled-stays}
 use Rattle.peptide_parts.specs.Overlays.{overlay}
 use Rattle.peptide_parts.specs.OverlayLaws.{fixed-by-table}
@@ -28,6 +29,7 @@ use Rattle.forms_parts.specs.declared.listing.Listed.{Listed}
 use Rattle.forms_parts.specs.Passing.{passes}
 use Rattle.forms_parts.specs.Enumeration.{mostForms, noCap, choices, chosen, formOf}
 use Rattle.forms_parts.specs.CapLaws.{accepted-all}
+use Rattle.forms_parts.specs.UsedLaws.{choices-used}
 use Rattle.forms_parts.specs.RunLaws.{todo, quick, length-quick, Finished}
 use Rattle.peptide.specs.declared.peptide.Peptide.{Peptide}
 use Rattle.records.specs.declared.refusal.Counted.{Counted}
@@ -178,14 +180,22 @@ map-same : (f g : List ℕ → List ℕ) (xs : List (List ℕ)) → ((c : List �
 map-same f g [] h = refl
 map-same f g (x ∷ xs) h = rw (h x, map-same f g xs h)
 
-pub by-table : (p : Peptide) (variable fixed sites table : List ℕ) (limit cap : ℕ) → length (p .ids) ≡ 64 → sites ≡ sitesOf p variable → table ≡ apply fixed (replicate 66 0) (sitesOf p fixed)
+-- it goes by the sites of the rules that may be used: those of the others are in no choice that passes
+pub by-table : (p : Peptide) (variable fixed sites table : List ℕ) (limit cap : ℕ) → length (p .ids) ≡ 64 → sites ≡ used variable (sitesOf p variable) → table ≡ apply fixed (replicate 66 0) (sitesOf p fixed)
     → map (quick (bare p) table sites variable) (choices sites variable limit cap) ≡ formsOf p variable fixed limit cap
 unfolding formsOf quick formOf
 by-table p variable fixed sites table limit cap l e t =
-    rw (← e)
-    (map-same (quick (bare p) table sites variable) (formOf (bare p) sites variable (sitesOf p fixed) fixed) (choices sites variable limit cap) same)
+    map-same (quick (bare p) table sites variable) (λ (c : List ℕ). on (chosen sites c)) (choices sites variable limit cap) same
+    ∙ sym (map-map on (chosen sites) (choices sites variable limit cap))
+    ∙ ap (λ (s : List ℕ). map on (map (chosen s) (choices s variable limit cap))) e
+    ∙ ap (map on) (sym (choices-used (sitesOf p variable) variable limit cap))
+    ∙ map-map on (chosen (sitesOf p variable)) (choices (sitesOf p variable) variable limit cap)
   where
-    same : (c : List ℕ) → quick (bare p) table sites variable c ≡ formOf (bare p) sites variable (sitesOf p fixed) fixed c
+    -- the form of some sites
+    on : List ℕ → List ℕ
+    on xs = apply fixed (apply variable (bare p) xs) (sitesOf p fixed)
+
+    same : (c : List ℕ) → quick (bare p) table sites variable c ≡ on (chosen sites c)
     same c =
         let n : length (bare p) ≡ 66 = omega arith in
         let k : length (apply variable (bare p) (chosen sites c)) ≡ 66 = length-apply variable (bare p) (chosen sites c) ∙ n in

@@ -67,7 +67,7 @@ fn run(p: Peptide, variable: &[u8], fixed: &[u8], limit: u32, cap: u32, out: &mu
     let table = fixed_table(letters, n, position, fixed);
     let bare = peptide_parts::bare(p.nterm, p.cterm, ids);
     let mut sites = [0u16; 2112];
-    let m = peptide_parts::collect(letters, n, position, variable, &mut sites);
+    let m = peptide_parts::collect_used(letters, n, position, variable, &mut sites);
     let most = limit as usize;
     list_all(bare, table, &sites[0..m], variable, most, cap, out)
 }

@@ -1,12 +1,14 @@
--- What a reader has to believe: Hits, Sites, Filling, Mirror. Overlays says what the code goes by, and the files named Laws
--- what follows.
+-- What a reader has to believe: Hits, Sites, Filling, Mirror. Overlays and Used say what the code goes by, and the files
+-- named Laws what follows.
 pub mod Hits
 pub mod Sites
 pub mod Filling
 pub mod Mirror
 pub mod Overlays
+pub mod Used
 pub mod WroteLaws
 pub mod SiteLaws
+pub mod UsedLaws
 pub mod OverlayLaws
 pub mod FillLaws
 pub mod MirrorLaws

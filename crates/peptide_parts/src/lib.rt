@@ -14,4 +14,5 @@ pub use form::with_all;
 pub use mirror::mirrored;
 pub use mirror::zero_from;
 pub use sites::collect;
+pub use sites::collect_used;
 pub use sites::site_at;

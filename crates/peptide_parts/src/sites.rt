@@ -2,9 +2,11 @@
 use crate::hits;
 ghost use mathlib.Core.Path.{_≡_};
 ghost use Prim.Native.Nat.{_+_, _≤_, _<_};
-ghost use lib.ListN.{length, getD};
+ghost use lib.ListN.{length, getD, take};
 ghost use Rattle.peptide_parts.specs.Sites.{ifHit, placesOf, slotsOf, allSites};
 ghost use Rattle.peptide_parts.specs.WroteLaws.{Wrote};
+ghost use Rattle.peptide_parts.specs.Used.{used};
+ghost use Rattle.peptide_parts.specs.UsedLaws.{Sifted};
 
 // The site at a place of a list; 0 past its end.
 pub fn site_at(sites: &[u16], k: usize) -> u16
@@ -86,4 +88,37 @@ pub fn collect(letters: [u8; 64], n: usize, position: u8, rules: &[u8], out: &mu
         r += 1;
     }
     at
+}
+
+// Leaves out, of the first m sites, those of rules whose limit is 0, and answers how many stay: a choice with such a site
+// never passes.
+fn keep_used(rules: &[u8], m: usize, out: &mut [u16]) -> usize
+    requires { ⌜ m ≤ length (now out) ⌝ }
+    ensures { λ r. ⌜ Sifted (now (rules .entry)) (now (out .entry)) (now (out .exit)) m r ⌝ }
+{
+    let mut next = 0;
+    let mut i = 0;
+    while i < m {
+        let site = out[i];
+        let rule = (site / 128) as usize;
+        let limit = records::u32_at(rules, rule * 8 + 4);
+        next = put_if(out, next, limit != 0, site);
+        i += 1;
+    }
+    next
+}
+
+// The sites of the rules that may be used at all, in order.
+pub fn collect_used(
+    letters: [u8; 64],
+    n: usize,
+    position: u8,
+    rules: &[u8],
+    out: &mut [u16],
+) -> usize
+    requires { ⌜ (n ≤ 64) × (length (now rules) ≤ 256) × (2112 ≤ length (now out)) ⌝ }
+    ensures { λ r. ⌜ (r ≤ 2112) × (take r (now (out .exit)) ≡ used (now (rules .entry)) (allSites letters n position (now (rules .entry)))) ⌝ }
+{
+    let m = collect(letters, n, position, rules, out);
+    keep_used(rules, m, out)
 }

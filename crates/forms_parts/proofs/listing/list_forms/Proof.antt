@@ -10,18 +10,19 @@ use lib.Seq.{sets}
 use Rattle.choice_parts.specs.LoopLaws.{count-left, left-wide, wordOf}
 use Rattle.choice_parts.specs.Steps.{stepped}
 use Rattle.choice_parts.specs.declared.choice.Stepped.{Stepped}
-use Rattle.forms_parts.specs.LoopLaws.{Here, Outer, answer-cap, answer-end, answer-no-room, here-first, less, outer-first, outer-next, skipped, took}
+use Rattle.forms_parts.specs.LoopLaws.{Here, Outer, answer-cap, answer-end, answer-no-room, answer-none, here-first, less, outer-first, outer-next, skipped, took}
 use Rattle.forms_parts.specs.Passing.{passes}
+use Rattle.forms_parts.specs.PassingLaws.{bad-append}
 use Rattle.forms_parts.specs.RunLaws.{quick, cap-ahead, cap-reached}
 use Rattle.forms_parts.specs.TurnLaws.{reached-part, reached-sound, reached-whole}
 use Rattle.forms_parts.proofs.listing.list_forms.Statement.{statement}
 use Rattle.forms_parts.proofs.listing.list_forms.Tie as tie
 
 abbrev Inv-loop : tie.InvT-loop
-Inv-loop bare table sites rules limit cap room out₀ m count₀ n s₀ out count s = Here (passes sites rules) (quick (bare .slots) (table .slots) sites rules) m limit cap n room count₀ out₀ out count s
+Inv-loop bare table sites rules limit cap room out₀ m count₀ n had s₀ out count s = Here (passes sites rules) (quick (bare .slots) (table .slots) sites rules) m limit cap n room count₀ out₀ out count s
 
 abbrev μ-loop : tie.MeasureT-loop
-μ-loop bare table sites rules limit cap room out₀ m count₀ n s₀ out count s = count-left m n s
+μ-loop bare table sites rules limit cap room out₀ m count₀ n had s₀ out count s = count-left m n s
 
 abbrev Inv-outer : tie.InvT-outer
 Inv-outer bare table sites rules limit cap room out₀ m count₀ n₀ out count n = Outer (passes sites rules) (quick (bare .slots) (table .slots) sites rules) m limit cap room out₀ out count n
@@ -138,21 +139,21 @@ loop-again c =
     (c .before .if1 .came))
 
 add-n : tie.Need-add-n Inv-loop μ-loop Inv-outer μ-outer
-add-n c = omega (arith, c .before .loop .inv .high)
+add-n c = omega (arith, c .before .before .loop .inv .high)
 
 outer-less : tie.Need-outer-less Inv-loop μ-loop Inv-outer μ-outer
-outer-less c = omega (arith, c .before .loop .inv .high)
+outer-less c = omega (arith, c .before .before .loop .inv .high)
 
 outer-again : tie.Need-outer-again Inv-loop μ-loop Inv-outer μ-outer
 outer-again c =
-    let a = c .before .before .before .before .before .before .before .before .args in
+    let a = c .before .before .before .before .before .before .before .before .before .args in
     let ok = passes (a .sites .now) (a .rules .now) in
     let form = quick (a .bare .slots) (a .table .slots) (a .sites .now) (a .rules .now) in
     let m = length (a .sites .now) in
     let room = a .room in
-    let o = c .before .before .before .before .outer in
-    let l = c .before .loop in
-    outer-next ok form m (a .limit) (a .cap) room (a .out .now) (o .out) (l .out) (o .count) (l .count) (o .n) (l .s) (o .inv) (l .inv) (c .loop-test .left)
+    let o = c .before .before .before .before .before .outer in
+    let l = c .before .before .loop in
+    outer-next ok form m (a .limit) (a .cap) room (a .out .now) (o .out) (l .out) (o .count) (l .count) (o .n) (l .s) (o .inv) (l .inv) (c .before .loop-test .left)
 
 same-length-2 : tie.Need-same-length-2 Inv-loop μ-loop Inv-outer μ-outer
 same-length-2 c = c .before .outer .inv .len
@@ -181,6 +182,20 @@ returns-3 c =
     let l = c .before .before .before .before .before .loop in
     answer-cap ok form m (a .limit) (a .cap) room (a .out .now) (o .out) (l .out) (o .count) (l .count) (o .n) (l .s) (o .inv) (l .inv) (cap-reached (a .cap) (l .count) (omega (arith, l .inv .within, c .before .before .before .before .before .before .before .before .before .before .before .before .pre .2)) (c .if2 .taken))
 
+same-length-4 : tie.Need-same-length-4 Inv-loop μ-loop Inv-outer μ-outer
+same-length-4 c = c .before .before .loop .inv .len ∙ c .before .before .before .before .before .outer .inv .len
+
+returns-4 : tie.Need-returns-4 Inv-loop μ-loop Inv-outer μ-outer
+returns-4 c =
+    let a = c .before .before .before .before .before .before .before .before .before .args in
+    let ok = passes (a .sites .now) (a .rules .now) in
+    let form = quick (a .bare .slots) (a .table .slots) (a .sites .now) (a .rules .now) in
+    let m = length (a .sites .now) in
+    let room = a .room in
+    let o = c .before .before .before .before .before .outer in
+    let l = c .before .before .loop in
+    answer-none ok form m (a .limit) (a .cap) room (a .out .now) (o .out) (l .out) (o .count) (l .count) (o .n) (l .s) (o .inv) (l .inv) (bad-append (a .sites .now) (a .rules .now)) (c .before .loop-test .left) (c .if4 .taken)
+
 pub list-forms-spec : {M : Type 1} → statement M
 list-forms-spec =
     tie.close
@@ -208,4 +223,6 @@ list-forms-spec =
     same-length-2
     returns-2
     same-length-3
-    returns-3)
+    returns-3
+    same-length-4
+    returns-4)

@@ -6,8 +6,7 @@ use denote.Ref.{now}
 use mathlib.Core.List.{List, map}
 use native.Mathlib.Nat.{sub-zero}
 use lib.ListN.{length, take, length-replicate}
-use Rattle.peptide_parts.specs.SiteLaws.{all-few}
-use Rattle.peptide_parts.specs.WroteLaws.{wrote-length, wrote-taken}
+use Rattle.peptide_parts.specs.Used.{used}
 use Rattle.forms_parts.specs.Enumeration.{choices}
 use Rattle.forms_parts.specs.RunLaws.{quick}
 use Rattle.peptide.specs.Forms.{listed, sitesOf}
@@ -25,11 +24,11 @@ fixed-table-requires c κs = search needs
 bare-requires : tie.Need-bare-requires
 bare-requires c κs = search needs
 
-slice-aggregate-collect : tie.Need-slice-aggregate-collect
-slice-aggregate-collect c = search needs
+slice-aggregate-collect-used : tie.Need-slice-aggregate-collect-used
+slice-aggregate-collect-used c = search needs
 
-collect-requires : tie.Need-collect-requires
-collect-requires c κs = search needs
+collect-used-requires : tie.Need-collect-used-requires
+collect-used-requires c κs = search needs
 
 sub-list-all : tie.Need-sub-list-all
 sub-list-all c = search needs
@@ -39,9 +38,8 @@ part-list-all-start c = search needs
 
 part-list-all-end : tie.Need-part-list-all-end
 part-list-all-end c =
-    let a = c .before .before .before .before .before .before .before .before .before .before .before .before .args in
-    let k = c .before .before .collect in
-    omega (arith, k .ensures .next, wrote-length _ _ _ _ _ (k .ensures), length-replicate {A = ℕ} 2112 0, all-few (a .p .letters) (a .p .len) (a .p .position) (now (a .variable)) (c .before .before .before .before .before .before .before .before .before .before .before .before .pre .0) (c .before .before .before .before .before .before .before .before .before .before .before .before .pre .1))
+    let k = c .before .before .collect-used in
+    omega (arith, k .ensures .0, k .kept .1 .1 .1 .1 .0, length-replicate {A = ℕ} 2112 0)
 
 list-all-requires : tie.Need-list-all-requires
 list-all-requires c κs = search needs
@@ -52,11 +50,11 @@ same-length c = search needs
 returns : tie.Need-returns
 returns c =
     let a = c .before .before .before .before .before .before .before .before .before .before .before .before .before .before .before .before .before .args in
-    let k = c .before .before .before .before .before .before .before .collect in
+    let k = c .before .before .before .before .before .before .before .collect-used in
     let table = c .before .before .before .before .before .before .before .before .before .before .fixed-table .result .slots in
     let sites = take (k .result - 0) (k .last .1 .1 .1 .1 .0) in
     let n : length (a .p .ids) ≡ 64 = search (needs, c .before .before .before .before .before .before .before .before .before .before .before .before .before .before .before .before .before .good .0) in
-    let e : sites ≡ sitesOf (a .p) (now (a .variable)) = ap (λ (z : ℕ). take z (k .last .1 .1 .1 .1 .0)) (sub-zero (k .result)) ∙ wrote-taken _ _ _ _ (omega (arith, length-replicate {A = ℕ} 2112 0, all-few (a .p .letters) (a .p .len) (a .p .position) (now (a .variable)) (c .before .before .before .before .before .before .before .before .before .before .before .before .before .before .before .before .before .pre .0) (c .before .before .before .before .before .before .before .before .before .before .before .before .before .before .before .before .before .pre .1))) (k .ensures) in
+    let e : sites ≡ used (now (a .variable)) (sitesOf (a .p) (now (a .variable))) = ap (λ (z : ℕ). take z (k .last .1 .1 .1 .1 .0)) (sub-zero (k .result)) ∙ k .ensures .1 in
     c .before .before .list-all .ensures
     ∙ ap (λ (z : List ℕ). listed (now (a .out)) (map (quick z table sites (now (a .variable))) (choices sites (now (a .variable)) (a .limit) (a .cap)))) (c .before .before .before .before .before .before .before .before .before .bare .ensures)
     ∙ ap (listed (now (a .out))) (by-table (a .p) (now (a .variable)) (now (a .fixed)) sites table (a .limit) (a .cap) n e (c .before .before .before .before .before .before .before .before .before .before .fixed-table .ensures))
@@ -68,8 +66,8 @@ run-spec =
     cast-n
     fixed-table-requires
     bare-requires
-    slice-aggregate-collect
-    collect-requires
+    slice-aggregate-collect-used
+    collect-used-requires
     sub-list-all
     part-list-all-start
     part-list-all-end
