@@ -1,0 +1,81 @@
+-- The parts of repeated windows need not be offered. Assumes nothing.
+use Prim.Native.Nat.{ℕ, suc, _≤_}
+use mathlib.Core.Path.{_≡_, refl, sym, ap, _∙_}
+use mathlib.Core.Bool.{true}
+use mathlib.Core.List.{List, [], _∷_, foldl, Sublistᴰ, Sublistᴰ·refl, Sublistᴰ·append}
+use native.Mathlib.Omega.{arith}
+use lib.ListN.{length}
+use Rattle.cutting_parts.specs.declared.enzyme.Knife.{Knife}
+use Rattle.cutting_parts.specs.Cutting.{Range, setSites, windowsFrom, keep}
+use Rattle.cutting_parts.specs.Work.{Inside}
+use Rattle.offering_parts.specs.declared.offering.Terms.{Terms}
+use Rattle.offering_parts.specs.Steps.{offers}
+use Rattle.enzyme_windows.specs.Pieces.{pieces, placed}
+use Rattle.enzyme_windows.specs.PieceLaws.{joined-pieces}
+use Rattle.enzyme_windows.specs.SiteLaws.{nonEmpty, sites-pieces}
+use Rattle.enzyme_windows.specs.LookedLaws.{firsts, kept-firsts}
+use Rattle.enzyme_windows.specs.FirstLaws.{shared-window}
+use Rattle.enzyme_windows.specs.TableLaws.{Counted}
+use Rattle.enzyme_once.specs.Once.{filled, once}
+use Rattle.enzyme_once.specs.DistinctLaws.{Distinct, once-once}
+use Rattle.enzyme_once.specs.RangeLaws.{once-inside}
+use Rattle.enzyme_picks.specs.Picks.{puts}
+use Rattle.enzyme_picks.specs.PutLaws.{offers-puts}
+use Rattle.enzyme_fresh.specs.Fresh.{fresh, Repeats}
+use Rattle.enzyme_fresh.specs.KeptLaws.{placed-spots, fresh-same}
+use Rattle.enzyme_fresh.specs.FewerLaws.{fewer-distinct, fewer-inside, from-fewer}
+
+-- ---- what the numbers say
+
+module _ (ts : List (List ℕ)) (f : ℕ → ℕ) where
+  pub counted-repeats : (n : ℕ) → Counted ts n f → Repeats ts f
+  counted-repeats n c i m h l = let e = c i h in shared-window ts m i (omega arith)
+
+  -- smaller numbers
+  pub fewer-repeats : (g : ℕ → ℕ) → ((i : ℕ) → g i ≤ f i) → Repeats ts f → Repeats ts g
+  fewer-repeats g e r i n h l = let k = e i in r i n h (omega arith)
+
+pub zero-repeats : (ts : List (List ℕ)) → Repeats ts (λ i. 0)
+zero-repeats ts i n h l = absurd (omega arith)
+
+-- ---- the ranges that are left
+
+module _ (f : ℕ → ℕ) (k : Knife) (missed : ℕ) (s : List ℕ) where
+  fresh-fewer : Sublistᴰ (fresh f k missed s) (once k true missed s)
+  fresh-fewer =
+      let rs = filled (setSites k 0 0 s) in
+      Sublistᴰ·append (Sublistᴰ·refl (windowsFrom 0 (suc missed) rs)) (from-fewer f (suc missed) 0 rs)
+
+  pub fresh-inside : Inside (length s) (fresh f k missed s)
+  fresh-inside = fewer-inside (length s) fresh-fewer (once-inside k true missed s)
+
+  pub fresh-once : Distinct (fresh f k missed s)
+  fresh-once = fewer-distinct fresh-fewer (once-once k true missed s)
+
+-- ---- the same digests
+
+filled-same : (rs : List Range) → filled rs ≡ nonEmpty rs
+filled-same [] = refl
+filled-same (r ∷ rs) = rw (filled-same rs)
+
+-- the sites that are not empty are the pieces at their places
+pub filled-pieces : (k : Knife) (s : List ℕ) → filled (setSites k 0 0 s) ≡ placed 0 (pieces k s)
+filled-pieces k s = filled-same (setSites k 0 0 s) ∙ sites-pieces k s
+
+module _ (f : ℕ → ℕ) (k : Knife) (missed : ℕ) (s : List ℕ) (rep : Repeats (pieces k s) f) where
+  fresh-firsts : (mn mx : ℕ) → firsts s mn mx [] (once k true missed s) ≡ firsts s mn mx [] (fresh f k missed s)
+  fresh-firsts mn mx =
+      let e = filled-pieces k s ∙ placed-spots (pieces k s) 0 (length (pieces k s)) (omega arith) in
+      let a = once-inside k true missed s in
+      rw e (fresh-same s mn mx (pieces k s) (joined-pieces k s) f rep (suc missed) (rw e at a) [])
+
+  pub fresh-keeps : (mn mx : ℕ) → foldl (keep s mn mx) [] (fresh f k missed s) ≡ foldl (keep s mn mx) [] (once k true missed s)
+  fresh-keeps mn mx =
+      kept-firsts s mn mx (fresh f k missed s) (fresh-inside f k missed s) ∙ sym (fresh-firsts mn mx) ∙ sym (kept-firsts s mn mx (once k true missed s) (once-inside k true missed s))
+
+  -- the same records: as long as a record's numbers hold the ranges
+  pub fresh-offers : length s ≤ 65536 → (t : Terms) (out : List ℕ) → offers s t (fresh f k missed s) 0 out ≡ offers s t (once k true missed s) 0 out
+  fresh-offers small t out =
+      offers-puts s t small (fresh f k missed s) (fresh-inside f k missed s) out
+      ∙ ap (λ (rs : List Range). puts (length s) (t .protein) rs 0 out) (fresh-keeps (t .minimum) (t .maximum))
+      ∙ sym (offers-puts s t small (once k true missed s) (once-inside k true missed s) out)
