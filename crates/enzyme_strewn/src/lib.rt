@@ -1,5 +1,6 @@
 // Sites strewn into buckets before they are sorted. Only crates of this repository call this.
 mod codes;
+mod counting;
 mod strewing;
 
 pub use strewing::strew;
