@@ -21,7 +21,7 @@ alike? t u = go (truth? (same t u))
 
 module _ (text : ℕ → List ℕ) (w r : List ℕ) (g : ℕ) (ln : Lined text w g) (rn : Runs text w r g) where
   -- a run starts no later than any of its places, with the same text
-  run-start : (p : ℕ) → p < g → (getD r p 0 ≤ p) × (text (getD w (getD r p 0) 0) ≡ text (getD w p 0))
+  pub run-start : (p : ℕ) → p < g → (getD r p 0 ≤ p) × (text (getD w (getD r p 0) 0) ≡ text (getD w p 0))
   run-start zero h = let e = rn .start h in (omega arith, ap (λ (z : ℕ). text (getD w z 0)) e)
   run-start (suc p) h = go (alike? (text (getD w p 0)) (text (getD w (suc p) 0))) (run-start p (omega arith))
     where

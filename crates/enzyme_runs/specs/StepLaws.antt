@@ -9,8 +9,8 @@ use borrow.Author.Tests.{ltb-true, lt-ltb, ne-eqb}
 use lib.Dec.{ltb, eqb}
 use lib.ListN.{getD}
 use Rattle.records.specs.Tests.{same?, below?, both}
-use Rattle.enzyme_runs.specs.Steps.{Has, Arranged, Runs, Brought, Marked, inRun, goesOn, Kept, Stepped}
-use Rattle.enzyme_runs.specs.RunLaws.{runs-back, runs-same, first-least, first-later, run-later, run-sooner}
+use Rattle.enzyme_runs.specs.Steps.{Has, Arranged, Runs, Brought, Called, Marked, OneName, inRun, goesOn, Kept, Stepped}
+use Rattle.enzyme_runs.specs.RunLaws.{run-start, runs-back, runs-same, first-least, first-later, run-later, run-sooner}
 
 module _ (text : ℕ → List ℕ) (y x r x' rank rank' share share' : List ℕ) (g k m n : ℕ)
     (ar : Arranged text y x g) (rn : Runs text x r g) (br : Brought x r rank rank' g) (mk : Marked x r share share' n g) (kp : Kept (goesOn x r g m n) x x' g k)
@@ -84,3 +84,21 @@ module _ (text : ℕ → List ℕ) (y x r x' rank rank' share share' : List ℕ)
       first = λ z a none. first z (ar .into z a) (λ v b l t. none v (ar .from v b) l t);
       rest = λ z a. mk .rest z (λ (b : Has x g z). a (ar .from z b));
     }
+
+-- the first of a run is the name of all of it
+module _ (text : ℕ → List ℕ) (y x r name name' : List ℕ) (g : ℕ) (ar : Arranged text y x g) (rn : Runs text x r g) (cl : Called x r name name' g) where
+  named-first : (z p : ℕ) → p < g → getD x p 0 ≡ z → getD name' z 0 ≡ getD x (getD r p 0) 0
+  named-first z p h e = ap (λ (i : ℕ). getD name' i 0) (sym e) ∙ cl .at p h
+
+  pub one-name : OneName text y name name' g
+  one-name = record {
+    like = λ z a.
+        let (p, h, e) = ar .into z a in
+        ap text (named-first z p h e) ∙ run-start text x r g (ar .lined) rn p h .1 ∙ ap text e;
+    same = λ z v a b t.
+        let (p, h, e) = ar .into z a in
+        let (q, l, f) = ar .into v b in
+        let s = runs-same text x r g (ar .lined) rn p q h l (ap text e ∙ t ∙ sym (ap text f)) in
+        named-first z p h e ∙ ap (λ (i : ℕ). getD x i 0) s ∙ sym (named-first v q l f);
+    rest = λ z a. cl .rest z (λ (b : Has x g z). a (ar .from z b));
+  }

@@ -37,11 +37,19 @@ pub record Runs (text : ℕ → List ℕ) (w r : List ℕ) (g : ℕ) : Type 0 wh
   pub same : (p q : ℕ) → q ≡ p + 1 → q < g → text (getD w p 0) ≡ text (getD w q 0) → getD r q 0 ≡ getD r p 0
   pub differ : (p q : ℕ) → q ≡ p + 1 → q < g → (text (getD w p 0) ≡ text (getD w q 0) → ⊥) → getD r q 0 ≡ q
 
--- x is y with what stands in r written for the first g of w
-pub record Brought (w r y x : List ℕ) (g : ℕ) : Type 0 where
+-- x is y with f p written for the p-th of the first g of w
+pub record Written (f : ℕ → ℕ) (w y x : List ℕ) (g : ℕ) : Type 0 where
   pub long : length x ≡ length y
-  pub at : (p : ℕ) → p < g → getD x (getD w p 0) 0 ≡ getD r p 0
+  pub at : (p : ℕ) → p < g → getD x (getD w p 0) 0 ≡ f p
   pub rest : (z : ℕ) → (Has w g z → ⊥) → getD x z 0 ≡ getD y z 0
+
+-- what is written is where the run starts
+abbrev pub Brought : List ℕ → List ℕ → List ℕ → List ℕ → ℕ → Type 0
+Brought w r = Written (λ p. getD r p 0) w
+
+-- it is the first of the run
+abbrev pub Called : List ℕ → List ℕ → List ℕ → List ℕ → ℕ → Type 0
+Called w r = Written (λ p. getD w (getD r p 0) 0) w
 
 -- x is y with n written for those of the first g of w that are not the first of their run
 pub record Marked (w r y x : List ℕ) (n g : ℕ) : Type 0 where
@@ -49,6 +57,12 @@ pub record Marked (w r y x : List ℕ) (n g : ℕ) : Type 0 where
   pub later : (p : ℕ) → p < g → (getD r p 0 ≡ p → ⊥) → getD x (getD w p 0) 0 ≡ n
   pub first : (p : ℕ) → p < g → getD r p 0 ≡ p → getD x (getD w p 0) 0 ≡ getD y (getD w p 0) 0
   pub rest : (z : ℕ) → (Has w g z → ⊥) → getD x z 0 ≡ getD y z 0
+
+-- the first g of y have a site of their text as their name, all of one text the same one; the others keep their name
+pub record OneName (text : ℕ → List ℕ) (y name name' : List ℕ) (g : ℕ) : Type 0 where
+  pub like : (z : ℕ) → Has y g z → text (getD name' z 0) ≡ text z
+  pub same : (z v : ℕ) → Has y g z → Has y g v → text z ≡ text v → getD name' z 0 ≡ getD name' v 0
+  pub rest : (z : ℕ) → (Has y g z → ⊥) → getD name' z 0 ≡ getD name z 0
 
 -- whether the p-th is in a run of two or more
 abbrev pub inRun : List ℕ → ℕ → ℕ → Bool

@@ -13,7 +13,7 @@ use Rattle.records.specs.Tests.{below?}
 use Rattle.sorting_parts.specs.SortLaws.{clash}
 use Rattle.cutting_parts.specs.Cutting.{same}
 use Rattle.cutting_parts.specs.SameLaws.{same-self, same-eq}
-use Rattle.enzyme_runs.specs.Steps.{Has, Apart, Runs, Brought, Marked, Kept}
+use Rattle.enzyme_runs.specs.Steps.{Has, Apart, Runs, Written, Marked, Kept}
 
 -- an index below i + 1 is below i, or it is i
 upTo : (P : ℕ → Type 0) (i p : ℕ) → p < i + 1 → (p < i → P p) → P i → P p
@@ -111,16 +111,16 @@ module _ (w x : List ℕ) (i v : ℕ) (g : ℕ) (a : Apart w g) (h : i < g) wher
   untouched : (z : ℕ) → (Has w (i + 1) z → ⊥) → getD (set x (getD w i 0) v) z 0 ≡ getD x z 0
   untouched z n = getD-set-other x (getD w i 0) z v 0 (λ (q : z ≡ getD w i 0). n (i, omega arith, sym q))
 
-pub brought-none : (w r y : List ℕ) → Brought w r y y 0
-brought-none w r y = record { long = refl; at = λ p h. absurd (omega arith); rest = λ z n. refl }
+pub written-none : (f : ℕ → ℕ) (w y : List ℕ) → Written f w y y 0
+written-none f w y = record { long = refl; at = λ p h. absurd (omega arith); rest = λ z n. refl }
 
-pub brought-more : (w r y x : List ℕ) (g i : ℕ) → Apart w g → i < g → getD w i 0 < length y → Brought w r y x i → Brought w r y (set x (getD w i 0) (getD r i 0)) (i + 1)
-brought-more w r y x g i a h room b = record {
-  long = length-set x (getD w i 0) (getD r i 0) ∙ b .long;
-  at = λ p l. upTo (λ (p : ℕ). getD (set x (getD w i 0) (getD r i 0)) (getD w p 0) 0 ≡ getD r p 0) i p l
-      (λ k. spared w x i (getD r i 0) g a h p k ∙ b .at p k)
-      (getD-set-same x (getD w i 0) (getD r i 0) 0 (omega (arith, b .long)));
-  rest = λ z n. untouched w x i (getD r i 0) g a h z n ∙ b .rest z (λ (k : Has w i z). n (has-more w i z k));
+pub written-more : (f : ℕ → ℕ) (w y x : List ℕ) (g i : ℕ) → Apart w g → i < g → getD w i 0 < length y → Written f w y x i → Written f w y (set x (getD w i 0) (f i)) (i + 1)
+written-more f w y x g i a h room b = record {
+  long = length-set x (getD w i 0) (f i) ∙ b .long;
+  at = λ p l. upTo (λ (p : ℕ). getD (set x (getD w i 0) (f i)) (getD w p 0) 0 ≡ f p) i p l
+      (λ k. spared w x i (f i) g a h p k ∙ b .at p k)
+      (getD-set-same x (getD w i 0) (f i) 0 (omega (arith, b .long)));
+  rest = λ z n. untouched w x i (f i) g a h z n ∙ b .rest z (λ (k : Has w i z). n (has-more w i z k));
 }
 
 pub marked-none : (w r y : List ℕ) (n : ℕ) → Marked w r y y n 0

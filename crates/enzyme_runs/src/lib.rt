@@ -7,7 +7,7 @@ mod runs;
 
 pub use keeping::keep;
 pub use rows::bring;
-pub use rows::copy_names;
 pub use rows::count_up;
 pub use rows::mark;
+pub use rows::name_runs;
 pub use runs::line_up;

@@ -4,7 +4,7 @@ ghost use mathlib.Core.Bool.{cond};
 ghost use Prim.Native.Nat.{ℕ, _≤_, _<_};
 ghost use lib.Dec.{eqb};
 ghost use lib.ListN.{length, getD};
-ghost use Rattle.enzyme_runs.specs.Steps.{Has, Apart, Brought, Marked};
+ghost use Rattle.enzyme_runs.specs.Steps.{Has, Apart, Brought, Called, Marked};
 
 pub(crate) fn wide(x: u16) -> usize
     ensures { λ r. ⌜ r ≡ x ⌝ }
@@ -26,18 +26,6 @@ pub fn count_up(order: &mut [u16], share: &mut [u8], m: usize)
     }
 }
 
-// Copies the ranks of m sites to their names.
-pub fn copy_names(rank: &[u16], name: &mut [u16], m: usize)
-    requires { ⌜ (m ≤ length (now rank)) × (m ≤ length (now name)) ⌝ }
-    ensures { λ _. ⌜ ((i : ℕ) → i < m → getD (now (name .exit)) i 0 ≡ getD (now (rank .entry)) i 0) ⌝ }
-{
-    let mut i = 0;
-    while i < m {
-        name[i] = rank[i];
-        i += 1;
-    }
-}
-
 // Ranks the first g sites in the order by where their runs start.
 pub fn bring(order: &[u16], runs: &[u16], rank: &mut [u16], g: usize)
     requires { ⌜ (g ≤ length (now order)) × (g ≤ length (now runs)) × Apart (now order) g × ((z : ℕ) → Has (now order) g z → z < length (now rank)) ⌝ }
@@ -47,6 +35,20 @@ pub fn bring(order: &[u16], runs: &[u16], rank: &mut [u16], g: usize)
     while i < g {
         let x = wide(order[i]);
         rank[x] = runs[i];
+        i += 1;
+    }
+}
+
+// Names the first g sites in the order by the first site of their run.
+pub fn name_runs(order: &[u16], runs: &[u16], name: &mut [u16], g: usize)
+    requires { ⌜ (g ≤ length (now order)) × (g ≤ length (now runs)) × Apart (now order) g × ((z : ℕ) → Has (now order) g z → z < length (now name)) × ((p : ℕ) → p < g → getD (now runs) p 0 < g) ⌝ }
+    ensures { λ _. ⌜ Called (now (order .entry)) (now (runs .entry)) (now (name .entry)) (now (name .exit)) g ⌝ }
+{
+    let mut i = 0;
+    while i < g {
+        let x = wide(order[i]);
+        let first = wide(runs[i]);
+        name[x] = order[first];
         i += 1;
     }
 }

@@ -5,7 +5,7 @@ use Prim.Native.Nat.{_≤_, _-_}
 use native.Mathlib.Omega.{arith}
 use borrow.Author.Needs.{needs}
 use Rattle.enzyme_runs.specs.Steps.{Brought}
-use Rattle.enzyme_runs.specs.TurnLaws.{brought-none, brought-more}
+use Rattle.enzyme_runs.specs.TurnLaws.{written-none, written-more}
 use Rattle.enzyme_runs.proofs.rows.bring.Statement.{statement}
 use Rattle.enzyme_runs.proofs.rows.bring.Tie as tie
 
@@ -16,7 +16,7 @@ abbrev μ-loop : tie.MeasureT-loop
 μ-loop order runs rank₀ g i₀ rank i = g - i
 
 loop-holds : tie.Need-loop-holds Inv-loop μ-loop
-loop-holds c = let a = c .before .before .before .args in (omega arith, brought-none (a .order .now) (a .runs .now) (a .rank .now))
+loop-holds c = let a = c .before .before .before .args in (omega arith, written-none (λ p. getD (a .runs .now) p 0) (a .order .now) (a .rank .now))
 
 mul-wide : tie.Need-mul-wide Inv-loop μ-loop
 mul-wide c = omega arith
@@ -46,7 +46,7 @@ loop-again : tie.Need-loop-again Inv-loop μ-loop
 loop-again c = let a = c .before .before .before .before .before .before .before .before .args in
     let l = c .before .before .before .before .loop in
     let b = c .before .before .before .before .before .before .before .before .pre .3 (getD (a .order .now) (l .i) 0) (l .i, omega arith, refl) in
-    rw (c .before .wide .ensures) (omega arith, brought-more (a .order .now) (a .runs .now) (a .rank .now) (l .rank) (a .g) (l .i) (c .before .before .before .before .before .before .before .before .pre .2) (omega arith) b (l .inv .1))
+    rw (c .before .wide .ensures) (omega arith, written-more (λ p. getD (a .runs .now) p 0) (a .order .now) (a .rank .now) (l .rank) (a .g) (l .i) (c .before .before .before .before .before .before .before .before .pre .2) (omega arith) b (l .inv .1))
 
 same-length : tie.Need-same-length Inv-loop μ-loop
 same-length c = c .before .loop .inv .1 .long
