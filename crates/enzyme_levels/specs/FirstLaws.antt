@@ -10,7 +10,7 @@ use native.Mathlib.Numerals.{add-one}
 use borrow.Author.Tests.{lt-ltb, ltb-true}
 use lib.Dec.{ltb}
 use lib.ListN.{length, getD, take, drop, length-append, take-append-drop}
-use Rattle.records.specs.Tests.{below?, both}
+use Rattle.records.specs.Tests.{same?, below?, both}
 use Rattle.sorting_parts.specs.SortLaws.{clash}
 use Rattle.cutting_parts.specs.declared.enzyme.Knife.{Knife}
 use Rattle.enzyme_windows.specs.Pieces.{joined, pieces}
@@ -22,11 +22,10 @@ use Rattle.enzyme_windows.specs.StartLaws.{startOf, start-next, site-letters}
 use Rattle.enzyme_windows.specs.FirstLaws.{shared-window}
 use Rattle.enzyme_windows.specs.TableLaws.{Counted}
 use Rattle.enzyme_order.specs.Keys.{Site, lettersAt}
-use Rattle.enzyme_runs.specs.Steps.{Has, Stepped}
-use Rattle.enzyme_strewn.specs.Shuffled.{Shuffled}
+use Rattle.enzyme_runs.specs.Steps.{Has, OneName, Stepped}
+use Rattle.enzyme_sifted.specs.Sifted.{Sifted}
 use Rattle.enzyme_levels.specs.Levels.{Placed, Level}
-use Rattle.enzyme_levels.specs.ReadyLaws.{counted-below}
-use Rattle.enzyme_levels.specs.LevelLaws.{next-level}
+use Rattle.enzyme_levels.specs.LevelLaws.{has?, next-level}
 
 start-low : (ts : List (List ℕ)) (i : ℕ) → startOf ts i ≤ length (joined ts)
 start-low ts i =
@@ -49,52 +48,61 @@ module _ (ts : List (List ℕ)) (s starts : List ℕ) (m : ℕ) (pl : Placed ts 
   site-text : (z : ℕ) → z < m → lettersAt s starts z ≡ getD ts z []
   site-text z h = rw (pl .start z (omega arith), pl .start (z + 1) (omega arith), ← pl .letters) (site-letters ts z 0 (omega (arith, pl .many)))
 
-  -- all sites are counted up in v, and strewn in y
-  module _ (v y x name rank rank' share share' : List ℕ) (k : ℕ) (all : (i : ℕ) → i < m → (getD v i 0 ≡ i) × (getD share i 0 ≡ 0)) (sh : Shuffled v y m)
-      (st : Stepped (lettersAt s starts) y x rank rank' share share' m k m 1) (cp : (i : ℕ) → i < m → getD name i 0 ≡ getD rank' i 0)
+  -- y has the sifted sites, and before these got names each site was its own
+  module _ (y x name name' rank rank' share share' : List ℕ) (g k : ℕ) (sf : Sifted s starts y m g) (own : (i : ℕ) → i < m → (getD name i 0 ≡ i) × (getD share i 0 ≡ 0))
+      (st : Stepped (lettersAt s starts) y x rank rank' share share' g k m 1) (on : OneName (lettersAt s starts) y name name' g)
     where
-      has : (z : ℕ) → z < m → Has y m z
-      has z h = sh .into z (z, h, all z h .0)
+      -- a site has the letters of the one that is its name
+      like : (z : ℕ) → z < m → lettersAt s starts (getD name' z 0) ≡ lettersAt s starts z
+      like z l = go (has? y g z)
+        where
+          go : Has y g z ⊎ (Has y g z → ⊥) → lettersAt s starts (getD name' z 0) ≡ lettersAt s starts z
+          go (inl h) = on .like z h
+          go (inr h) = ap (lettersAt s starts) (on .rest z h ∙ own z l .0)
 
-      below : (z : ℕ) → Has y m z → z < m
-      below z h = counted-below v share m all z (sh .from z h)
+      -- two sites with the same letters were sifted, and so have one name
+      one : (z v : ℕ) → z < m → v < m → lettersAt s starts z ≡ lettersAt s starts v → getD name' z 0 ≡ getD name' v 0
+      one z v h l t = go (same? z v)
+        where
+          go : (z ≡ v) ⊎ (z ≡ v → ⊥) → getD name' z 0 ≡ getD name' v 0
+          go (inl e) = ap (λ (i : ℕ). getD name' i 0) e
+          go (inr d) = on .same z v (sf .each z v h l d t) (sf .each v z l h (λ (e : v ≡ z). d (sym e)) (sym t)) t
 
-      named : Named ts (λ i. getD name i 0)
+      named : Named ts (λ i. getD name' i 0)
       named = let l = pl .many in record {
         letters = λ p j hp hj e.
             let a : p < m = omega arith in
             let b : j < m = omega arith in
-            sym (site-text p a) ∙ st .back p j (has p a) (has j b) (sym (cp p a) ∙ e ∙ cp j b) ∙ site-text j b;
+            sym (site-text p a) ∙ sym (like p a) ∙ ap (lettersAt s starts) e ∙ like j b ∙ site-text j b;
         number = λ p j hp hj e.
             let a : p < m = omega arith in
             let b : j < m = omega arith in
-            cp p a ∙ st .same p j (has p a) (has j b) (site-text p a ∙ e ∙ sym (site-text j b)) ∙ sym (cp j b);
+            one p j a b (site-text p a ∙ e ∙ sym (site-text j b));
       }
 
-      texts : (z v : ℕ) → Has y m z → Has y m v → SameWindow ts 1 z v → lettersAt s starts z ≡ lettersAt s starts v
-      texts z v h j w =
+      texts : (z v : ℕ) → SameWindow ts 1 z v → lettersAt s starts z ≡ lettersAt s starts v
+      texts z v w =
           let l = pl .many in
-          let a = below z h in
-          let b = below v j in
-          let q = window-back ts (λ i. getD name i 0) named 0 z v w .3 in
-          let f : getD name z 0 ≡ getD name v 0 = rw (add-zero z, add-zero v) at q in
-          site-text z a ∙ named .letters z v (omega arith) (omega arith) f ∙ sym (site-text v b)
+          let a = w .first in
+          let b = w .second in
+          let q = window-back ts (λ i. getD name' i 0) named 0 z v w .3 in
+          let f : getD name' z 0 ≡ getD name' v 0 = rw (add-zero z, add-zero v) at q in
+          sym (like z (omega arith)) ∙ ap (lettersAt s starts) f ∙ like v (omega arith)
 
-      windows : (z v : ℕ) → Has y m z → Has y m v → lettersAt s starts z ≡ lettersAt s starts v → SameWindow ts 1 z v
-      windows z v h j t =
+      windows : (z v : ℕ) → z < m → v < m → lettersAt s starts z ≡ lettersAt s starts v → SameWindow ts 1 z v
+      windows z v a b t =
           let l = pl .many in
-          let a = below z h in
-          let b = below v j in
-          let f : getD name z 0 ≡ getD name v 0 = named .number z v (omega arith) (omega arith) (sym (site-text z a) ∙ t ∙ site-text v b) in
-          let q : getD name (z + 0) 0 ≡ getD name (v + 0) 0 = rw (add-zero z, add-zero v) f in
-          window-on ts (λ i. getD name i 0) named 0 z v (window-none ts (λ i. getD name i 0) named z v (omega arith) (omega arith)) (omega arith) (omega arith) q
+          let q : getD name' (z + 0) 0 ≡ getD name' (v + 0) 0 = rw (add-zero z, add-zero v) (one z v a b t) in
+          window-on ts (λ i. getD name' i 0) named 0 z v (window-none ts (λ i. getD name' i 0) named z v (omega arith) (omega arith)) (omega arith) (omega arith) q
 
-      pub level-one : Level ts x name rank' share' 1 k
+      pub level-one : Level ts x name' rank' share' 1 k
       level-one =
           let l = pl .many in
-          next-level ts (lettersAt s starts) y x name rank rank' share share' m k m 0 l st named
-          (λ z v d w. let a = w .first in has z (omega arith)) texts windows
-          (λ i h. let b = all i (omega arith) .1 in omega arith)
+          next-level ts (lettersAt s starts) y x name' rank rank' share share' g k m 0 l st named
+          (λ z v d w. let a = w .first in let b = w .second in sf .each z v (omega arith) (omega arith) d (texts z v w))
+          (λ z v h j w. texts z v w)
+          (λ z v h j t. windows z v (sf .inside z h) (sf .inside v j) t)
+          (λ i h. let b = own i (omega arith) .1 in omega arith)
 
 -- ---- the end: no site is left, or windows are as long as wanted
 

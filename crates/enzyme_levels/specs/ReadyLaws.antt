@@ -5,8 +5,10 @@ use mathlib.Core.List.{List}
 use native.Mathlib.Omega.{arith}
 use lib.ListN.{length, getD}
 use Rattle.enzyme_order.specs.Keys.{Site}
-use Rattle.enzyme_runs.specs.Steps.{Has, Apart, Sited, Arranged, Stepped}
+use Rattle.enzyme_runs.specs.Steps.{Has, Apart, Sited, Arranged, Runs, Stepped}
+use Rattle.enzyme_runs.specs.RunLaws.{run-start}
 use Rattle.enzyme_strewn.specs.Shuffled.{Shuffled}
+use Rattle.enzyme_sifted.specs.Sifted.{Sifted}
 use Rattle.enzyme_levels.specs.Levels.{Ready}
 
 module _ (s starts y : List ℕ) (g m : ℕ) (rd : Ready s starts y g m) where
@@ -22,20 +24,18 @@ module _ (s starts y : List ℕ) (g m : ℕ) (rd : Ready s starts y g m) where
     sites = rd .sites;
   }
 
--- ---- all m sites, counted up in v and strewn in y
+-- ---- the sifted sites, strewn or not
 
-pub counted-below : (v share : List ℕ) (m : ℕ) → ((i : ℕ) → i < m → (getD v i 0 ≡ i) × (getD share i 0 ≡ 0)) → (z : ℕ) → Has v m z → z < m
-counted-below v share m all z (p, h, e) = let a = all p h .0 in omega arith
-
-pub ready-all : (s starts v y share : List ℕ) (m : ℕ) → m ≤ 65536 → ((z : ℕ) → z < m → Site s starts z) → ((i : ℕ) → i < m → (getD v i 0 ≡ i) × (getD share i 0 ≡ 0))
-    → Shuffled v y m → Ready s starts y m m
-ready-all s starts v y share m h sites all sh = record {
-  few = omega arith;
-  small = h;
-  apart = sh .apart (λ i j l k e. let a = all i (omega arith) .0 in let b = all j k .0 in omega arith);
-  inside = λ z p. counted-below v share m all z (sh .from z p);
-  sites = sites;
+pub sifted-strewn : (s starts y x : List ℕ) (m g : ℕ) → Sifted s starts y m g → Shuffled y x g → Sifted s starts x m g
+sifted-strewn s starts y x m g sf sh = record {
+  few = sf .few;
+  apart = sh .apart (sf .apart);
+  inside = λ z h. sf .inside z (sh .from z h);
+  each = λ z v h l d t. sh .into z (sf .each z v h l d t);
 }
+
+pub ready-sifted : (s starts y : List ℕ) (m g : ℕ) → m ≤ 65536 → ((z : ℕ) → z < m → Site s starts z) → Sifted s starts y m g → Ready s starts y g m
+ready-sifted s starts y m g h sites sf = record { few = sf .few; small = h; apart = sf .apart; inside = sf .inside; sites = sites }
 
 -- ---- for the steps behind the sort, on the row x, with the starts of runs in r
 
@@ -44,6 +44,12 @@ module _ (text : ℕ → List ℕ) (s starts y x v r : List ℕ) (g m : ℕ) (rd
   where
     pub for-writing : (t : List ℕ) → m ≤ length t → (g ≤ length x) × (g ≤ length r) × Apart x g × ((z : ℕ) → Has x g z → z < length t)
     for-writing t o = let f = rd .few in (omega arith, omega arith, ar .apart, λ z p. omega (arith, rd .inside z (ar .from z p)))
+
+    pub for-naming : (t : List ℕ) → m ≤ length t → Runs text x r g
+        → (g ≤ length x) × (g ≤ length r) × Apart x g × ((z : ℕ) → Has x g z → z < length t) × ((p : ℕ) → p < g → getD r p 0 < g)
+    for-naming t o rn =
+        let w = for-writing t o in
+        (w .0, w .1, w .2, w .3, λ p i. omega (arith, run-start text x r g (ar .lined) rn p i .0))
 
     pub for-keeping : (g ≤ length x) × (g ≤ length r) × (g ≤ 65536) × Apart x g
     for-keeping = let f = rd .few in let b = rd .small in (omega arith, omega arith, omega arith, ar .apart)

@@ -5,12 +5,34 @@ ghost use mathlib.Core.List.{List};
 ghost use Prim.Native.Nat.{ℕ, _+_, _≤_, _<_};
 ghost use lib.ListN.{length, getD};
 ghost use Rattle.enzyme_windows.specs.TableLaws.{Counted};
-ghost use Rattle.enzyme_order.specs.Keys.{Site, keyOf};
-ghost use Rattle.enzyme_runs.specs.Steps.{Stepped};
+ghost use Rattle.enzyme_order.specs.Keys.{Site, lettersAt, keyOf};
+ghost use Rattle.enzyme_runs.specs.Steps.{Ranked, OneName, Stepped};
+ghost use Rattle.enzyme_sifted.specs.Sifted.{Sifted};
 ghost use Rattle.enzyme_levels.specs.Levels.{Placed, Ready, Level};
 
-// Ranks the first g sites by their keys, writes n for those whose key an earlier site has, and leaves first in the order those that have
-// the key of another and a site n places on; says how many there are.
+// Sorts the first g sites by their keys, ranks them by their runs, and writes n for those whose key an earlier site has.
+fn rank_sites(
+    key: Key,
+    letters: &[u8],
+    starts: &[u32],
+    name: &[u16],
+    rank: &mut [u16],
+    order: &mut [u16],
+    other: &mut [u16],
+    share: &mut [u8],
+    g: usize,
+    m: usize,
+    n: u8,
+)
+    requires { ⌜ Ready (now letters) (now starts) (now order) g m × (m ≤ length (now rank)) × (m ≤ length (now order)) × (m ≤ length (now other)) × (m ≤ length (now share)) ⌝ }
+    ensures { λ _. ⌜ Ranked (keyOf key (now (letters .entry)) (now (starts .entry)) (now (name .entry)) (now (rank .entry))) (now (order .entry)) (now (order .exit)) (now (other .exit)) (now (rank .entry)) (now (rank .exit)) (now (share .entry)) (now (share .exit)) g n ⌝ }
+{
+    enzyme_runs::line_up(key, letters, starts, name, rank, order, other, g);
+    enzyme_runs::bring(order, other, rank, g);
+    enzyme_runs::mark(order, other, share, g, n);
+}
+
+// The same, and leaves first in the order those that have the key of another and a site n places on; says how many there are.
 fn renumber(
     key: Key,
     letters: &[u8],
@@ -27,14 +49,25 @@ fn renumber(
     requires { ⌜ Ready (now letters) (now starts) (now order) g m × (m ≤ length (now rank)) × (m ≤ length (now order)) × (m ≤ length (now other)) × (m ≤ length (now share)) ⌝ }
     ensures { λ r. ⌜ Stepped (keyOf key (now (letters .entry)) (now (starts .entry)) (now (name .entry)) (now (rank .entry))) (now (order .entry)) (now (order .exit)) (now (rank .entry)) (now (rank .exit)) (now (share .entry)) (now (share .exit)) g r m n ⌝ }
 {
-    enzyme_runs::line_up(key, letters, starts, name, rank, order, other, g);
-    enzyme_runs::bring(order, other, rank, g);
-    enzyme_runs::mark(order, other, share, g, n);
+    rank_sites(
+        key,
+        letters,
+        starts,
+        name,
+        rank,
+        order,
+        other,
+        share,
+        g,
+        m,
+        n,
+    );
     enzyme_runs::keep(order, other, g, m, n)
 }
 
-// Windows of one site: all sites by their letters, and their names.
-fn first_level(
+// Each of m sites by its own name, with nothing shared; those that may have the letters of another stand first in the order. Says how
+// many these are.
+fn sifted_sites(
     letters: &[u8],
     starts: &[u32],
     name: &mut [u16],
@@ -42,14 +75,34 @@ fn first_level(
     order: &mut [u16],
     other: &mut [u16],
     share: &mut [u8],
+    seen: &mut [u8],
     m: usize,
 ) -> usize
     requires { ⌜ (m ≤ 65536) × (m ≤ length (now name)) × (m ≤ length (now rank)) × (m ≤ length (now order)) × (m ≤ length (now other)) × (m ≤ length (now share)) × ((z : ℕ) → z < m → Site (now letters) (now starts) z) ⌝ }
-    ensures { λ r. ⌜ Ready (now (letters .entry)) (now (starts .entry)) (now (order .exit)) r m × ((ts : List (List ℕ)) → Placed ts (now (letters .entry)) (now (starts .entry)) m → Level ts (now (order .exit)) (now (name .exit)) (now (rank .exit)) (now (share .exit)) 1 r) ⌝ }
+    ensures { λ r. ⌜ Sifted (now (letters .entry)) (now (starts .entry)) (now (order .exit)) m r × ((i : ℕ) → i < m → (getD (now (name .exit)) i 0 ≡ i) × (getD (now (share .exit)) i 0 ≡ 0)) ⌝ }
 {
-    enzyme_runs::count_up(order, share, m);
-    enzyme_strewn::strew(letters, starts, order, m);
-    let g = renumber(
+    let g = enzyme_sifted::sift(letters, starts, m, order, name, seen);
+    enzyme_runs::count_up(name, share, m);
+    enzyme_strewn::strew(letters, starts, order, other, rank, g);
+    g
+}
+
+// Renumbers the first g sites by their letters; those with the same letters get the same name.
+fn first_names(
+    letters: &[u8],
+    starts: &[u32],
+    name: &mut [u16],
+    rank: &mut [u16],
+    order: &mut [u16],
+    other: &mut [u16],
+    share: &mut [u8],
+    g: usize,
+    m: usize,
+) -> usize
+    requires { ⌜ Ready (now letters) (now starts) (now order) g m × (m ≤ length (now rank)) × (m ≤ length (now order)) × (m ≤ length (now other)) × (m ≤ length (now share)) × (m ≤ length (now name)) ⌝ }
+    ensures { λ r. ⌜ Stepped (lettersAt (now (letters .entry)) (now (starts .entry))) (now (order .entry)) (now (order .exit)) (now (rank .entry)) (now (rank .exit)) (now (share .entry)) (now (share .exit)) g r m 1 × OneName (lettersAt (now (letters .entry)) (now (starts .entry))) (now (order .entry)) (now (name .entry)) (now (name .exit)) g ⌝ }
+{
+    rank_sites(
         Key::Letters,
         letters,
         starts,
@@ -58,12 +111,31 @@ fn first_level(
         order,
         other,
         share,
-        m,
+        g,
         m,
         1,
     );
-    enzyme_runs::copy_names(rank, name, m);
-    g
+    enzyme_runs::name_runs(order, other, name, g);
+    enzyme_runs::keep(order, other, g, m, 1)
+}
+
+// Windows of one site: the sites by their letters, and their names.
+fn first_level(
+    letters: &[u8],
+    starts: &[u32],
+    name: &mut [u16],
+    rank: &mut [u16],
+    order: &mut [u16],
+    other: &mut [u16],
+    share: &mut [u8],
+    seen: &mut [u8],
+    m: usize,
+) -> usize
+    requires { ⌜ (m ≤ 65536) × (m ≤ length (now name)) × (m ≤ length (now rank)) × (m ≤ length (now order)) × (m ≤ length (now other)) × (m ≤ length (now share)) × ((z : ℕ) → z < m → Site (now letters) (now starts) z) ⌝ }
+    ensures { λ r. ⌜ Ready (now (letters .entry)) (now (starts .entry)) (now (order .exit)) r m × ((ts : List (List ℕ)) → Placed ts (now (letters .entry)) (now (starts .entry)) m → Level ts (now (order .exit)) (now (name .exit)) (now (rank .exit)) (now (share .exit)) 1 r) ⌝ }
+{
+    let g = sifted_sites(letters, starts, name, rank, order, other, share, seen, m);
+    first_names(letters, starts, name, rank, order, other, share, g, m)
 }
 
 // From windows of k sites to those of k + 1.
@@ -134,10 +206,11 @@ pub fn levels(
     name: &mut [u16],
     rank: &mut [u16],
     share: &mut [u8],
+    seen: &mut [u8],
 )
     requires { ⌜ ((ts : List (List ℕ)) × Placed ts (now letters) (now starts) m) × (m ≤ 65536) × (1 ≤ most) × (most ≤ 17) × (m ≤ length (now order)) × (m ≤ length (now other)) × (m ≤ length (now name)) × (m ≤ length (now rank)) × (m ≤ length (now share)) ⌝ }
     ensures { λ _. ⌜ ((ts : List (List ℕ)) → Placed ts (now (letters .entry)) (now (starts .entry)) m → Counted ts most (λ i. getD (now (share .exit)) i 0)) ⌝ }
 {
-    let g = first_level(letters, starts, name, rank, order, other, share, m);
+    let g = first_level(letters, starts, name, rank, order, other, share, seen, m);
     more_levels(letters, starts, name, rank, order, other, share, g, m, most);
 }

@@ -9,11 +9,11 @@ use borrow.Author.Tests.{ltb-true, lt-ltb, ne-eqb}
 use lib.Dec.{ltb, eqb}
 use lib.ListN.{getD}
 use Rattle.records.specs.Tests.{same?, below?, both}
-use Rattle.enzyme_runs.specs.Steps.{Has, Arranged, Runs, Brought, Called, Marked, OneName, inRun, goesOn, Kept, Stepped}
+use Rattle.enzyme_runs.specs.Steps.{Has, Arranged, Runs, Called, Ranked, OneName, inRun, goesOn, Kept, Stepped}
 use Rattle.enzyme_runs.specs.RunLaws.{run-start, runs-back, runs-same, first-least, first-later, run-later, run-sooner}
 
 module _ (text : ℕ → List ℕ) (y x r x' rank rank' share share' : List ℕ) (g k m n : ℕ)
-    (ar : Arranged text y x g) (rn : Runs text x r g) (br : Brought x r rank rank' g) (mk : Marked x r share share' n g) (kp : Kept (goesOn x r g m n) x x' g k)
+    (rk : Ranked text y x r rank rank' share share' g n) (kp : Kept (goesOn x r g m n) x x' g k)
   where
     -- two in a run go on
     in-run : (p q : ℕ) → p < g → q < g → (getD x p 0 ≡ getD x q 0 → ⊥) → text (getD x p 0) ≡ text (getD x q 0) → inRun r g p ≡ true
@@ -25,10 +25,10 @@ module _ (text : ℕ → List ℕ) (y x r x' rank rank' share share' : List ℕ)
 
         go : (q < p) ⊎ (p ≤ q) → (p < q) ⊎ (q ≤ p) → inRun r g p ≡ true
         go (inl a) c =
-            let z : eqb (getD r p 0) p ≡ false = ne-eqb (getD r p 0) p (λ (s : getD r p 0 ≡ p). run-later text x r g (ar .lined) rn p q h a (sym e) s) in
+            let z : eqb (getD r p 0) p ≡ false = ne-eqb (getD r p 0) p (λ (s : getD r p 0 ≡ p). run-later text x r g (rk .arranged .lined) (rk .runs) p q h a (sym e) s) in
             rw z
         go (inr a) (inl c) =
-            let z : eqb (getD r (p + 1) 0) (p + 1) ≡ false = ne-eqb (getD r (p + 1) 0) (p + 1) (λ (s : getD r (p + 1) 0 ≡ p + 1). run-sooner text x r g (ar .lined) rn p q l c e s) in
+            let z : eqb (getD r (p + 1) 0) (p + 1) ≡ false = ne-eqb (getD r (p + 1) 0) (p + 1) (λ (s : getD r (p + 1) 0 ≡ p + 1). run-sooner text x r g (rk .arranged .lined) (rk .runs) p q l c e s) in
             let b : ltb (p + 1) g ≡ true = lt-ltb (p + 1) g (omega arith) in
             rw (z, b) (or-true (not (eqb (getD r p 0) p)))
         go (inr a) (inr c) = let z : p ≡ q = omega arith in absurd (d (ap (λ (i : ℕ). getD x i 0) z))
@@ -46,29 +46,29 @@ module _ (text : ℕ → List ℕ) (y x r x' rank rank' share share' : List ℕ)
         let s = both (inRun r g (f .0)) (ltb (getD x (f .0) 0 + n) m) (f .2) in
         let b = ltb-true (getD x (f .0) 0 + n) m (s .1) in
         let i : getD x (f .0) 0 ≡ z = sym (f .3) ∙ e in
-        (ar .from z (f .0, f .1, i), omega arith)
+        (rk .arranged .from z (f .0, f .1, i), omega arith)
 
     same : (z v : ℕ) → Has x g z → Has x g v → text z ≡ text v → getD rank' z 0 ≡ getD rank' v 0
     same z v (p, h, e) (q, l, f) t =
-        ap (λ (i : ℕ). getD rank' i 0) (sym e) ∙ br .at p h ∙ runs-same text x r g (ar .lined) rn p q h l (ap text e ∙ t ∙ sym (ap text f)) ∙ sym (br .at q l) ∙ ap (λ (i : ℕ). getD rank' i 0) f
+        ap (λ (i : ℕ). getD rank' i 0) (sym e) ∙ rk .brought .at p h ∙ runs-same text x r g (rk .arranged .lined) (rk .runs) p q h l (ap text e ∙ t ∙ sym (ap text f)) ∙ sym (rk .brought .at q l) ∙ ap (λ (i : ℕ). getD rank' i 0) f
 
     back : (z v : ℕ) → Has x g z → Has x g v → getD rank' z 0 ≡ getD rank' v 0 → text z ≡ text v
     back z v (p, h, e) (q, l, f) t =
-        let c : getD r p 0 ≡ getD r q 0 = sym (br .at p h) ∙ ap (λ (i : ℕ). getD rank' i 0) e ∙ t ∙ ap (λ (i : ℕ). getD rank' i 0) (sym f) ∙ br .at q l in
-        sym (ap text e) ∙ runs-back text x r g (ar .lined) rn p q h l c ∙ ap text f
+        let c : getD r p 0 ≡ getD r q 0 = sym (rk .brought .at p h) ∙ ap (λ (i : ℕ). getD rank' i 0) e ∙ t ∙ ap (λ (i : ℕ). getD rank' i 0) (sym f) ∙ rk .brought .at q l in
+        sym (ap text e) ∙ runs-back text x r g (rk .arranged .lined) (rk .runs) p q h l c ∙ ap text f
 
     again : (z v : ℕ) → Has x g z → Has x g v → v < z → text v ≡ text z → getD share' z 0 ≡ n
     again z v (p, h, e) (q, l, f) b t =
-        let d : getD r p 0 ≡ p → ⊥ = λ s. first-least text x r g (ar .lined) rn p q h l s (omega arith) (ap text f ∙ t ∙ sym (ap text e)) in
-        ap (λ (i : ℕ). getD share' i 0) (sym e) ∙ mk .later p h d
+        let d : getD r p 0 ≡ p → ⊥ = λ s. first-least text x r g (rk .arranged .lined) (rk .runs) p q h l s (omega arith) (ap text f ∙ t ∙ sym (ap text e)) in
+        ap (λ (i : ℕ). getD share' i 0) (sym e) ∙ rk .marked .later p h d
 
     first : (z : ℕ) → Has x g z → ((v : ℕ) → Has x g v → v < z → text v ≡ text z → ⊥) → getD share' z 0 ≡ getD share z 0
-    first z (p, h, e) none = ap (λ (i : ℕ). getD share' i 0) (sym e) ∙ mk .first p h (start (same? (getD r p 0) p)) ∙ ap (λ (i : ℕ). getD share i 0) e
+    first z (p, h, e) none = ap (λ (i : ℕ). getD share' i 0) (sym e) ∙ rk .marked .first p h (start (same? (getD r p 0) p)) ∙ ap (λ (i : ℕ). getD share i 0) e
       where
         start : (getD r p 0 ≡ p) ⊎ (getD r p 0 ≡ p → ⊥) → getD r p 0 ≡ p
         start (inl s) = s
         start (inr s) =
-            let f = first-later text x r g (ar .lined) rn p h s in
+            let f = first-later text x r g (rk .arranged .lined) (rk .runs) p h s in
             let l = f .2 in
             absurd (none (getD x (f .0) 0) (f .0, f .1, refl) (omega arith) (f .3 ∙ ap text e))
 
@@ -76,13 +76,13 @@ module _ (text : ℕ → List ℕ) (y x r x' rank rank' share share' : List ℕ)
     stepped = record {
       few = kp .few;
       from = from;
-      each = λ z v a b d t l. each z v (ar .into z a) (ar .into v b) d t l;
+      each = λ z v a b d t l. each z v (rk .arranged .into z a) (rk .arranged .into v b) d t l;
       apart = kp .apart;
-      same = λ z v a b t. same z v (ar .into z a) (ar .into v b) t;
-      back = λ z v a b t. back z v (ar .into z a) (ar .into v b) t;
-      again = λ z v a b l t. again z v (ar .into z a) (ar .into v b) l t;
-      first = λ z a none. first z (ar .into z a) (λ v b l t. none v (ar .from v b) l t);
-      rest = λ z a. mk .rest z (λ (b : Has x g z). a (ar .from z b));
+      same = λ z v a b t. same z v (rk .arranged .into z a) (rk .arranged .into v b) t;
+      back = λ z v a b t. back z v (rk .arranged .into z a) (rk .arranged .into v b) t;
+      again = λ z v a b l t. again z v (rk .arranged .into z a) (rk .arranged .into v b) l t;
+      first = λ z a none. first z (rk .arranged .into z a) (λ v b l t. none v (rk .arranged .from v b) l t);
+      rest = λ z a. rk .marked .rest z (λ (b : Has x g z). a (rk .arranged .from z b));
     }
 
 -- the first of a run is the name of all of it

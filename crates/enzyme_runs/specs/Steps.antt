@@ -58,6 +58,13 @@ pub record Marked (w r y x : List ℕ) (n g : ℕ) : Type 0 where
   pub first : (p : ℕ) → p < g → getD r p 0 ≡ p → getD x (getD w p 0) 0 ≡ getD y (getD w p 0) 0
   pub rest : (z : ℕ) → (Has w g z → ⊥) → getD x z 0 ≡ getD y z 0
 
+-- the first g of y are put in order into x, r says where their runs start, and ranks and shared sites are written by the runs
+pub record Ranked (text : ℕ → List ℕ) (y x r rank rank' share share' : List ℕ) (g n : ℕ) : Type 0 where
+  pub arranged : Arranged text y x g
+  pub runs : Runs text x r g
+  pub brought : Brought x r rank rank' g
+  pub marked : Marked x r share share' n g
+
 -- the first g of y have a site of their text as their name, all of one text the same one; the others keep their name
 pub record OneName (text : ℕ → List ℕ) (y name name' : List ℕ) (g : ℕ) : Type 0 where
   pub like : (z : ℕ) → Has y g z → text (getD name' z 0) ≡ text z
