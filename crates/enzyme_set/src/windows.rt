@@ -9,8 +9,8 @@ ghost use lib.ListN.{length};
 ghost use Rattle.cutting_parts.specs.Work.{setWork};
 ghost use Rattle.offering_parts.specs.Steps.{after, offers};
 
-// With tables that are lent: where the sites start; two for their order; their names, and the ranks of windows; and how many
-// sites each window shares with an earlier one.
+// With tables that are lent: where the sites start; two for their order; their names, and the ranks of windows; how many sites each
+// window shares with an earlier one; and what was seen of their letters.
 fn windows_over(
     letters: &[u8],
     knife: Knife,
@@ -23,13 +23,25 @@ fn windows_over(
     name: &mut [u16],
     rank: &mut [u16],
     share: &mut [u8],
+    seen: &mut [u8],
 ) -> Step
     requires { ⌜ (length (now letters) ≤ 65536) × (missed ≤ 16) × (length (now letters) < length (now starts)) × (length (now letters) ≤ length (now order)) × (length (now letters) ≤ length (now other)) × (length (now letters) ≤ length (now name)) × (length (now letters) ≤ length (now rank)) × (length (now letters) ≤ length (now share)) ⌝ }
     ensures { λ r. ⌜ after r (now (out .exit)) ≡ offers (now (letters .entry)) terms (setWork knife false missed (now (letters .entry))) 0 (now (out .entry)) ⌝ }
 {
     let m = enzyme_sites::sites(letters, knife, starts);
     let most = missed as usize + 1;
-    enzyme_levels::levels(letters, starts, m, most, order, other, name, rank, share);
+    enzyme_levels::levels(
+        letters,
+        starts,
+        m,
+        most,
+        order,
+        other,
+        name,
+        rank,
+        share,
+        seen,
+    );
     enzyme_picks::list_windows(letters, knife, starts, share, m, missed, terms, out)
 }
 
@@ -44,6 +56,7 @@ pub fn windows_small(letters: &[u8], knife: Knife, missed: u8, terms: Terms, out
     let mut name = [0 as u16; 1024];
     let mut rank = [0 as u16; 1024];
     let mut share = [0 as u8; 1024];
+    let mut seen = [0 as u8; 2048];
     windows_over(
         letters,
         knife,
@@ -56,6 +69,7 @@ pub fn windows_small(letters: &[u8], knife: Knife, missed: u8, terms: Terms, out
         &mut name,
         &mut rank,
         &mut share,
+        &mut seen,
     )
 }
 
@@ -75,6 +89,7 @@ pub fn windows_middle(
     let mut name = [0 as u16; 8192];
     let mut rank = [0 as u16; 8192];
     let mut share = [0 as u8; 8192];
+    let mut seen = [0 as u8; 16384];
     windows_over(
         letters,
         knife,
@@ -87,6 +102,7 @@ pub fn windows_middle(
         &mut name,
         &mut rank,
         &mut share,
+        &mut seen,
     )
 }
 
@@ -100,6 +116,7 @@ pub fn windows_large(letters: &[u8], knife: Knife, missed: u8, terms: Terms, out
     let mut name = [0 as u16; 65536];
     let mut rank = [0 as u16; 65536];
     let mut share = [0 as u8; 65536];
+    let mut seen = [0 as u8; 65536];
     windows_over(
         letters,
         knife,
@@ -112,5 +129,6 @@ pub fn windows_large(letters: &[u8], knife: Knife, missed: u8, terms: Terms, out
         &mut name,
         &mut rank,
         &mut share,
+        &mut seen,
     )
 }

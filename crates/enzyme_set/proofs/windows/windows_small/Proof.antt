@@ -8,7 +8,7 @@ use Rattle.enzyme_set.proofs.windows.windows_small.Statement.{statement
 use Rattle.enzyme_set.proofs.windows.windows_small.Tie as tie
 
 windows-over-requires : tie.Need-windows-over-requires
-windows-over-requires c κs = let s = c .before .before .before .before .before .before .before .before .before in
+windows-over-requires c κs = let s = c .before .before .before .before .before .before .before .before .before .before in
     let n = length (now (s .args .letters)) in
     let l = as-long 1024 n (omega arith) in
     (omega arith, s .pre .1, longer 1025 n (omega arith), l, l, l, l, l)
@@ -17,4 +17,4 @@ pub windows-small-spec : {M : Type 1} → statement M
 windows-small-spec =
     tie.close
     (tie.spec (λ c. search needs) (λ c. search needs) (λ c. search needs) (λ c. search needs) (λ c. search needs)
-    (λ c. search needs) windows-over-requires (λ c. search needs) (λ c. search needs))
+    (λ c. search needs) (λ c. search needs) windows-over-requires (λ c. search needs) (λ c. search needs))
