@@ -6,3 +6,4 @@ pub mod SpotLaws
 pub mod SemiLaws
 pub mod Going
 pub mod GoingLaws
+pub mod PassLaws

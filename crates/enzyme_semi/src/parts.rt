@@ -1,4 +1,7 @@
-// The parts of one window that belong to no smaller one.
+// The parts of one window that belong to no smaller one. Those that are too long are not looked at.
+use crate::cuts::first_cut;
+use crate::cuts::last_cut;
+use crate::cuts::next_cut;
 use enzyme_samples::Offered;
 use enzyme_samples::Run;
 use enzyme_samples::offer_range;
@@ -32,7 +35,7 @@ fn offer_halves(
             return Offered::NoRoom;
         };
         at = y;
-        c += 1;
+        c = next_cut(a, c + 1, e, terms.maximum);
     }
     Offered::Left(at)
 }
@@ -53,7 +56,7 @@ fn offer_endings(
     requires { ⌜ (a < 4294967296) × Ready (now letters) (now far) (endings missed e (suc a) (z - suc a)) run (now out) (now marks) ⌝ }
     ensures { λ r. ⌜ Offers (now (letters .entry)) (now (far .entry)) terms (endings missed e (suc a) (z - suc a)) run (now (out .entry)) (now (marks .entry)) r (now (out .exit)) (now (marks .exit)) ⌝ }
 {
-    let mut c = a + 1;
+    let mut c = first_cut(a + 1, e, terms.maximum);
     let mut at = run;
     while c < z {
         let Offered::Left(x) = offer_range(letters, far, c, e, missed, 1, terms, out, marks, at)
@@ -79,12 +82,13 @@ fn offer_openings(
     marks: &mut [u32],
     run: Run,
 ) -> Offered
-    requires { ⌜ (b < 4294967296) × Ready (now letters) (now far) (openings missed a (suc b) (e - suc b)) run (now out) (now marks) ⌝ }
+    requires { ⌜ (a < 4294967296) × (b < 4294967296) × Ready (now letters) (now far) (openings missed a (suc b) (e - suc b)) run (now out) (now marks) ⌝ }
     ensures { λ r. ⌜ Offers (now (letters .entry)) (now (far .entry)) terms (openings missed a (suc b) (e - suc b)) run (now (out .entry)) (now (marks .entry)) r (now (out .exit)) (now (marks .exit)) ⌝ }
 {
+    let stop = last_cut(a, e, terms.maximum);
     let mut c = b + 1;
     let mut at = run;
-    while c < e {
+    while c < stop {
         let Offered::Left(x) = offer_range(letters, far, a, c, missed, 1, terms, out, marks, at)
         else {
             return Offered::NoRoom;

@@ -1,5 +1,5 @@
 -- `offer_halves` meets its contract. Assumes nothing.
-use Prim.Native.Nat.{suc, _+_, _-_}
+use Prim.Native.Nat.{suc, _+_, _-_, _<_}
 use mathlib.Core.Path.{refl}
 use mathlib.Core.List.{_∷_}
 use native.Mathlib.Omega.{arith}
@@ -9,6 +9,7 @@ use denote.Ref.{now}
 use Rattle.cutting_parts.specs.Cutting.{range, halves}
 use Rattle.enzyme_semi.specs.Going.{Going}
 use Rattle.enzyme_semi.specs.GoingLaws.{going-start, going-end, one-first, one-on, one-full}
+use Rattle.enzyme_semi.specs.PassLaws.{halves-pass}
 use Rattle.enzyme_semi.specs.WalkLaws.{halves-on, halves-end}
 use Rattle.enzyme_semi.proofs.parts.offer_halves.Statement.{statement}
 use Rattle.enzyme_semi.proofs.parts.offer_halves.Tie as tie
@@ -20,8 +21,17 @@ abbrev μ-loop : tie.MeasureT-loop
 μ-loop letters far a e terms out₀ marks₀ c₀ at₀ out marks c at = e - c
 
 -- the first part of a cut was kept or passed over
-mid : (c : tie.After-known-told Inv-loop μ-loop) → Going (now (c .before .before .before .before .before .before .before .before .before .before .before .before .before .before .before .before .args .letters)) (now (c .before .before .before .before .before .before .before .before .before .before .before .before .before .before .before .before .args .far)) (c .before .before .before .before .before .before .before .before .before .before .before .before .before .before .before .before .args .terms) (halves (range (c .before .before .before .before .before .before .before .before .before .before .before .before .before .before .before .before .args .a) (c .before .before .before .before .before .before .before .before .before .before .before .before .before .before .before .before .args .e) 0 0) (suc (c .before .before .before .before .before .before .before .before .before .before .before .before .before .before .before .before .args .a)) (c .before .before .before .before .before .before .before .before .before .before .before .before .before .before .before .before .args .e - suc (c .before .before .before .before .before .before .before .before .before .before .before .before .before .before .before .before .args .a))) (c .before .before .before .before .before .before .before .before .before .before .before .before .before .before .before .before .args .run) (now (c .before .before .before .before .before .before .before .before .before .before .before .before .before .before .before .before .args .out)) (now (c .before .before .before .before .before .before .before .before .before .before .before .before .before .before .before .before .args .marks)) (range (c .before .before .before .before .before .before .before .before .before .before .before .loop .c) (c .before .before .before .before .before .before .before .before .before .before .before .before .before .before .before .before .args .e) 0 1 ∷ halves (range (c .before .before .before .before .before .before .before .before .before .before .before .before .before .before .before .before .args .a) (c .before .before .before .before .before .before .before .before .before .before .before .before .before .before .before .before .args .e) 0 0) (c .before .before .before .before .before .before .before .before .before .before .before .loop .c + 1) (c .before .before .before .before .before .before .before .before .before .before .before .before .before .before .before .before .args .e - (c .before .before .before .before .before .before .before .before .before .before .before .loop .c + 1))) (c .before .x .given .0 .0) (c .before .before .before .before .before .before .before .offer-range .last .1 .1 .1 .1 .1 .1 .1 .0) (c .before .before .before .before .before .before .before .offer-range .last .1 .1 .1 .1 .1 .1 .1 .1 .0)
-mid c = one-on (halves-on (range (c .before .before .before .before .before .before .before .before .before .before .before .before .before .before .before .before .args .a) (c .before .before .before .before .before .before .before .before .before .before .before .before .before .before .before .before .args .e) 0 0) (c .before .before .before .before .before .before .before .before .before .before .before .loop .c) (omega (arith, c .before .before .before .before .before .before .before .before .before .before .loop-test .taken))) (c .before .before .before .before .before .before .before .before .before .before .before .loop .inv) (rw (c .before .x .given .1) at (c .before .before .before .before .before .before .before .offer-range .ensures)) (omega arith) (omega arith)
+mid : (c : tie.After-known-told Inv-loop μ-loop)
+    → let a = c .before .before .before .before .before .before .before .before .before .before .before .before .before .before .before .before .args in
+    let l = c .before .before .before .before .before .before .before .before .before .before .before .loop in
+    let g = c .before .before .before .before .before .before .before .offer-range .last in
+    let r = range (a .a) (a .e) 0 0 in
+    Going (now (a .letters)) (now (a .far)) (a .terms) (halves r (suc (a .a)) (a .e - suc (a .a))) (a .run) (now (a .out)) (now (a .marks))
+    (range (l .c) (a .e) 0 1 ∷ halves r (l .c + 1) (a .e - (l .c + 1))) (c .before .x .given .0 .0) (g .1 .1 .1 .1 .1 .1 .1 .0) (g .1 .1 .1 .1 .1 .1 .1 .1 .0)
+mid c =
+    let a = c .before .before .before .before .before .before .before .before .before .before .before .before .before .before .before .before .args in
+    let l = c .before .before .before .before .before .before .before .before .before .before .before .loop in
+    one-on (halves-on (range (a .a) (a .e) 0 0) (l .c) (omega (arith, c .before .before .before .before .before .before .before .before .before .before .loop-test .taken))) (l .inv) (rw (c .before .x .given .1) at (c .before .before .before .before .before .before .before .offer-range .ensures)) (omega arith) (omega arith)
 
 add-c : tie.Need-add-c Inv-loop μ-loop
 add-c c = omega (arith, c .before .before .before .before .pre .0)
@@ -56,14 +66,24 @@ same-length-4 c = omega (arith, mid (c .before .before .before .before .before .
 returns-2 : tie.Need-returns-2 Inv-loop μ-loop
 returns-2 c = one-full refl (mid (c .before .before .before .before .before .before .before .before .before)) (rw (c .enum-told2 .given .1) at (c .before .before .before .before .before .before .offer-range2 .ensures))
 
-add-c-2 : tie.Need-add-c-2 Inv-loop μ-loop
-add-c-2 c = omega (arith, c .before .before .before .before .before .before .before .before .before .before .before .before .before .before .before .before .before .before .before .before .loop-test .taken, mid (c .before .before .before .before .before .before .before .before .before .before) .ready .inside .1, mid (c .before .before .before .before .before .before .before .before .before .before) .ready .keeps .small)
+-- the next cut is below the greatest length
+below : (c : tie.After-known-told2 Inv-loop μ-loop) → c .before .before .before .before .before .before .before .before .before .before .before .before .before .before .before .before .before .before .before .before .before .loop .c < 65536
+below c = let r = mid (c .before .before .before .before .before .before .before .before .before .before) .ready in omega (arith, c .before .before .before .before .before .before .before .before .before .before .before .before .before .before .before .before .before .before .before .before .loop-test .taken, r .inside .1, r .keeps .small)
+
+add-next-cut : tie.Need-add-next-cut Inv-loop μ-loop
+add-next-cut c = omega (arith, below c)
+
+next-cut-requires : tie.Need-next-cut-requires Inv-loop μ-loop
+next-cut-requires c κs = (c .before .before .before .before .before .before .before .before .before .before .before .before .before .before .before .before .before .before .before .before .before .before .before .before .before .before .pre .0, omega (arith, below c))
 
 loop-less : tie.Need-loop-less Inv-loop μ-loop
-loop-less c = omega (arith, c .before .before .before .before .before .before .before .before .before .before .before .before .before .before .before .before .before .before .before .before .loop-test .taken)
+loop-less c = omega (arith, c .before .before .before .before .before .before .before .before .before .before .before .before .before .before .before .before .before .before .before .before .before .loop-test .taken, c .next-cut .ensures .0)
 
 loop-again : tie.Need-loop-again Inv-loop μ-loop
-loop-again c = one-on refl (mid (c .before .before .before .before .before .before .before .before .before .before)) (rw (c .before .y .given .1) at (c .before .before .before .before .before .before .before .offer-range2 .ensures)) (omega arith) (omega arith)
+loop-again c =
+    let a = c .before .before .before .before .before .before .before .before .before .before .before .before .before .before .before .before .before .before .before .before .before .before .before .before .before .before .before .args in
+    let q = c .next-cut .ensures in
+    halves-pass (range (a .a) (a .e) 0 0) (c .before .before .before .before .before .before .before .before .before .before .before .before .before .before .before .before .before .before .before .before .before .before .loop .c + 1) _ (q .0) (q .1) (one-on refl (mid (c .before .before .before .before .before .before .before .before .before .before .before)) (rw (c .before .before .y .given .1) at (c .before .before .before .before .before .before .before .before .offer-range2 .ensures)) (omega arith) (omega arith))
 
 same-length-5 : tie.Need-same-length-5 Inv-loop μ-loop
 same-length-5 c = c .before .loop .inv .long-out
@@ -78,5 +98,5 @@ pub offer-halves-spec : {M : Type 1} → statement M
 offer-halves-spec =
     tie.close (tie.spec Inv-loop μ-loop add-c loop-holds offer-range-requires (λ c. search needs)
     (λ c. search needs) same-length same-length-2 returns offer-range-requires-2 (λ c. search needs)
-    (λ c. search needs) same-length-3 same-length-4 returns-2 add-c-2 loop-less loop-again same-length-5
+    (λ c. search needs) same-length-3 same-length-4 returns-2 add-next-cut next-cut-requires loop-less loop-again same-length-5
     same-length-6 returns-3)

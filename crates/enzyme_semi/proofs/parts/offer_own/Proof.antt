@@ -26,7 +26,7 @@ offer-openings-requires c κs =
     let a = c .before .before .before .before .before .before .before .before .before .before .before .before .before .before .before .before .before .args in
     let p = c .before .before .before .before .before .before .before .before .before .before .before .before .before .before .before .before .before .pre in
     let x = rw (c .before .before .before .x .given .1) at (c .before .before .before .before .before .before .before .before .before .offer-endings .ensures) in
-    (p .1, x .next (openings (a .missed) (a .a) (suc (a .b)) (a .e - suc (a .b))) (rw (own-more (a .missed) (site (a .a) (a .z)) (site (a .b) (a .e)) (c .before .before .before .before .before .before .before .before .before .before .before .before .if1 .left)) at (p .2)))
+    (p .0, p .1, x .next (openings (a .missed) (a .a) (suc (a .b)) (a .e - suc (a .b))) (rw (own-more (a .missed) (site (a .a) (a .z)) (site (a .b) (a .e)) (c .before .before .before .before .before .before .before .before .before .before .before .before .if1 .left)) at (p .2)))
 
 returns-3 : tie.Need-returns-3
 returns-3 c =
