@@ -1,4 +1,4 @@
--- Nothing here has to be believed: Walk says what a table of starts stands for, Going where a loop stands; the files named Laws say
+-- Nothing here has to be believed: Walk says what the tables stand for, Going where a loop stands; the files named Laws say
 -- what follows.
 pub mod Walk
 pub mod WalkLaws

@@ -1,15 +1,14 @@
 -- Cuts that a loop may pass over: what they make is longer than any part that is wanted. Assumes nothing.
 use Prim.Native.Nat.{ℕ, zero, suc, _+_, _-_, _≤_, _<_}
-use mathlib.Core.Path.{_≡_, refl, _∙_}
+use mathlib.Core.Path.{_≡_, refl}
 use mathlib.Core.Bool.{false, _&&_, and-false}
 use mathlib.Core.Logic.{_⊎_, inl, inr}
 use mathlib.Core.List.{List, [], _∷_}
 use native.Mathlib.Omega.{arith}
-use native.Mathlib.Numerals.{add-one}
 use lib.Dec.{leb}
 use borrow.Author.Tests.{lt-leb}
 use Rattle.records.specs.Tests.{below?}
-use Rattle.cutting_parts.specs.Cutting.{Range, range, halves, within}
+use Rattle.cutting_parts.specs.Cutting.{Range, halves, within}
 use Rattle.offering_parts.specs.declared.offering.Terms.{Terms}
 use Rattle.enzyme_once.specs.Once.{endings, openings}
 use Rattle.enzyme_samples.specs.declared.offering.Run.{Run}

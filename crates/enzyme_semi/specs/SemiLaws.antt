@@ -1,27 +1,25 @@
 -- The whole list of semi ranges may be offered, and was. Assumes nothing.
 use Prim.Native.Nat.{ℕ, suc, _≤_}
-use mathlib.Core.Bool.{true}
 use mathlib.Core.List.{List, _++_}
 use lib.ListN.{length}
 use Rattle.cutting_parts.specs.declared.enzyme.Knife.{Knife}
 use Rattle.cutting_parts.specs.Cutting.{windowsFrom}
 use Rattle.offering_parts.specs.declared.offering.Terms.{Terms}
 use Rattle.offering_parts.specs.Steps.{View}
-use Rattle.enzyme_once.specs.Once.{ownsFrom, once}
-use Rattle.enzyme_once.specs.DistinctLaws.{once-once}
-use Rattle.enzyme_once.specs.RangeLaws.{once-inside}
+use Rattle.enzyme_fresh.specs.Fresh.{freshFrom, fresh}
+use Rattle.enzyme_fresh.specs.FreshLaws.{fresh-inside, fresh-once}
 use Rattle.enzyme_sites.specs.Starts.{Starts}
 use Rattle.enzyme_samples.specs.declared.offering.Offered.{Offered}
 use Rattle.enzyme_samples.specs.Ready.{started, Ready, stepOf, Offers}
 use Rattle.enzyme_words.specs.Words.{Far}
 use Rattle.enzyme_samples.specs.ReadyLaws.{ready-start}
 use Rattle.enzyme_semi.specs.Walk.{sitesIn}
-use Rattle.enzyme_semi.specs.SpotLaws.{once-spots}
+use Rattle.enzyme_semi.specs.SpotLaws.{fresh-spots}
 
-module _ (k : Knife) (missed : ℕ) (s x : List ℕ) (m : ℕ) (g : Starts k s x m) (f out marks : List ℕ) where
-  pub semi-ready : length s ≤ 65536 → Far s f → Ready s f (windowsFrom 0 (suc missed) (sitesIn x m) ++ ownsFrom 0 (suc missed) (sitesIn x m)) started out marks
-  semi-ready small far = rw (once-spots k missed s x m g) at (ready-start s f (once k true missed s) out marks small far (once-inside k true missed s) (once-once k true missed s))
+module _ (h : ℕ → ℕ) (k : Knife) (missed : ℕ) (s x : List ℕ) (m : ℕ) (g : Starts k s x m) (f out marks : List ℕ) where
+  pub semi-ready : length s ≤ 65536 → Far s f → Ready s f (windowsFrom 0 (suc missed) (sitesIn x m) ++ freshFrom h 0 (suc missed) (sitesIn x m)) started out marks
+  semi-ready small far = rw (fresh-spots h k missed s x m g) at (ready-start s f (fresh h k missed s) out marks small far (fresh-inside h k missed s) (fresh-once h k missed s))
 
-  pub semi-view : (t : Terms) (a : Offered) (o b : List ℕ) → Offers s f t (windowsFrom 0 (suc missed) (sitesIn x m) ++ ownsFrom 0 (suc missed) (sitesIn x m)) started out marks a o b
-      → View s t (once k true missed s) 0 out (stepOf a) o
-  semi-view t a o b h = rw (once-spots k missed s x m g) (h .view)
+  pub semi-view : (t : Terms) (a : Offered) (o b : List ℕ) → Offers s f t (windowsFrom 0 (suc missed) (sitesIn x m) ++ freshFrom h 0 (suc missed) (sitesIn x m)) started out marks a o b
+      → View s t (fresh h k missed s) 0 out (stepOf a) o
+  semi-view t a o b y = rw (fresh-spots h k missed s x m g) (y .view)

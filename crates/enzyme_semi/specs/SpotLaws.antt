@@ -1,23 +1,19 @@
 -- The list of semi ranges, by the table of starts. Assumes nothing.
 use Prim.Native.Nat.{ℕ, suc, _+_, _≤_}
 use mathlib.Core.Path.{_≡_, refl, ap, _∙_}
-use mathlib.Core.Bool.{true}
 use mathlib.Core.List.{List, [], _∷_, _++_, append-nil}
 use native.Mathlib.Omega.{arith}
 use lib.ListN.{length, take, getD, length-append}
 use Rattle.cutting_parts.specs.declared.enzyme.Knife.{Knife}
 use Rattle.cutting_parts.specs.Cutting.{Range, site, setSites, windowsFrom}
 use Rattle.enzyme_windows.specs.Pieces.{pieces, joined, placed}
-use Rattle.enzyme_windows.specs.SiteLaws.{nonEmpty, sites-pieces}
 use Rattle.enzyme_windows.specs.StartLaws.{startOf}
-use Rattle.enzyme_once.specs.Once.{filled, ownsFrom, onceOf, once}
+use Rattle.enzyme_once.specs.Once.{filled}
 use Rattle.enzyme_once.specs.SpotLaws.{spots}
+use Rattle.enzyme_fresh.specs.Fresh.{freshFrom, fresh}
+use Rattle.enzyme_fresh.specs.FreshLaws.{filled-pieces}
 use Rattle.enzyme_sites.specs.Starts.{Starts}
 use Rattle.enzyme_semi.specs.Walk.{placeIn, sitesIn}
-
-filled-same : (rs : List Range) → filled rs ≡ nonEmpty rs
-filled-same [] = refl
-filled-same (r ∷ rs) = rw (filled-same rs)
 
 placed-spots : (f : ℕ → ℕ) (i a : ℕ) (ts : List (List ℕ)) → ((j : ℕ) → j ≤ length ts → f (i + j) ≡ a + startOf ts j) → placed a ts ≡ spots f i (length ts)
 placed-spots f i a [] h = refl
@@ -39,9 +35,9 @@ filled-spots k s x m g =
     let n = g .count in
     let d : getD x j 0 ≡ startOf (pieces k s) j = g .at j (omega arith) in
     ap (placeIn x) e ∙ omega arith in
-    filled-same (setSites k 0 0 s) ∙ sites-pieces k s ∙ placed-spots (placeIn x) 0 0 (pieces k s) h ∙ rw (g .count)
+    filled-pieces k s ∙ placed-spots (placeIn x) 0 0 (pieces k s) h ∙ rw (g .count)
 
--- all windows, and behind them the parts of each
-pub once-spots : (k : Knife) (missed : ℕ) (s x : List ℕ) (m : ℕ) → Starts k s x m
-    → once k true missed s ≡ windowsFrom 0 (suc missed) (sitesIn x m) ++ ownsFrom 0 (suc missed) (sitesIn x m)
-once-spots k missed s x m g = ap (onceOf true missed) (filled-spots k s x m g)
+-- all windows, and behind them the parts of those that are new
+pub fresh-spots : (f : ℕ → ℕ) (k : Knife) (missed : ℕ) (s x : List ℕ) (m : ℕ) → Starts k s x m
+    → fresh f k missed s ≡ windowsFrom 0 (suc missed) (sitesIn x m) ++ freshFrom f 0 (suc missed) (sitesIn x m)
+fresh-spots f k missed s x m g = ap (λ (rs : List Range). windowsFrom 0 (suc missed) rs ++ freshFrom f 0 (suc missed) rs) (filled-spots k s x m g)

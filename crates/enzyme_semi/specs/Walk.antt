@@ -1,8 +1,11 @@
--- The table of starts, as the places that sites lie between.
-use Prim.Native.Nat.{ℕ}
-use mathlib.Core.List.{List}
+-- The table of starts, as the places that sites lie between, and the table of what is shared.
+use Prim.Native.Nat.{ℕ, zero, suc, _+_}
+use mathlib.Core.Bool.{cond}
+use mathlib.Core.List.{List, [], _++_}
 use lib.ListN.{getD}
-use Rattle.cutting_parts.specs.Cutting.{Range}
+use lib.Dec.{ltb}
+use Rattle.cutting_parts.specs.Cutting.{Range, site}
+use Rattle.enzyme_once.specs.Once.{own}
 use Rattle.enzyme_once.specs.SpotLaws.{spots}
 
 -- where site i starts, and the one before it ends
@@ -12,3 +15,19 @@ placeIn x i = getD x i 0
 -- the m sites of a table of starts
 abbrev pub sitesIn : List ℕ → ℕ → List Range
 sitesIn x m = spots (placeIn x) 0 m
+
+abbrev pub siteIn : List ℕ → ℕ → Range
+siteIn x i = site (placeIn x i) (placeIn x (i + 1))
+
+-- how many sites a window from site i shares with one from an earlier site
+abbrev pub sharedIn : List ℕ → ℕ → ℕ
+sharedIn y i = getD y i 0
+
+-- the parts of the window of the sites i to j, m sites on, where no earlier one has its letters
+abbrev pub freshIn : List ℕ → List ℕ → ℕ → ℕ → ℕ → List Range
+freshIn x y m i j = cond (ltb m (sharedIn y i)) [] (own m (siteIn x i) (siteIn x j))
+
+-- those of the n windows of the sites i to j, i + 1 to j + 1, ..
+abbrev pub freshIns : List ℕ → List ℕ → ℕ → ℕ → ℕ → ℕ → List Range
+freshIns x y m i j zero = []
+freshIns x y m i j (suc n) = freshIn x y m i j ++ freshIns x y m (suc i) (suc j) n
