@@ -1,40 +1,65 @@
-// A set with semi: each different range is looked at once. A range longer than what any other start shares is new; any other is
-// sought in a list of the records so far, which rises by length and letters.
+// A set with semi: each different range is looked at once, but for the parts of windows that stand before. A range longer than
+// what any other start shares is new; any other is sought in a list of the records so far, which rises by length and letters.
 use cutting_parts::Knife;
 use offering_parts::Step;
 use offering_parts::Terms;
 ghost use mathlib.Core.Path.{_≡_};
 ghost use mathlib.Core.Bool.{true};
-ghost use Prim.Native.Nat.{_≤_, _<_};
-ghost use lib.ListN.{length};
+ghost use mathlib.Core.List.{List};
+ghost use Prim.Native.Nat.{ℕ, _≤_, _<_};
+ghost use lib.ListN.{length, getD};
 ghost use Rattle.offering_parts.specs.Steps.{after, offers};
 ghost use Rattle.enzyme_once.specs.Once.{once};
-ghost use Rattle.enzyme_words.specs.Words.{wordsOf, Zeros};
+ghost use Rattle.enzyme_words.specs.Words.{wordsOf, Zeros, Far};
+ghost use Rattle.enzyme_sites.specs.Starts.{Starts};
+ghost use Rattle.enzyme_levels.specs.Levels.{Placed};
+ghost use Rattle.enzyme_fresh.specs.Fresh.{fresh, Repeats};
 
-// With tables that are lent: where the sites start; what a start shares at most; the words of q letters that stand twice; and
-// samples of the list.
-fn semi_over(
+// For each of the m sites how many sites, up to n, a window from it is known to share with one from an earlier site: none where
+// the tables are too short.
+fn fill_share(
+    letters: &[u8],
+    starts: &[u32],
+    m: usize,
+    n: usize,
+    order: &mut [u16],
+    other: &mut [u16],
+    name: &mut [u16],
+    rank: &mut [u16],
+    share: &mut [u8],
+    seen: &mut [u8],
+)
+    requires { ⌜ ((ts : List (List ℕ)) × Placed ts (now letters) (now starts) m) × (m ≤ 65536) × (1 ≤ n) × (n ≤ 17) × (length (now order) ≤ length (now other)) × (length (now order) ≤ length (now name)) × (length (now order) ≤ length (now rank)) × (length (now order) ≤ length (now share)) × Zeros (now share) ⌝ }
+    ensures { λ _. ⌜ ((ts : List (List ℕ)) → Placed ts (now (letters .entry)) (now (starts .entry)) m → Repeats ts (λ i. getD (now (share .exit)) i 0)) ⌝ }
+{
+    if order.len() < m {
+        return;
+    }
+    enzyme_levels::levels(letters, starts, m, n, order, other, name, rank, share, seen);
+}
+
+// Offers the ranges, and writes the protein's number where the links stood.
+fn list_semi(
     letters: &[u8],
     knife: Knife,
     missed: u8,
+    starts: &[u32],
+    share: &[u8],
+    m: usize,
+    far: &[u32],
     terms: Terms,
     out: &mut [u8],
-    starts: &mut [u32],
-    far: &mut [u32],
-    q: usize,
-    count: &mut [u8],
     marks: &mut [u32],
 ) -> Step
-    requires { ⌜ (length (now letters) ≤ 65536) × (missed ≤ 16) × (length (now letters) < length (now starts)) × (length (now letters) ≤ length (now far)) × (3 ≤ q) × (q ≤ 4) × (wordsOf q ≤ length (now count)) × Zeros (now count) ⌝ }
-    ensures { λ r. ⌜ after r (now (out .exit)) ≡ offers (now (letters .entry)) terms (once knife true missed (now (letters .entry))) 0 (now (out .entry)) ⌝ }
+    requires { ⌜ (length (now letters) ≤ 65536) × (missed ≤ 16) × Starts knife (now letters) (now starts) m × Far (now letters) (now far) ⌝ }
+    ensures { λ r. ⌜ after r (now (out .exit)) ≡ offers (now (letters .entry)) terms (fresh (λ i. getD (now (share .entry)) i 0) knife missed (now (letters .entry))) 0 (now (out .entry)) ⌝ }
 {
-    let m = enzyme_sites::sites(letters, knife, starts);
-    enzyme_words::fill_far(letters, q, far, count);
     let Step::Kept(k) = enzyme_semi::offer_semi(
         letters,
         knife,
         missed,
         starts,
+        share,
         m,
         far,
         terms,
@@ -48,6 +73,47 @@ fn semi_over(
     Step::Kept(k)
 }
 
+// With tables that are lent: where the sites start; what a start shares at most; the words of q letters that stand twice;
+// samples of the list; four for the order and the names of the sites; and how many sites each window shares with an earlier one.
+fn semi_over(
+    letters: &[u8],
+    knife: Knife,
+    missed: u8,
+    terms: Terms,
+    out: &mut [u8],
+    starts: &mut [u32],
+    far: &mut [u32],
+    q: usize,
+    count: &mut [u8],
+    marks: &mut [u32],
+    order: &mut [u16],
+    other: &mut [u16],
+    name: &mut [u16],
+    rank: &mut [u16],
+    share: &mut [u8],
+    seen: &mut [u8],
+) -> Step
+    requires { ⌜ (length (now letters) ≤ 65536) × (missed ≤ 16) × (length (now letters) < length (now starts)) × (length (now letters) ≤ length (now far)) × (3 ≤ q) × (q ≤ 4) × (wordsOf q ≤ length (now count)) × Zeros (now count) × (length (now order) ≤ length (now other)) × (length (now order) ≤ length (now name)) × (length (now order) ≤ length (now rank)) × (length (now order) ≤ length (now share)) × Zeros (now share) ⌝ }
+    ensures { λ r. ⌜ after r (now (out .exit)) ≡ offers (now (letters .entry)) terms (once knife true missed (now (letters .entry))) 0 (now (out .entry)) ⌝ }
+{
+    let m = enzyme_sites::sites(letters, knife, starts);
+    let n = missed as usize + 1;
+    fill_share(letters, starts, m, n, order, other, name, rank, share, seen);
+    enzyme_words::fill_far(letters, q, far, count);
+    list_semi(
+        letters,
+        knife,
+        missed,
+        starts,
+        share,
+        m,
+        far,
+        terms,
+        out,
+        marks,
+    )
+}
+
 // The same with tables of three sizes; long proteins are told by words of four letters.
 pub fn semi_small(letters: &[u8], knife: Knife, missed: u8, terms: Terms, out: &mut [u8]) -> Step
     requires { ⌜ (length (now letters) ≤ 1024) × (missed ≤ 16) ⌝ }
@@ -57,6 +123,12 @@ pub fn semi_small(letters: &[u8], knife: Knife, missed: u8, terms: Terms, out: &
     let mut far = [0 as u32; 1024];
     let mut count = [0 as u8; 17576];
     let mut marks = [0 as u32; 4096];
+    let mut order = [0 as u16; 1024];
+    let mut other = [0 as u16; 1024];
+    let mut name = [0 as u16; 1024];
+    let mut rank = [0 as u16; 1024];
+    let mut share = [0 as u8; 1024];
+    let mut seen = [0 as u8; 2048];
     semi_over(
         letters,
         knife,
@@ -68,6 +140,12 @@ pub fn semi_small(letters: &[u8], knife: Knife, missed: u8, terms: Terms, out: &
         3,
         &mut count,
         &mut marks,
+        &mut order,
+        &mut other,
+        &mut name,
+        &mut rank,
+        &mut share,
+        &mut seen,
     )
 }
 
@@ -79,6 +157,12 @@ pub fn semi_middle(letters: &[u8], knife: Knife, missed: u8, terms: Terms, out: 
     let mut far = [0 as u32; 8192];
     let mut count = [0 as u8; 131072];
     let mut marks = [0 as u32; 32768];
+    let mut order = [0 as u16; 2048];
+    let mut other = [0 as u16; 2048];
+    let mut name = [0 as u16; 2048];
+    let mut rank = [0 as u16; 2048];
+    let mut share = [0 as u8; 2048];
+    let mut seen = [0 as u8; 4096];
     semi_over(
         letters,
         knife,
@@ -90,6 +174,12 @@ pub fn semi_middle(letters: &[u8], knife: Knife, missed: u8, terms: Terms, out: 
         4,
         &mut count,
         &mut marks,
+        &mut order,
+        &mut other,
+        &mut name,
+        &mut rank,
+        &mut share,
+        &mut seen,
     )
 }
 
@@ -100,7 +190,13 @@ pub fn semi_large(letters: &[u8], knife: Knife, missed: u8, terms: Terms, out: &
     let mut starts = [0 as u32; 65537];
     let mut far = [0 as u32; 65536];
     let mut count = [0 as u8; 131072];
-    let mut marks = [0 as u32; 65536];
+    let mut marks = [0 as u32; 49152];
+    let mut order = [0 as u16; 16384];
+    let mut other = [0 as u16; 16384];
+    let mut name = [0 as u16; 16384];
+    let mut rank = [0 as u16; 16384];
+    let mut share = [0 as u8; 16384];
+    let mut seen = [0 as u8; 16384];
     semi_over(
         letters,
         knife,
@@ -112,5 +208,11 @@ pub fn semi_large(letters: &[u8], knife: Knife, missed: u8, terms: Terms, out: &
         4,
         &mut count,
         &mut marks,
+        &mut order,
+        &mut other,
+        &mut name,
+        &mut rank,
+        &mut share,
+        &mut seen,
     )
 }

@@ -42,7 +42,7 @@ fn shared(share: &[u8], i: usize) -> u8
     if i < share.len() { share[i] } else { 0 }
 }
 
-// The same where no earlier window has its letters: else its parts were all offered with that one.
+// The parts of the window of the sites i to j, where no earlier one has its letters: else all were offered with that one.
 fn offer_fresh(
     letters: &[u8],
     far: &[u32],

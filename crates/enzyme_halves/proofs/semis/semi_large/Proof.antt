@@ -8,12 +8,13 @@ use Rattle.enzyme_halves.proofs.semis.semi_large.Statement.{statement}
 use Rattle.enzyme_halves.proofs.semis.semi_large.Tie as tie
 
 semi-over-requires : tie.Need-semi-over-requires
-semi-over-requires c κs = let s = c .before .before .before .before .before .before .before in
+semi-over-requires c κs = let s = c .before .before .before .before .before .before .before .before .before .before .before .before .before in
     let n = length (now (s .args .letters)) in
-    (omega arith, s .pre .1, longer 65537 n (omega arith), as-long 65536 n (omega arith), omega arith, omega arith, as-long 131072 131072 (omega arith), zeros 131072)
+    (omega arith, s .pre .1, longer 65537 n (omega arith), as-long 65536 n (omega arith), omega arith, omega arith, as-long 131072 131072 (omega arith), zeros 131072, omega arith, omega arith, omega arith, omega arith, zeros 16384)
 
 pub semi-large-spec : {M : Type 1} → statement M
 semi-large-spec =
     tie.close
-    (tie.spec (λ c. search needs) (λ c. search needs) (λ c. search needs) (λ c. search needs) semi-over-requires
-    (λ c. search needs) (λ c. search needs))
+    (tie.spec (λ c. search needs) (λ c. search needs) (λ c. search needs) (λ c. search needs) (λ c. search needs)
+    (λ c. search needs) (λ c. search needs) (λ c. search needs) (λ c. search needs) (λ c. search needs)
+    semi-over-requires (λ c. search needs) (λ c. search needs))

@@ -8,12 +8,13 @@ use Rattle.enzyme_halves.proofs.semis.semi_middle.Statement.{statement}
 use Rattle.enzyme_halves.proofs.semis.semi_middle.Tie as tie
 
 semi-over-requires : tie.Need-semi-over-requires
-semi-over-requires c κs = let s = c .before .before .before .before .before .before .before in
+semi-over-requires c κs = let s = c .before .before .before .before .before .before .before .before .before .before .before .before .before in
     let n = length (now (s .args .letters)) in
-    (omega arith, s .pre .1, longer 8193 n (omega arith), as-long 8192 n (omega arith), omega arith, omega arith, as-long 131072 131072 (omega arith), zeros 131072)
+    (omega arith, s .pre .1, longer 8193 n (omega arith), as-long 8192 n (omega arith), omega arith, omega arith, as-long 131072 131072 (omega arith), zeros 131072, omega arith, omega arith, omega arith, omega arith, zeros 2048)
 
 pub semi-middle-spec : {M : Type 1} → statement M
 semi-middle-spec =
     tie.close
-    (tie.spec (λ c. search needs) (λ c. search needs) (λ c. search needs) (λ c. search needs) semi-over-requires
-    (λ c. search needs) (λ c. search needs))
+    (tie.spec (λ c. search needs) (λ c. search needs) (λ c. search needs) (λ c. search needs) (λ c. search needs)
+    (λ c. search needs) (λ c. search needs) (λ c. search needs) (λ c. search needs) (λ c. search needs)
+    semi-over-requires (λ c. search needs) (λ c. search needs))

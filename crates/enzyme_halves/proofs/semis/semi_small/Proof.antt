@@ -8,12 +8,13 @@ use Rattle.enzyme_halves.proofs.semis.semi_small.Statement.{statement}
 use Rattle.enzyme_halves.proofs.semis.semi_small.Tie as tie
 
 semi-over-requires : tie.Need-semi-over-requires
-semi-over-requires c κs = let s = c .before .before .before .before .before .before .before in
+semi-over-requires c κs = let s = c .before .before .before .before .before .before .before .before .before .before .before .before .before in
     let n = length (now (s .args .letters)) in
-    (omega arith, s .pre .1, longer 1025 n (omega arith), as-long 1024 n (omega arith), omega arith, omega arith, as-long 17576 17576 (omega arith), zeros 17576)
+    (omega arith, s .pre .1, longer 1025 n (omega arith), as-long 1024 n (omega arith), omega arith, omega arith, as-long 17576 17576 (omega arith), zeros 17576, omega arith, omega arith, omega arith, omega arith, zeros 1024)
 
 pub semi-small-spec : {M : Type 1} → statement M
 semi-small-spec =
     tie.close
-    (tie.spec (λ c. search needs) (λ c. search needs) (λ c. search needs) (λ c. search needs) semi-over-requires
-    (λ c. search needs) (λ c. search needs))
+    (tie.spec (λ c. search needs) (λ c. search needs) (λ c. search needs) (λ c. search needs) (λ c. search needs)
+    (λ c. search needs) (λ c. search needs) (λ c. search needs) (λ c. search needs) (λ c. search needs)
+    semi-over-requires (λ c. search needs) (λ c. search needs))
