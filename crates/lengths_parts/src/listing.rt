@@ -5,13 +5,13 @@ use crate::blocks::lesser;
 use offering_parts::Step;
 use offering_parts::Terms;
 ghost use mathlib.Core.Path.{_≡_};
-ghost use Prim.Native.Nat.{_+_, _-_, _≤_, _<_, min};
+ghost use Prim.Native.Nat.{_+_, _-_, _%_, _≤_, _<_, min};
 ghost use lib.ListN.{length};
 ghost use Rattle.cutting_parts.specs.Cutting.{starting, ofLength, noneSites};
 ghost use Rattle.offering_parts.specs.Steps.{after, offers};
 ghost use Rattle.lengths_parts.specs.Longest.{Longests, Measured};
 ghost use Rattle.lengths_parts.specs.Listing.{chosenOf};
-ghost use Rattle.lengths_parts.specs.Blocks.{Leasts, Above};
+ghost use Rattle.lengths_parts.specs.Blocks.{Above, Blocked};
 
 fn wide(x: u32) -> usize
     ensures { λ r. ⌜ r ≡ x ⌝ }
@@ -69,7 +69,58 @@ fn list_block(
     list_starts(letters, longest, len, protein, from, to, out, count)
 }
 
-// Writes the new ranges of a length, block by block.
+// Writes the new ranges of a length that start from `from` to `to`, block by block.
+fn list_blocks(
+    letters: &[u8],
+    longest: &[u32],
+    least: &[u32],
+    len: usize,
+    protein: u32,
+    from: usize,
+    to: usize,
+    out: &mut [u8],
+    count: usize,
+) -> Step
+    requires { ⌜ (length (now letters) ≤ 65536) × Measured (now letters) (now longest) × (to + len ≤ length (now letters) + 1) × Blocked (length (now letters)) (now longest) (now least) × (from % 64 ≡ 0) ⌝ }
+    ensures { λ r. ⌜ after r (now (out .exit)) ≡ chosenOf (now (letters .entry)) protein (starting len from (to - from)) count (now (out .entry)) ⌝ }
+{
+    let mut a = from;
+    let mut k = count;
+    while a < to {
+        let end = block_end(a, 64, to);
+        let low = wide(least[a / 64]);
+        let Step::Kept(x) = list_block(letters, longest, low, len, protein, a, end, out, k) else {
+            return Step::Full;
+        };
+        k = x;
+        a += 64;
+    }
+    Step::Kept(k)
+}
+
+// The same of a great block: with a length up to its least none is new, and none of its blocks is looked at.
+fn list_great(
+    letters: &[u8],
+    longest: &[u32],
+    least: &[u32],
+    len: usize,
+    protein: u32,
+    from: usize,
+    to: usize,
+    out: &mut [u8],
+    count: usize,
+) -> Step
+    requires { ⌜ (length (now letters) ≤ 65536) × Measured (now letters) (now longest) × (to + len ≤ length (now letters) + 1) × Blocked (length (now letters)) (now longest) (now least) × (from % 4096 ≡ 0) × (from < to) × (to ≤ from + 4096) ⌝ }
+    ensures { λ r. ⌜ after r (now (out .exit)) ≡ chosenOf (now (letters .entry)) protein (starting len from (to - from)) count (now (out .entry)) ⌝ }
+{
+    let low = wide(least[1025 + from / 4096]);
+    if len <= low {
+        return Step::Kept(count);
+    }
+    list_blocks(letters, longest, least, len, protein, from, to, out, count)
+}
+
+// Writes the new ranges of a length, great block by great block.
 fn list_length(
     letters: &[u8],
     longest: &[u32],
@@ -79,22 +130,19 @@ fn list_length(
     out: &mut [u8],
     count: usize,
 ) -> Step
-    requires { ⌜ (length (now letters) ≤ 65536) × (len ≤ length (now letters)) × Measured (now letters) (now longest) × (1025 ≤ length (now least)) × Leasts (length (now letters)) (now longest) (now least) ⌝ }
+    requires { ⌜ (length (now letters) ≤ 65536) × (len ≤ length (now letters)) × Measured (now letters) (now longest) × Blocked (length (now letters)) (now longest) (now least) ⌝ }
     ensures { λ r. ⌜ after r (now (out .exit)) ≡ chosenOf (now (letters .entry)) protein (ofLength (length (now (letters .entry))) len) count (now (out .entry)) ⌝ }
 {
     let starts = letters.len() + 1 - len;
-    let mut b = 0;
     let mut a = 0;
     let mut k = count;
     while a < starts {
-        let to = block_end(a, starts);
-        let low = wide(least[b]);
-        let Step::Kept(x) = list_block(letters, longest, low, len, protein, a, to, out, k) else {
+        let to = block_end(a, 4096, starts);
+        let Step::Kept(x) = list_great(letters, longest, least, len, protein, a, to, out, k) else {
             return Step::Full;
         };
         k = x;
-        b += 1;
-        a += 64;
+        a += 4096;
     }
     Step::Kept(k)
 }
@@ -107,7 +155,7 @@ fn list_lengths(
     terms: Terms,
     out: &mut [u8],
 ) -> Step
-    requires { ⌜ (length (now letters) ≤ 65536) × (terms .maximum ≤ 65536) × Measured (now letters) (now longest) × (1025 ≤ length (now least)) × Leasts (length (now letters)) (now longest) (now least) ⌝ }
+    requires { ⌜ (length (now letters) ≤ 65536) × (terms .maximum ≤ 65536) × Measured (now letters) (now longest) × Blocked (length (now letters)) (now longest) (now least) ⌝ }
     ensures { λ r. ⌜ after r (now (out .exit)) ≡ chosenOf (now (letters .entry)) (terms .protein) (noneSites (length (now (letters .entry))) (terms .minimum) (terms .maximum)) 0 (now (out .entry)) ⌝ }
 {
     let n = letters.len() as u32;
@@ -126,7 +174,7 @@ fn list_lengths(
 }
 
 // Writes the digests of "none". longest has for each start the longest stretch that it shares with an earlier one; least
-// holds the least of it in each block of 64 starts on the way.
+// holds the least of it in each block on the way.
 pub fn list_measured(
     letters: &[u8],
     longest: &[u32],
@@ -134,7 +182,7 @@ pub fn list_measured(
     out: &mut [u8],
     least: &mut [u32],
 ) -> Step
-    requires { ⌜ (length (now letters) ≤ 65536) × (terms .maximum ≤ 65536) × (length (now letters) < length (now longest)) × (1025 ≤ length (now least)) × Longests (now letters) (now longest) ⌝ }
+    requires { ⌜ (length (now letters) ≤ 65536) × (terms .maximum ≤ 65536) × (length (now letters) < length (now longest)) × (1042 ≤ length (now least)) × Longests (now letters) (now longest) ⌝ }
     ensures { λ r. ⌜ after r (now (out .exit)) ≡ offers (now (letters .entry)) terms (noneSites (length (now (letters .entry))) (terms .minimum) (terms .maximum)) 0 (now (out .entry)) ⌝ }
 {
     fill_least(longest, letters.len(), least);

@@ -38,7 +38,7 @@ loop-holds c = (refl, c .lesser .ensures, refl)
 list-length-requires : tie.Need-list-length-requires Inv-loop μ-loop
 list-length-requires c κs = let s = c .before .before .before .before .before .before .before .before .before in
     let t = c .before .before .before .loop .inv .1 in
-    (s .pre .0, omega (arith, c .before .wide .ensures), s .pre .2, s .pre .3, s .pre .4)
+    (s .pre .0, omega (arith, c .before .wide .ensures), s .pre .2, s .pre .3)
 
 returns : tie.Need-returns Inv-loop μ-loop
 returns c = let s = c .before .before .before .before .before .before .before .before .before .before .before .before .before .before in
