@@ -72,14 +72,15 @@ fn hostile(rng: &mut Rng, length: usize) -> Vec<(&'static str, String)> {
     };
     let block = |size: usize| std::iter::repeat_n('A', size).chain(['K']);
     let of_three = (0..length).map(|_| rng.pick(b"KPA") as char).collect();
-    let collided = String::from_utf8(colliding::protein(length)).expect("letters");
+    let text = |letters: Vec<u8>| String::from_utf8(letters).expect("letters");
     vec![
         ("random", letters(rng, length)),
         ("a stretch twice", again(rng, 2)),
         ("a stretch 16 times", again(rng, 16)),
         ("K, P and A at random", of_three),
         ("blocks A..AK", (0..120).cycle().flat_map(block).take(length).collect()),
-        ("made to collide", collided),
+        ("made to collide", text(colliding::protein(length))),
+        ("sites of one code", text(colliding::of_one_code(length))),
     ]
 }
 

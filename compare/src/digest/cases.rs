@@ -267,8 +267,8 @@ fn again(rng: &mut Rng, times: usize, len: usize) -> Vec<u8> {
 /// What someone sends who wants many equal peptides, or many that are equal nearly to their ends.
 fn hostile(rng: &mut Rng, len: usize) -> Vec<Vec<u8>> {
     let three = (0..len).map(|_| rng.pick(b"KPA")).collect();
-    let collided = colliding::protein(len);
-    vec![again(rng, 2, len), again(rng, 16, len), three, blocks(len), collided]
+    let collided = [colliding::protein(len), colliding::of_one_code(len)];
+    [vec![again(rng, 2, len), again(rng, 16, len), three, blocks(len)], collided.into()].concat()
 }
 
 /// Lengths around those at which another table is taken, for every way of cutting.

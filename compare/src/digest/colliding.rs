@@ -1,5 +1,5 @@
-//! Proteins whose peptides all had one place in the table that the library's first search for repeats was addressed by. It is gone;
-//! the proteins stay, as those that made it take 16 minutes.
+//! Proteins whose peptides all have one place in a table that is addressed by a number made of their letters: in the chains of
+//! equal hashes that DECISIONS 28 speaks of, and in the table that tells which sites stand alone.
 
 /// The table's places, and the one that the peptides have in common.
 const PLACES: u64 = 131_072;
@@ -48,6 +48,20 @@ fn peptides(count: usize) -> Vec<[u8; PEPTIDE]> {
 
 pub fn protein(len: usize) -> Vec<u8> {
     let mut letters = peptides(len.div_ceil(PEPTIDE)).concat();
+    letters.truncate(len);
+    letters
+}
+
+/// Letters of a site that has its code with all others: it is made of the first four letters, the last four and the length.
+const ENDS: [u8; 4] = *b"AAAA";
+const SITE: usize = 16;
+
+/// Sites that differ in the middle alone, each of them twice.
+pub fn of_one_code(len: usize) -> Vec<u8> {
+    let different = len.div_ceil(2 * SITE);
+    let middle = |number: usize| word(number % different * 7_919 % LETTERS.len().pow(4), None).to_le_bytes();
+    let site = |number: usize| [ENDS, middle(number), ENDS, *b"AAAK"].concat();
+    let mut letters = (0..2 * different).flat_map(site).collect::<Vec<u8>>();
     letters.truncate(len);
     letters
 }
