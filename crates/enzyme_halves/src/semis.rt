@@ -190,7 +190,7 @@ pub fn semi_large(letters: &[u8], knife: Knife, missed: u8, terms: Terms, out: &
     let mut starts = [0 as u32; 65537];
     let mut far = [0 as u32; 65536];
     let mut count = [0 as u8; 131072];
-    let mut marks = [0 as u32; 49152];
+    let mut marks = [0 as u32; 40960];
     let mut order = [0 as u16; 16384];
     let mut other = [0 as u16; 16384];
     let mut name = [0 as u16; 16384];
