@@ -112,7 +112,7 @@ static inline uint32_t sendumaal_mass_bits(float mass)
  * semi: 0 or 1. missed is at most 16, minimum, maximum and letters_len at most 65536, protein is any number.
  * Refuses with 1; 3 (alphabet bits above 25, or a member of cleave, for kind 2, or of skip that is not in alphabet); 2; 9
  * (a kind, side or semi that is none: 0); 11: the records that fit stand in order. Accepted: *count is their number.
- * It takes 0.9 MB of stack. */
+ * It takes up to 1 MB of stack: 75 KB for 1024 letters, 370 KB for 8192. */
 uint32_t sendumaal_digest(const uint8_t *letters, size_t letters_len, uint32_t alphabet,
                           uint32_t kind, uint32_t cleave, uint32_t skip, uint32_t side, uint32_t semi,
                           uint32_t missed, uint32_t minimum, uint32_t maximum, uint32_t protein,
