@@ -1,10 +1,12 @@
--- What the counter of choices answers: the choice after a choice, or the one that differs from it among its first places.
+-- What the counter of choices answers: the successor of a choice, or the one that differs from it among its first places.
 use Prim.Native.Nat.{ℕ, zero, suc, _+_}
 use mathlib.Core.Bool.{true, false, cond}
 use mathlib.Core.List.{List, [], _∷_, _++_}
 use mathlib.Core.Option.{Option, none, some}
 use lib.ListN.{length, take, drop, replicate}
 use lib.Dec.{ltb, leb}
+use Rattle.sorting.specs.Distinct.{same}
+use Rattle.choice_parts.specs.Choices.{choicesOf}
 use Rattle.choice_parts.specs.declared.choice.Choice.{Choice}
 use Rattle.choice_parts.specs.declared.choice.Stepped.{Stepped}
 
@@ -37,16 +39,36 @@ past m zero c = none
 past m (suc e) [] = none
 past m (suc e) (a ∷ rest) = move m a rest (past m e rest)
 
+-- the places of a choice
+abbrev pub word : Choice → List ℕ
+word c = take (c .n) (c .at)
+
 -- the state that stands at a choice, or at none; the places past n stay
 unfoldable pub steppedTo : Choice → Option (List ℕ) → Stepped
 steppedTo c none = record { more = false; choice = c }
-steppedTo c (some l) = record { more = true; choice = record { at = l ++ drop (c .n) (c .at); n = c .n } }
+steppedTo c (some l) = record { more = true; choice = record { at = l ++ drop (c .n) (c .at); n = c .n; m = c .m } }
 
--- the choice of places below m after all that begin with c's first kept + 1 places, or none
-unfoldable pub stepped : Choice → ℕ → ℕ → Stepped
+-- the first of a list
+abbrev pub head : List (List ℕ) → Option (List ℕ)
+head [] = none
+head (c ∷ cs) = some c
+
+-- what stands right behind c in a list, or none
+unfoldable pub follower : List ℕ → List (List ℕ) → Option (List ℕ)
+follower c [] = none
+follower c (d ∷ ds) = let rest = follower c ds in cond (same c d) (head ds) rest
+
+-- the successor of c among all choices of n of m sites, which stand in lexicographic order, or that none is left; what is no
+-- such choice has none
+unfoldable pub successor : Choice → Stepped
+unfolding steppedTo follower choicesOf
+successor c = steppedTo c (follower (word c) (choicesOf (c .n) (c .m) 0))
+
+-- the choice after all that begin with c's first kept + 1 places, or none
+unfoldable pub stepped : Choice → ℕ → Stepped
 unfolding steppedTo
-stepped c kept m = steppedTo c (past m (suc kept) (take (c .n) (c .at)))
+stepped c kept = steppedTo c (past (c .m) (suc kept) (word c))
 
 unfoldable pub begun : ℕ → ℕ → Stepped
 unfolding steppedTo
-begun n m = steppedTo (record { at = replicate 8 0; n = n }) (firstOf n m)
+begun n m = steppedTo (record { at = replicate 8 0; n = n; m = m }) (firstOf n m)

@@ -1,15 +1,18 @@
 // A small state stepped by value through the choices of n places, in lexicographic order.
 ghost use mathlib.Core.Path.{_≡_};
+ghost use mathlib.Core.Bool.{true, false};
 ghost use mathlib.Core.List.{_++_};
 ghost use mathlib.Core.Logic.{_⊎_};
 ghost use Prim.Native.Nat.{ℕ, suc, _+_, _-_, _≤_, _<_, min};
 ghost use lib.ListN.{take, drop, getD};
-ghost use Rattle.choice_parts.specs.Steps.{run, stepped, begun};
+ghost use Rattle.choice_parts.specs.Steps.{run, begun, stepped, successor};
+ghost use Rattle.choice_parts.specs.SuccessorLaws.{IsOne};
 
-// A choice of n places: at[0] < .. < at[n - 1].
+// A choice of n of m sites: at[0] < .. < at[n - 1] < m.
 pub struct Choice {
     pub at: [usize; 8],
     pub n: usize,
+    pub m: usize,
 }
 
 // A choice, or that none is left.
@@ -60,7 +63,7 @@ fn one_more(kept: usize, n: usize) -> usize
 }
 
 impl Choice {
-    // The first choice of n places below m.
+    // The first choice of n of m sites.
     pub fn first(n: usize, m: usize) -> Stepped
         requires { ⌜ n ≤ 8 ⌝ }
         ensures { λ r. ⌜ r ≡ begun n m ⌝ }
@@ -68,7 +71,7 @@ impl Choice {
         let mut at = [0usize; 8];
         let mut i = 0;
         if m < n {
-            let none = Choice { at, n };
+            let none = Choice { at, n, m };
             return Stepped {
                 more: false,
                 choice: none,
@@ -78,23 +81,62 @@ impl Choice {
             at[i] = i;
             i += 1;
         }
-        let choice = Choice { at, n };
+        let choice = Choice { at, n, m };
         Stepped { more: true, choice }
     }
 
-    // The successor among the choices of places below m, after all that begin with the first kept + 1 places: where those
-    // clash, no choice that begins with them can pass. With kept of n or n - 1 it is the next choice.
-    pub fn next(self, kept: usize, m: usize) -> Stepped
-        requires { ⌜ (kept ≤ self .n) × (self .n ≤ 8) ⌝ }
-        ensures { λ r. ⌜ r ≡ stepped self kept m ⌝ }
+    // Whether it is one of the choices of n of m sites.
+    fn is_one(self) -> bool
+        ensures { λ r. ⌜ (r ≡ true → IsOne self) × (r ≡ false → IsOne self → ⊥) ⌝ }
     {
         let at = self.at;
         let n = self.n;
+        let m = self.m;
+        let mut low = 0;
+        let mut i = 0;
+        if 8 < n {
+            return false;
+        }
+        while i < n {
+            let a = at[i];
+            if (low <= a) & (a < m) {
+                low = a + 1;
+                i += 1;
+            } else {
+                return false;
+            }
+        }
+        true
+    }
+
+    // The successor in lexicographic order among the choices of n of m sites, or that none is left.
+    pub fn next(self) -> Stepped
+        ensures { λ r. ⌜ r ≡ successor self ⌝ }
+    {
+        let n = self.n;
+        if self.is_one() {
+            return self.next_past(n);
+        }
+        Stepped {
+            more: false,
+            choice: self,
+        }
+    }
+
+    // The successor that comes after all that begin with the first kept + 1 places: where those clash, no choice that
+    // begins with them can pass. With kept of n or n - 1 it is the next choice.
+    pub fn next_past(self, kept: usize) -> Stepped
+        requires { ⌜ self .n ≤ 8 ⌝ }
+        ensures { λ r. ⌜ r ≡ stepped self kept ⌝ }
+    {
+        let at = self.at;
+        let n = self.n;
+        let m = self.m;
         let e = one_more(kept, n);
         let i = movable(at, e, n, m);
         if i < n {
             let made = refilled(at, i, n, m);
-            let choice = Choice { at: made, n };
+            let choice = Choice { at: made, n, m };
             return Stepped { more: true, choice };
         }
         Stepped {

@@ -71,7 +71,7 @@ module _ (ok : List ℕ → Bool) (form : List ℕ → List ℕ) (m limit cap ro
       got = moved ok m n kept s (h .xs) (h .left) e r
 
       -- a choice that does not pass takes none with it that does
-      pub skipped : ok (wordOf s) ≡ false → Here ok form m limit cap n room k₀ old out k (stepped (s .choice) kept m)
+      pub skipped : ok (wordOf s) ≡ false → Here ok form m limit cap n room k₀ old out k (stepped (s .choice) kept)
       skipped f =
           record {
             low = h .low;
@@ -96,7 +96,7 @@ module _ (ok : List ℕ → Bool) (form : List ℕ → List ℕ) (m limit cap ro
           (h .runs)
 
       pub took : (newer : List ℕ) → ok (wordOf s) ≡ true → reached cap k ≡ false → k < room → length newer ≡ length out → newer ≡ sets out (66 * k) (form (wordOf s))
-          → Here ok form m limit cap n room k₀ old newer (k + 1) (stepped (s .choice) kept m)
+          → Here ok form m limit cap n room k₀ old newer (k + 1) (stepped (s .choice) kept)
       took newer f g i l w =
           record {
             low = h .low;
@@ -113,7 +113,7 @@ module _ (ok : List ℕ → Bool) (form : List ℕ → List ℕ) (m limit cap ro
                 (standing-more 66 mostForms first all z (form (wordOf s)) (map form (todo ok cap (k + 1) (got .rest ++ more))) out k (next-is f g first all q z t) (omega arith));
           }
 
-      pub less : count-left m n (stepped (s .choice) kept m) < count-left m n s
+      pub less : count-left m n (stepped (s .choice) kept) < count-left m n s
       less = fewer ok m n kept s (h .xs) (h .left) got
 
     pub stopped : reached cap k ≡ true → Runs room start old k₀ [] out k

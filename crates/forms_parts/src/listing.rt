@@ -81,7 +81,7 @@ pub fn list_forms(
                 peptide_parts::put_form(next, out, 66 * count);
                 count += 1;
             }
-            s = c.next(kept, m);
+            s = c.next_past(kept);
         }
         if count == had {
             break;

@@ -88,13 +88,8 @@ put-form-requires c κs =
 add-count : tie.Need-add-count Inv-loop μ-loop Inv-outer μ-outer
 add-count c = omega (arith, c .before .before .before .before .before .before .if2 .left)
 
-next-requires : tie.Need-next-requires Inv-loop μ-loop Inv-outer μ-outer
-next-requires c κs =
-    let l = c .before .before .before .before .loop in
-    let o = c .before .before .before .before .before .before .before .outer in
-    let m = length (c .before .before .before .before .before .before .before .before .before .before .before .args .sites .now) in
-    let wide : length (wordOf (l .s)) ≡ o .n = left-wide m (o .n) (l .s) (l .inv .xs) (l .inv .left) (c .before .before .before .loop-test .taken) in
-    (omega (arith, c .before .reach .ensures .within, l .inv .left .size), omega (arith, l .inv .left .size, l .inv .high))
+next-past-requires : tie.Need-next-past-requires Inv-loop μ-loop Inv-outer μ-outer
+next-past-requires c κs = let l = c .before .before .before .before .loop .inv in omega (arith, l .left .size, l .high)
 
 loop-less : tie.Need-loop-less Inv-loop μ-loop Inv-outer μ-outer
 loop-less c =
@@ -109,7 +104,7 @@ loop-less c =
     let sound = reached-sound (a .sites .now) (a .rules .now) (wordOf (l .s)) (r .result) (r .ensures) in
     let e = c .before .before .before .before .loop-test .taken in
     let wide : length (wordOf (l .s)) ≡ o .n = left-wide m (o .n) (l .s) (l .inv .xs) (l .inv .left) e in
-    subst (λ (t : Stepped). count-left m (o .n) t < count-left m (o .n) (l .s)) (sym (c .next .ensures))
+    subst (λ (t : Stepped). count-left m (o .n) t < count-left m (o .n) (l .s)) (sym (c .next-past .ensures))
     (less ok form m (a .limit) (a .cap) room (o .n) (o .count) (o .out) (l .out) (l .count) (l .s) (l .inv) (r .result) e sound)
 
 loop-again : tie.Need-loop-again Inv-loop μ-loop Inv-outer μ-outer
@@ -126,14 +121,14 @@ loop-again c =
     let e = c .before .before .before .before .loop-test .taken in
     let wide : length (wordOf (l .s)) ≡ o .n = left-wide m (o .n) (l .s) (l .inv .xs) (l .inv .left) e in
     let H : List ℕ → ℕ → Stepped → Type 0 = Here ok form m (a .limit) (a .cap) (o .n) room (o .count) (o .out) in
-    subst (λ (t : Stepped). H (c .before .if1 .out) (c .before .if1 .count) t) (sym (c .next .ensures))
+    subst (λ (t : Stepped). H (c .before .if1 .out) (c .before .if1 .count) t) (sym (c .next-past .ensures))
     (⊎-elim
-    (λ w. subst₂ (λ (z : List ℕ) (k : ℕ). H z k (stepped (l .s .choice) (r .result) m)) (sym (w .8)) (sym (w .9))
+    (λ w. subst₂ (λ (z : List ℕ) (k : ℕ). H z k (stepped (l .s .choice) (r .result))) (sym (w .8)) (sym (w .9))
     (took ok form m (a .limit) (a .cap) room (o .n) (o .count) (o .out) (l .out) (l .count) (l .s) (l .inv) (r .result) e sound (w .5 .last .1 .0)
     (reached-whole (a .sites .now) (a .rules .now) (wordOf (l .s)) (r .result) (r .ensures) (w .0 .taken ∙ sym wide))
     (cap-ahead (a .cap) (l .count) (w .1 .left)) (w .2 .left) (w .5 .kept .1 .0)
     (w .5 .ensures ∙ ap (sets (l .out) (66 * l .count)) (w .3 .ensures))))
-    (λ w. subst₂ (λ (z : List ℕ) (k : ℕ). H z k (stepped (l .s .choice) (r .result) m)) (sym (w .1)) (sym (w .2))
+    (λ w. subst₂ (λ (z : List ℕ) (k : ℕ). H z k (stepped (l .s .choice) (r .result))) (sym (w .1)) (sym (w .2))
     (skipped ok form m (a .limit) (a .cap) room (o .n) (o .count) (o .out) (l .out) (l .count) (l .s) (l .inv) (r .result) e sound
     (reached-part (a .sites .now) (a .rules .now) (wordOf (l .s)) (r .result) (r .ensures) (let i : r .result ≤ length (wordOf (l .s)) = r .ensures .within in omega (arith, w .0 .left)))))
     (c .before .if1 .came))
@@ -214,7 +209,7 @@ list-forms-spec =
     mul-put-form
     put-form-requires
     add-count
-    next-requires
+    next-past-requires
     loop-less
     loop-again
     add-n

@@ -1,57 +1,27 @@
--- `next` meets its contract: by the last place that can move. Assumes nothing.
-use Prim.Native.Nat.{suc, _+_, min}
-use mathlib.Core.Path.{_≡_}
-use mathlib.Core.Logic.{inl, inr}
-use mathlib.Core.List.{append-assoc}
+-- `next` meets its contract: the step past the whole choice, if it is one. Assumes nothing.
+use mathlib.Core.Path.{_≡_, sym, _∙_}
 use native.Mathlib.Omega.{arith}
 use lib.ListN.{length}
 use borrow.Author.Needs.{needs}
-use Rattle.choice_parts.specs.StepLaws.{step-none, step-some}
-use Rattle.choice_parts.specs.Steps.{stepped, steppedTo}
+use Rattle.choice_parts.specs.SuccessorLaws.{none-left, one-fits, past-whole}
 use Rattle.choice_parts.proofs.choice.Choice.next.Statement.{statement}
 use Rattle.choice_parts.proofs.choice.Choice.next.Tie as tie
 
-one-more-requires : tie.Need-one-more-requires
-one-more-requires c κs = search needs
+is-one-requires : tie.Need-is-one-requires
+is-one-requires c κs = search needs
 
-movable-requires : tie.Need-movable-requires
-movable-requires c κs = search needs
-
-refilled-requires : tie.Need-refilled-requires
-refilled-requires c κs =
-    let w = c .before .movable .ensures .1 .0 (c .if1 .taken) in
-    (c .if1 .taken, c .before .before .before .before .pre .1, w .1)
+next-past-requires : tie.Need-next-past-requires
+next-past-requires c κs =
+    let p = c .before .before .args .self in
+    let l : length (p .at) ≡ 8 = search needs in
+    omega (arith, one-fits p (c .before .is-one .ensures .0 (c .if1 .taken)))
 
 returns : tie.Need-returns
-unfolding stepped steppedTo
-returns c =
-    let p = c .before .before .before .before .before .args .self in
-    let kept = c .before .before .before .before .before .args .kept in
-    let m = c .before .before .before .before .before .args .m in
-    let i = c .before .before .movable .result in
-    let w = c .before .before .movable .ensures in
-    let t = c .before .if1 .taken in
-    let v = w .1 .0 t in
-    let l : length (p .at) ≡ 8 = search needs in
-    let e : c .before .before .before .one-more .result ≡ min (kept + 1) (p .n) = c .before .before .before .one-more .ensures in
-    rw (
-      step-some (p .at) (p .n) m i (suc kept) (omega arith) t (omega (arith, v .0)) (v .1) (λ j a f b. w .1 .1 j (inl a) (omega arith)),
-      c .refilled .ensures,
-      append-assoc,
-    )
+returns c = c .next-past .ensures ∙ past-whole (c .before .before .before .args .self) (c .before .before .is-one .ensures .0 (c .before .if1 .taken))
 
 returns-2 : tie.Need-returns-2
-unfolding stepped steppedTo
-returns-2 c =
-    let p = c .before .before .before .before .args .self in
-    let kept = c .before .before .before .before .args .kept in
-    let m = c .before .before .before .before .args .m in
-    let w = c .before .movable .ensures in
-    let l : length (p .at) ≡ 8 = search needs in
-    let e : c .before .movable .result ≡ p .n = omega arith in
-    let f : c .before .before .one-more .result ≡ min (kept + 1) (p .n) = c .before .before .one-more .ensures in
-    rw (step-none (p .at) (p .n) m (suc kept) (omega arith) (λ j a b. w .1 .1 j (inr e) (omega arith)))
+returns-2 c = sym (none-left (c .before .before .args .self) (c .before .is-one .ensures .1 (c .if1 .left)))
 
 pub next-spec : {M : Type 1} → statement M
 next-spec =
-    tie.close (tie.spec one-more-requires movable-requires refilled-requires returns returns-2)
+    tie.close (tie.spec is-one-requires next-past-requires returns returns-2)
