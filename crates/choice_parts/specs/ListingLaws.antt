@@ -45,7 +45,7 @@ lex-apart (a ∷ c) h = ⊎-elim (λ (l : a < a). omega arith) (λ (e : (a ≡ a
 pub before-apart : (c : List ℕ) → Before c c → ⊥
 before-apart c h = ⊎-elim (λ (l : length c < length c). omega arith) (λ (e : (length c ≡ length c) × Lex c c). lex-apart c (e .1)) h
 
-before-in : (c d : List ℕ) (xs : List (List ℕ)) → BeforeAll c xs → In d xs → Before c d
+pub before-in : (c d : List ℕ) (xs : List (List ℕ)) → BeforeAll c xs → In d xs → Before c d
 before-in c d [] b h = absurd h
 before-in c d (x ∷ xs) b h = ⊎-elim (λ (e : d ≡ x). subst (Before c) (sym e) (b .0)) (λ (i : In d xs). before-in c d xs (b .1) i) h
 

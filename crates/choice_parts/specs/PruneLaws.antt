@@ -27,7 +27,7 @@ pub record Within (m e : ℕ) (c : List ℕ) : Type 0 where
   pub size : length to ≡ length c
   pub on : past m e to ≡ past m e c
 
-found : Option (List ℕ) → Bool
+unfoldable pub found : Option (List ℕ) → Bool
 found none = false
 found (some c) = true
 

@@ -1,10 +1,11 @@
--- The successor is the choice after, and the step past the whole choice. Assumes nothing.
-use Prim.Native.Nat.{ℕ, zero, suc, _+_, _≤_, _<_}
+-- The successor of a choice stands behind it with nothing between, and is what the step past the whole choice answers.
+-- Assumes nothing.
+use Prim.Native.Nat.{ℕ, suc, _+_, _≤_, _<_}
 use mathlib.Core.Path.{_≡_, refl, sym, ap, _∙_, subst}
 use mathlib.Core.Bool.{Bool, true, false, cond, _&&_, true≢false}
 use mathlib.Core.List.{List, [], _∷_}
 use mathlib.Core.Option.{Option, none, some}
-use mathlib.Core.Logic.{⊎-elim, inl, inr}
+use mathlib.Core.Logic.{_⊎_, ⊎-elim, inl, inr}
 use native.Mathlib.Omega.{arith}
 use native.Mathlib.Nat.{zero-add}
 use native.Mathlib.Numerals.{add-one}
@@ -16,9 +17,9 @@ use Rattle.records.specs.Tests.{both}
 use Rattle.sorting.specs.Distinct.{same}
 use Rattle.sorting.specs.DistinctLaws.{same-refl, same-eq}
 use Rattle.choice_parts.specs.Choices.{choicesOf}
-use Rattle.choice_parts.specs.ListingLaws.{Ascending, In, choices-all, choices-only}
+use Rattle.choice_parts.specs.ListingLaws.{Ascending, Before, In, Ordered, before-in, choices-all, choices-only, choices-ordered}
 use Rattle.choice_parts.specs.OrderLaws.{Chain, chain-first, go-on, stop}
-use Rattle.choice_parts.specs.PruneLaws.{past-all}
+use Rattle.choice_parts.specs.PruneLaws.{found, past-all}
 use Rattle.choice_parts.specs.Steps.{after, follower, head, stepped, steppedTo, successor, word}
 use Rattle.choice_parts.specs.declared.choice.Choice.{Choice}
 
@@ -106,3 +107,42 @@ past-whole c i =
 pub none-left : (c : Choice) → (IsOne c → ⊥) → successor c ≡ record { more = false; choice = c }
 unfolding successor steppedTo
 none-left c h = ap (steppedTo c) (follower-out (word c) (choicesOf (c .n) (c .m) 0) h)
+
+-- ---- nothing stands between: of a list in order each stands up to c, or from what follows c on
+
+-- c stands before d or is it
+abbrev pub UpTo : List ℕ → List ℕ → Type 0
+UpTo c d = (c ≡ d) ⊎ Before c d
+
+pub record Next (c d : List ℕ) (xs : List (List ℕ)) : Type 0 where
+  pub here : In c xs
+  pub behind : Before c d
+  pub between : (x : List ℕ) → In x xs → UpTo x c ⊎ UpTo d x
+
+next-first : (c d : List ℕ) (ys : List (List ℕ)) → Ordered (c ∷ ys) → head ys ≡ some d → Next c d (c ∷ ys)
+unfolding found
+next-first c d [] o e = absurd (true≢false (sym (ap found e)))
+next-first c d (y ∷ ys) o e =
+    let w : y ≡ d = cc in
+    let rest : (x : List ℕ) → In x (y ∷ ys) → UpTo y x = λ x. ⊎-elim (λ (q : x ≡ y). inl (sym q)) (λ (i : In x ys). inr (before-in y x ys (o .1 .0) i)) in
+    subst (λ (z : List ℕ). Next c z (c ∷ y ∷ ys)) w
+    (record { here = inl refl; behind = o .0 .0; between = λ x. ⊎-elim (λ (q : x ≡ c). inl (inl q)) (λ (i : In x (y ∷ ys)). inr (rest x i)) })
+
+pub follower-next : (c d : List ℕ) (xs : List (List ℕ)) → Ordered xs → follower c xs ≡ some d → Next c d xs
+unfolding follower found
+follower-next c d [] o e = absurd (true≢false (sym (ap found e)))
+follower-next c d (y ∷ ys) o e = go (λ (q : follower c ys ≡ some d). follower-next c d ys (o .1) q) (same c y) refl e
+  where
+    later : Next c d ys → Next c d (y ∷ ys)
+    later n = record {
+      here = inr (n .here);
+      behind = n .behind;
+      between = λ x. ⊎-elim (λ (q : x ≡ y). inl (inr (subst (λ (z : List ℕ). Before z c) (sym q) (before-in y c ys (o .0) (n .here))))) (n .between x);
+    }
+
+    go : (follower c ys ≡ some d → Next c d ys) → (b : Bool) → same c y ≡ b → cond b (head ys) (follower c ys) ≡ some d → Next c d (y ∷ ys)
+    go ih true s q = let w : y ≡ c = sym (same-eq c y s) in subst (λ (z : List ℕ). Next c d (z ∷ ys)) (sym w) (next-first c d ys (subst (λ (z : List ℕ). Ordered (z ∷ ys)) w o) q)
+    go ih false s q = later (ih q)
+
+pub next-in-order : (n m : ℕ) (c d : List ℕ) → follower c (choicesOf n m 0) ≡ some d → Next c d (choicesOf n m 0)
+next-in-order n m c d = follower-next c d (choicesOf n m 0) (choices-ordered n m 0)
