@@ -75,7 +75,7 @@ uint32_t sendumaal_rule_write(uint32_t kind, uint32_t letter, uint8_t *out, size
 uint32_t sendumaal_variable_rules_test(const uint8_t *rules, size_t rules_len, size_t *place);
 uint32_t sendumaal_fixed_rules_test(const uint8_t *rules, size_t rules_len, size_t *place);
 
-/* Reads record number index. Refuses with 9 at index, also where there is no such record. */
+/* Reads record number index of at most 32. Refuses with 1, 8, then 9 at index, also where there is no such record. */
 uint32_t sendumaal_rule_read(const uint8_t *rules, size_t rules_len, size_t index,
                              uint32_t *kind, uint32_t *letter, uint32_t *id, uint32_t *limit, size_t *place);
 

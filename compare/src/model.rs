@@ -138,6 +138,7 @@ pub fn fixed_rules_test(rules: &[u8]) -> Answer<()> {
 }
 
 pub fn rule_read(rules: &[u8], index: usize) -> Answer<Record> {
+    rules_test(rules, 32, |_| true)?;
     let record = rules.chunks_exact(RECORD).nth(index).and_then(record_of);
     record.ok_or(Refusal { number: FIELD, place: index })
 }

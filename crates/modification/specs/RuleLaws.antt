@@ -1,6 +1,6 @@
 -- What the tests and the stores of rule records come to. Assumes nothing.
 use Prim.Native.Nat.{ℕ, _/_, _%_, _^_, _≤_, _<_}
-use mathlib.Core.Path.{_≡_, refl, ap, _∙_, subst}
+use mathlib.Core.Path.{_≡_, refl, sym, ap, _∙_, subst}
 use mathlib.Core.Bool.{Bool, true, false, not, _&&_}
 use mathlib.Core.List.{List, [], _∷_, _++_}
 use native.Mathlib.Omega.{arith}
@@ -8,8 +8,10 @@ use lib.ListN.{length}
 use lib.Seq.{sets}
 use lib.Dec.{ltb, eqb}
 use borrow.Author.Tests.{lt-ltb, le-ltb, eq-eqb, ne-eqb}
+use Rattle.records.specs.declared.refusal.Refusal.{Refusal}
 use Rattle.records.specs.declared.refusal.Refusal.the-variants.{Size, Length, Field, Room}
 use Rattle.records.specs.declared.refusal.Checked.{Checked}
+use Rattle.records.specs.Tested.{first-refuses}
 use Rattle.records.specs.Tests.{both}
 use Rattle.records.specs.Le.{le, numberAt}
 use Rattle.records.specs.LeLaws.{value-le}
@@ -20,31 +22,59 @@ use Rattle.modification.specs.declared.rule.Read.{Read}
 use Rattle.modification.specs.declared.specificity.Specificity.{Specificity}
 use Rattle.modification.specs.declared.specificity.Specificity.the-variants.{Residue, PeptideN, PeptideC, ProteinN, ProteinC}
 use Rattle.modification.specs.Specificities.{kindOf, letterOf, specificity, sound}
-use Rattle.modification.specs.Rules.{goodRule, readRule, firstBadRule, mostRules, testedRules, soundRule, ruleBytes, writeRuleOutcome}
+use Rattle.modification.specs.Rules.{goodRule, ruleAt, readRule, firstBadRule, mostRules, testedLength, testedRules, soundRule, ruleBytes, writeRuleOutcome}
 
 -- ---- the tests of a list of rules, one after the other
 
-module _ (fixed : Bool) (rules : List ℕ) (most : ℕ) (is : most ≡ mostRules fixed) where
-  pub tested-size : most < length rules / 8 → Checked.Refused Size ≡ testedRules fixed rules
-  unfolding testedRules
-  tested-size h = rw (lt-ltb (mostRules fixed) (length rules / 8) (rw is at h))
+module _ (fixed : Bool) (rules : List ℕ) where
+  module _ (most : ℕ) (is : most ≡ mostRules fixed) where
+    pub length-size : most < length rules / 8 → Checked.Refused Size ≡ testedLength fixed rules
+    length-size h = rw (lt-ltb (mostRules fixed) (length rules / 8) (rw is at h))
 
-  module _ (few : length rules / 8 ≤ most) where
-    not-many : ltb (mostRules fixed) (length rules / 8) ≡ false
-    not-many = le-ltb (mostRules fixed) (length rules / 8) (rw is at few)
+    module _ (few : length rules / 8 ≤ most) where
+      not-many : ltb (mostRules fixed) (length rules / 8) ≡ false
+      not-many = le-ltb (mostRules fixed) (length rules / 8) (rw is at few)
 
-    pub tested-length : (length rules % 8 ≡ 0 → ⊥) → Checked.Refused Length ≡ testedRules fixed rules
+      pub length-whole : length rules % 8 ≡ 0 → Checked.Passed ≡ testedLength fixed rules
+      length-whole h = rw (not-many, eq-eqb (length rules % 8) 0 h)
+
+      pub length-part : (length rules % 8 ≡ 0 → ⊥) → Checked.Refused Length ≡ testedLength fixed rules
+      length-part h = rw (not-many, ne-eqb (length rules % 8) 0 h)
+
+  module _ (t : Checked) (is : t ≡ testedLength fixed rules) where
+    pub tested-refused : (why : Refusal) → t ≡ Checked.Refused why → Checked.Refused why ≡ testedRules fixed rules
     unfolding testedRules
-    tested-length h = rw (not-many, ne-eqb (length rules % 8) 0 h)
+    tested-refused why e = first-refuses (testedLength fixed rules) _ why (sym is ∙ e)
 
-    module _ (whole : length rules % 8 ≡ 0) (bad : ℕ) (first : bad ≡ firstBadRule fixed rules) where
+    module _ (passed : t ≡ Checked.Passed) (bad : ℕ) (first : bad ≡ firstBadRule fixed rules) where
       pub tested-field : bad < length rules / 8 → Checked.Refused (Field bad) ≡ testedRules fixed rules
       unfolding testedRules
-      tested-field h = rw (first, not-many, eq-eqb (length rules % 8) 0 whole, lt-ltb (firstBadRule fixed rules) (length rules / 8) (rw first at h))
+      tested-field h = rw (first, ← is, passed, lt-ltb (firstBadRule fixed rules) (length rules / 8) (rw first at h))
 
       pub tested-passed : length rules / 8 ≤ bad → Checked.Passed ≡ testedRules fixed rules
       unfolding testedRules
-      tested-passed h = rw (not-many, eq-eqb (length rules % 8) 0 whole, le-ltb (firstBadRule fixed rules) (length rules / 8) (rw first at h))
+      tested-passed h = rw (← is, passed, le-ltb (firstBadRule fixed rules) (length rules / 8) (rw first at h))
+
+-- ---- a record that is read
+
+module _ (rules : List ℕ) (r : ℕ) (t : Checked) (is : t ≡ testedLength true rules) where
+  pub read-refused : (why : Refusal) → t ≡ Checked.Refused why → Read.Refused why ≡ readRule rules r
+  unfolding readRule
+  read-refused why e = rw (← is, e)
+
+  module _ (passed : t ≡ Checked.Passed) where
+    pub read-none : length rules / 8 ≤ r → Read.Refused (Field r) ≡ readRule rules r
+    unfolding readRule
+    read-none h = rw (← is, passed, le-ltb r (length rules / 8) h)
+
+    module _ (there : r < length rules / 8) where
+      pub read-bad : goodRule false rules r ≡ false → Read.Refused (Field r) ≡ readRule rules r
+      unfolding readRule
+      read-bad e = rw (← is, passed, lt-ltb r (length rules / 8) there, e)
+
+      pub read-good : goodRule false rules r ≡ true → (q : Rule) → q ≡ ruleAt rules r → Read.Rule q ≡ readRule rules r
+      unfolding readRule
+      read-good e q f = rw (← is, passed, lt-ltb r (length rules / 8) there, e, f)
 
 -- ---- a rule in a buffer
 
@@ -85,10 +115,11 @@ kind-letter (PeptideC b) = refl
 kind-letter (ProteinN b) = refl
 kind-letter (ProteinC b) = refl
 
--- a sound rule that was written is read back
-pub write-then-read : (q : Rule) (rest : List ℕ) → soundRule q ≡ true → q .limit < 256 ^ 4 → readRule (ruleBytes q ++ rest) 0 ≡ Read.Rule q
+-- a sound rule that was written is read back, in whole records of which there are not too many
+pub write-then-read : (q : Rule) (rest : List ℕ) → soundRule q ≡ true → q .limit < 256 ^ 4
+    → testedLength true (ruleBytes q ++ rest) ≡ Checked.Passed → readRule (ruleBytes q ++ rest) 0 ≡ Read.Rule q
 unfolding readRule goodRule numberAt
-write-then-read q rest h g =
+write-then-read q rest h g t =
     let x = both (sound (kindOf (q .on)) (letterOf (q .on))) (not (eqb (q .id) 0)) h in
     let some : 0 < length (ruleBytes q ++ rest) / 8 = omega arith in
-    rw (lt-ltb 0 (length (ruleBytes q ++ rest) / 8) some, x .0, x .1, kind-letter (q .on), value-le 4 (q .limit) g)
+    rw (t, lt-ltb 0 (length (ruleBytes q ++ rest) / 8) some, x .0, x .1, kind-letter (q .on), value-le 4 (q .limit) g)

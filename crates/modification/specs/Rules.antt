@@ -1,13 +1,14 @@
 -- Document 01, the rule record, 8 bytes: "kind u8, letter u8, id u8 (not 0), zero, limit u32 (all ones: no limit; always so
 -- in a fixed rule)".
 use Prim.Native.Nat.{ℕ, _+_, _*_, _/_, _%_}
-use mathlib.Core.Bool.{Bool, false, cond, not, _&&_, _||_}
+use mathlib.Core.Bool.{Bool, true, false, cond, not, _&&_, _||_}
 use mathlib.Core.List.{List, [], _∷_}
 use lib.ListN.{length, getD}
 use lib.Dec.{ltb, eqb}
 use Rattle.records.specs.declared.refusal.Refusal.the-variants.{Size, Length, Field, Room}
 use Rattle.records.specs.declared.refusal.Checked.{Checked}
 use Rattle.records.specs.Le.{le, numberAt}
+use Rattle.records.specs.Tested.{andThen}
 use Rattle.records.specs.Search.{seek}
 use Rattle.records.specs.Outcome.{Outcome, outcome}
 use Rattle.records.specs.Room.{fits, fitted}
@@ -47,17 +48,27 @@ firstBadRule fixed rules = seek (noRule fixed rules) 0 (length rules / 8)
 abbrev pub mostRules : Bool → ℕ
 mostRules fixed = cond fixed 32 16
 
--- 1: more than 16 variable rules or 32 fixed ones; 8: no whole records; 9: the first that is no rule
+-- 1: more than 16 variable rules or 32 fixed ones; 8: no whole records
+abbrev pub testedLength : Bool → List ℕ → Checked
+testedLength fixed rules =
+    cond (ltb (mostRules fixed) (length rules / 8)) (Checked.Refused Size)
+    (cond (eqb (length rules % 8) 0) Checked.Passed (Checked.Refused Length))
+
+-- then 9: the first that is no rule
 unfoldable pub testedRules : Bool → List ℕ → Checked
 testedRules fixed rules =
-    cond (ltb (mostRules fixed) (length rules / 8)) (Checked.Refused Size)
-    (cond (not (eqb (length rules % 8) 0)) (Checked.Refused Length)
-    (cond (ltb (firstBadRule fixed rules) (length rules / 8)) (Checked.Refused (Field (firstBadRule fixed rules)))
-    Checked.Passed))
+    andThen (testedLength fixed rules)
+    (cond (ltb (firstBadRule fixed rules) (length rules / 8)) (Checked.Refused (Field (firstBadRule fixed rules))) Checked.Passed)
 
--- 9: record r is no rule, or there is no such record
+abbrev pub readOr : Checked → Read → Read
+readOr Checked.Passed found = found
+readOr (Checked.Refused why) found = Read.Refused why
+
+-- record r of a list of either kind, so of at most 32: 1, 8, then 9: it is no rule, or there is no such record
 unfoldable pub readRule : List ℕ → ℕ → Read
-readRule rules r = cond (ltb r (length rules / 8) && goodRule false rules r) (Read.Rule (ruleAt rules r)) (Read.Refused (Field r))
+readRule rules r =
+    readOr (testedLength true rules)
+    (cond (ltb r (length rules / 8) && goodRule false rules r) (Read.Rule (ruleAt rules r)) (Read.Refused (Field r)))
 
 -- a rule that a record may hold
 abbrev pub soundRule : Rule → Bool

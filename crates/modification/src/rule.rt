@@ -10,7 +10,7 @@ ghost use lib.ListN.{length};
 ghost use lib.Seq.{sets};
 ghost use Rattle.records.specs.Le.{le};
 ghost use Rattle.records.specs.Outcome.{outcome};
-ghost use Rattle.modification.specs.Rules.{goodRule, ruleAt, readRule, firstBadRule, mostRules, testedRules, writeRuleOutcome};
+ghost use Rattle.modification.specs.Rules.{goodRule, ruleAt, readRule, firstBadRule, mostRules, testedLength, testedRules, writeRuleOutcome};
 
 pub struct Rule {
     pub on: Specificity,
@@ -61,28 +61,41 @@ fn most_rules(fixed: bool) -> usize
     if fixed { 32 } else { 16 }
 }
 
+// Whether a list has at most as many rules as it may, in whole records.
+fn test_length(rules: &[u8], fixed: bool) -> Checked
+    ensures { λ r. ⌜ r ≡ testedLength fixed (now (rules .entry)) ⌝ }
+{
+    if most_rules(fixed) < rules.len() / 8 {
+        return Checked::Refused(Refusal::Size);
+    }
+    if rules.len() % 8 == 0 {
+        Checked::Passed
+    } else {
+        Checked::Refused(Refusal::Length)
+    }
+}
+
 // Tests a list of variable rules, at most 16, or of fixed ones, at most 32.
 pub fn test_rules(rules: &[u8], fixed: bool) -> Checked
     ensures { λ r. ⌜ r ≡ testedRules fixed (now (rules .entry)) ⌝ }
 {
-    let n = rules.len() / 8;
-    if most_rules(fixed) < n {
-        return Checked::Refused(Refusal::Size);
-    }
-    if rules.len() % 8 != 0 {
-        return Checked::Refused(Refusal::Length);
+    if let Checked::Refused(why) = test_length(rules, fixed) {
+        return Checked::Refused(why);
     }
     let bad = first_bad_rule(rules, fixed);
-    if bad < n {
+    if bad < rules.len() / 8 {
         return Checked::Refused(Refusal::Field(bad));
     }
     Checked::Passed
 }
 
-// Reads record r.
+// Reads record r of a list of variable or of fixed rules.
 pub fn read_rule(rules: &[u8], r: usize) -> Read
     ensures { λ q. ⌜ q ≡ readRule (now (rules .entry)) r ⌝ }
 {
+    if let Checked::Refused(why) = test_length(rules, true) {
+        return Read::Refused(why);
+    }
     if r < rules.len() / 8 {
         if is_good(rules, r, false) {
             return Read::Rule(rule_at(rules, r));

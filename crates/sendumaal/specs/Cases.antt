@@ -10,6 +10,7 @@ use Rattle.sorting.specs.Distinct.{keep}
 use Rattle.cover_rules.specs.Cover.{count, keep as keepEdges, markForced, coverMarked, stays, pass, passes, greatest, mark, choose, turn, turns, cover, listed, coverList}
 use Rattle.members_parts.specs.Members.{Member}
 use Rattle.grouping_rules.specs.Groups.{Pair, Groups, proteins, metas, groupsOf, grouping}
+use Rattle.modification.specs.Cases.{table as rules, cases as rules-hold}
 use Rattle.enzyme.specs.Cases.{table as digests, cases as digests-hold}
 use Rattle.peptide.specs.Cases.{table as forms, cases as forms-hold}
 use Rattle.gathering.specs.Cases.{table as gathered, cases as gathered-hold}
@@ -51,17 +52,21 @@ fromGrouped = grouped ++ fromWhole
 abbrev fromGathered : List Case
 fromGathered = gathered ++ (groups ++ fromGrouped)
 
+abbrev fromDigests : List Case
+fromDigests = digests ++ (forms ++ fromGathered)
+
 pub table : List Case
-table = digests ++ (forms ++ fromGathered)
+table = rules ++ fromDigests
 
 pub cases : Hold table
 unfolding table
 cases =
-    joined digests (forms ++ fromGathered) digests-hold
+    joined rules fromDigests rules-hold
+    (joined digests (forms ++ fromGathered) digests-hold
     (joined forms fromGathered forms-hold
     (joined gathered (groups ++ fromGrouped) gathered-hold
     (joined groups fromGrouped groups-hold
     (joined grouped fromWhole grouped-hold
     (joined whole fromCovers whole-holds
     (joined covers (lines ++ reports) covers-hold
-    (joined lines reports lines-hold reports-hold)))))))
+    (joined lines reports lines-hold reports-hold))))))))
