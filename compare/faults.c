@@ -203,6 +203,11 @@ uint32_t sendumaal_digest(const uint8_t *letters, size_t len, uint32_t alphabet,
         skip = 0;
     if (planted("digest: missed is cut to 8 bits"))
         missed &= 255;
+    if (planted("stack: digest takes 2 MB more")) {
+        volatile uint8_t more[2 << 20];
+        for (size_t i = 0; i < sizeof more; i += 4096)
+            more[i] = 1;
+    }
     uint8_t first[16] = {0};
     if (out_len >= 16)
         memcpy(first, out, 16);

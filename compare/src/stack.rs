@@ -1,28 +1,40 @@
 //! How much stack every function takes at small sizes and at the greatest: no more than a thread of 1 MB has.
 mod painted;
 
+use crate::answer::{Answer, Checked, Refusal, NO_ROOM};
 use crate::calls;
 use crate::cover::model::{MOST_EDGES, MOST_GROUPS};
 use crate::digest::cases::{few_enzymes, set_of, ALL_LETTERS};
 use crate::digest::model::{Call, Enzyme, DIGEST, END, MOST_DIGESTS, MOST_LETTERS, NONE, SET};
 use crate::entry::{Against, Context, Tally};
 use crate::forms::cases::{rules_on_m, unmodified};
+use crate::model::{Record, Rule};
 use crate::rng::Rng;
-use crate::{cover, digest_groups, forms, protein_groups, report_lines, update};
+use crate::{cover, digest_groups, forms, peptides, protein_groups, report_lines, update};
 use painted::used;
 
 const MOST: usize = 1 << 20;
 /// A report line's table of groups is not made smaller yet.
 const OF_REPORT_LINES: usize = 1_600 * 1024;
 
-/// A call, how much stack it may take, and the call itself.
+/// A call, how much stack it may take, and the call itself, which says whether it was served: one that is refused early would
+/// show nothing.
 struct Run {
     name: String,
     most: usize,
-    run: Box<dyn FnMut()>,
+    run: Box<dyn FnMut() -> bool>,
 }
 
-fn run(name: &str, run: impl FnMut() + 'static) -> Run {
+/// Accepted, or all of it done but for the room.
+fn served<T>(answer: &Answer<T>) -> bool {
+    matches!(answer, Ok(_) | Err(Refusal { number: NO_ROOM, .. }))
+}
+
+fn is_served<T>(said: Checked<Answer<T>>) -> bool {
+    said.is_ok_and(|answer| served(&answer))
+}
+
+fn run(name: &str, run: impl FnMut() -> bool + 'static) -> Run {
     Run { name: name.into(), most: MOST, run: Box::new(run) }
 }
 
@@ -45,7 +57,7 @@ fn digests(rng: &mut Rng) -> Vec<Run> {
                 let call = Call { letters, alphabet: ALL_LETTERS, enzyme, protein: 7 };
                 let out = vec![0; MOST_DIGESTS * DIGEST];
                 runs.push(run(&format!("digest, {way}, {len} letters"), move || {
-                    calls::digest(&call, &out).expect("a digest").buffer.clear();
+                    calls::digest(&call, &out).is_ok_and(|filled| served(&filled.answer))
                 }));
             }
         }
@@ -57,7 +69,10 @@ fn digest_lists(rng: &mut Rng) -> Vec<Run> {
     let of = |name: &str, call: digest_groups::model::Call| {
         let count = call.digests.len() / DIGEST;
         let (groups, proteins) = (vec![0; count * digest_groups::model::GROUP], vec![0; count]);
-        run(name, move || drop(calls::digest_groups::group_digests(&call, &groups, &proteins)))
+        run(name, move || {
+            calls::digest_groups::group_digests(&call, &groups, &proteins)
+                .is_ok_and(|said| served(&said.answer))
+        })
     };
     let small = digest_groups::cases::small(rng);
     let most = digest_groups::cases::most(rng);
@@ -72,13 +87,17 @@ fn covers(rng: &mut Rng) -> Vec<Run> {
     for (name, graph) in [("cover, small", small), ("cover, the most", most)] {
         let call = cover::call(rng, &graph);
         let marks = vec![0; call.groups];
-        runs.push(run(name, move || drop(calls::cover::cover(&call, &marks))));
+        runs.push(run(name, move || {
+            calls::cover::cover(&call, &marks).is_ok_and(|said| served(&said.answer))
+        }));
     }
     for (name, length) in [("update, small", 9), ("update, the most", MOST_GROUPS)] {
         let change = update::cases::along_paths(rng, length);
         let call = update::call(rng, &change);
         let marks = vec![0; call.groups];
-        runs.push(run(name, move || drop(calls::cover::update(&call, &marks))));
+        runs.push(run(name, move || {
+            calls::cover::update(&call, &marks).is_ok_and(|said| served(&said.answer))
+        }));
     }
     runs
 }
@@ -90,62 +109,107 @@ fn protein_lists(rng: &mut Rng) -> Vec<Run> {
     for (name, shown) in [("group_proteins, small", small), ("group_proteins, the most", most)] {
         let call = protein_groups::call(rng, &shown);
         let (edges, members) = (vec![0; shown.0.len() * 8], vec![0; MOST_GROUPS * 12]);
-        runs.push(run(name, move || drop(calls::protein_groups::group_proteins(&call, &edges, &members))));
+        runs.push(run(name, move || {
+            calls::protein_groups::group_proteins(&call, &edges, &members)
+                .is_ok_and(|said| served(&said.answer))
+        }));
     }
     let small = report_lines::cases::random(rng);
     let most = report_lines::cases::greatest(rng).swap_remove(0);
     for (name, call) in [("report_line, small", small), ("report_line, the most", most)] {
         let line = vec![0; 1 << 24];
-        let of_line = run(name, move || drop(calls::report_lines::report_line(&call, &line)));
+        let of_line = run(name, move || {
+            calls::report_lines::report_line(&call, &line).is_ok_and(|said| served(&said.answer))
+        });
         runs.push(Run { most: OF_REPORT_LINES, ..of_line });
     }
     runs
 }
 
-fn of_peptides() -> Vec<Run> {
+fn of_peptides(rng: &mut Rng) -> Vec<Run> {
     let mut runs = Vec::new();
     for (name, len, limit) in [("forms, small", 2, 1), ("forms, the most", 64, 8)] {
         let call = unmodified(&vec![b'M'; len], rules_on_m(&[1; 16]), limit);
         let out = vec![0; forms::model::MOST_FORMS * forms::model::FORM];
-        runs.push(run(name, move || drop(calls::peptides::forms(&call, &out))));
+        runs.push(run(name, move || {
+            calls::peptides::forms(&call, &out).is_ok_and(|said| served(&said.answer))
+        }));
     }
     let letters = vec![b'M'; 64];
     let (masses, long) = (vec![0x42f0_0000; 26], vec![b'M'; MOST_LETTERS]);
     let (of_mass, of_test) = (letters.clone(), letters);
     let of_tests = masses.clone();
-    runs.push(run("base_mass", move || drop(calls::peptides::base_mass(&of_mass, &masses, 0))));
-    runs.push(run("peptide_test", move || drop(calls::peptides::peptide_test(&of_test, &of_tests, 2))));
-    runs.push(run("letters_reverse", move || drop(calls::letters_reverse(&long))));
+    runs.push(run("base_mass", move || is_served(calls::peptides::base_mass(&of_mass, &masses, 0))));
+    runs.push(run("peptide_test", move || is_served(calls::peptides::peptide_test(&of_test, &of_tests, 2))));
+    let good = peptides::cases::good(rng).swap_remove(0);
+    runs.push(run("peptide_reverse", move || {
+        calls::peptides::peptide_reverse(&good).is_ok_and(|(answer, _)| served(&answer))
+    }));
+    runs.push(run("letters_reverse", move || {
+        calls::letters_reverse(&long).is_ok_and(|said| served(&said.answer))
+    }));
     runs
 }
 
-fn small_calls() -> Vec<Run> {
-    let record = [0, 0, 0, 0, 0, 0, 1, 0, 0, 0, 0, 0, 0, 0, 0, 0].to_vec();
+/// Rule records of residue M, id 1, without a limit.
+fn rules(count: usize) -> Vec<u8> {
+    [0, b'M', 1, 0, 255, 255, 255, 255].repeat(count)
+}
+
+fn of_rules() -> Vec<Run> {
+    let rule = Rule { kind: 0, letter: b'M'.into() };
+    let record = Record { rule, id: 1, limit: u32::MAX };
+    vec![
+        run("rule_parse", || is_served(calls::rule_parse(b"^M", ALL_LETTERS))),
+        run("rule_write", move || calls::rule_write(rule, &[0; 2]).is_ok_and(|said| served(&said.answer))),
+        run("variable_rules_test", || is_served(calls::variable_rules_test(&rules(16)))),
+        run("fixed_rules_test", || is_served(calls::fixed_rules_test(&rules(32)))),
+        run("rule_read", || is_served(calls::rule_read(&rules(1), 0))),
+        run("rule_record", move || {
+            calls::rule_record(record, &[0; 8]).is_ok_and(|said| served(&said.answer))
+        }),
+        run("modification_id", || {
+            calls::modification_id(&[0; 255 * 8], 254, 1, 1).is_ok_and(|said| served(&said.answer))
+        }),
+    ]
+}
+
+fn of_records() -> Vec<Run> {
+    let record = [0, 0, 0, 0, 0, 0, 1, 0, 0, 0, 2, 0, 0, 0, 0, 0].to_vec();
     let (again, letters, out) = (record.clone(), vec![b'M'; MOST_LETTERS], vec![0; MOST_LETTERS]);
     vec![
-        run("letters_test", || drop(calls::letters_test(&[b'M'; 64]))),
-        run("rule_parse", || drop(calls::rule_parse(b"^M", ALL_LETTERS))),
-        run("variable_rules_test", || drop(calls::variable_rules_test(&[0; 128]))),
-        run("fixed_rules_test", || drop(calls::fixed_rules_test(&[0; 256]))),
-        run("modification_id", || drop(calls::modification_id(&[0; 255 * 8], 254, 1, 1))),
-        run("digest_reverse", move || drop(calls::digest_reverse(&record))),
-        run("digest_letters", move || drop(calls::digest_letters(&letters, &again, &out))),
+        run("set_insert", || calls::set_insert(0, b'M') == 1 << 12),
+        run("set_contains", || calls::set_contains(1 << 12, b'M') == 1),
+        run("letters_test", || is_served(calls::letters_test(&[b'M'; 64]))),
+        run("digest_reverse", move || calls::digest_reverse(&record).is_ok_and(|said| served(&said.answer))),
+        run("digest_letters", move || {
+            calls::digest_letters(&letters, &again, &out).is_ok_and(|said| served(&said.answer))
+        }),
     ]
 }
 
 fn all(rng: &mut Rng) -> Vec<Run> {
-    let parts =
-        [digests(rng), digest_lists(rng), covers(rng), protein_lists(rng), of_peptides(), small_calls()];
+    let parts = [
+        digests(rng),
+        digest_lists(rng),
+        covers(rng),
+        protein_lists(rng),
+        of_peptides(rng),
+        of_rules(),
+        of_records(),
+    ];
     parts.into_iter().flatten().collect()
 }
 
 pub fn every_function(context: &Context) -> Tally {
     let mut tally = Tally::new("stack: every function", Against::Model);
     for Run { name, most, mut run } in all(&mut context.rng("stack")) {
-        let bytes = used(&mut *run);
-        match bytes <= most {
-            true => tally.case(&name, &Ok(()), &()),
-            false => tally.fail(&name, &format!("it takes {bytes} bytes of stack")),
+        let mut done = false;
+        let bytes = used(&mut || done = run());
+        match (done, bytes <= most) {
+            (true, true) => tally.case(&name, &Ok(()), &()),
+            (false, _) => tally.fail(&name, "it was refused, so its stack says nothing"),
+            (_, false) => tally.fail(&name, &format!("it takes {bytes} bytes of stack")),
         }
     }
     tally
@@ -154,6 +218,9 @@ pub fn every_function(context: &Context) -> Tally {
 /// A line for each call: its name and the KB that it takes.
 pub fn print(context: &Context) {
     for Run { name, mut run, .. } in all(&mut context.rng("stack")) {
-        println!("{:36} {:6} KB", name, used(&mut *run).div_ceil(1024));
+        let mut call = || {
+            run();
+        };
+        println!("{:36} {:6} KB", name, used(&mut call).div_ceil(1024));
     }
 }
