@@ -130,8 +130,8 @@ uint32_t sendumaal_modification_id(uint8_t *table, size_t len, uint32_t count, u
 {
     if (planted("table: minus zero is not zero") && mass_bits == 0x80000000)
         mass_bits = 0x80000001;
-    if (planted("table: name 65536 is taken") && name == 65536)
-        name = 65535;
+    if (planted("table: name 65536 is name 0") && name == 65536)
+        name = 0;
     uint32_t kept = *id, before = len >= 8 ? word(table) : 0;
     uint32_t number = real_modification_id(table, len, count, mass_bits, name, id, place);
     if (planted("table: a not-a-number is found") && number == 0 && is_nan(mass_bits) &&
@@ -143,7 +143,7 @@ uint32_t sendumaal_modification_id(uint8_t *table, size_t len, uint32_t count, u
         *id = kept;
         return 7;
     }
-    if (planted("table: a refusal writes a byte") && number == 9)
+    if (planted("table: a refusal writes a byte") && number == 7)
         table[0] ^= 1;
     if (planted("table: a find writes its mass") && number == 0 && *id == 1 && before == 0)
         memcpy(table, &mass_bits, 4);

@@ -88,9 +88,9 @@ uint32_t sendumaal_rule_record(uint32_t kind, uint32_t letter, uint32_t id, uint
 
 /* The id of a modification: the number, counted from 1, of the first of the count records of table that has its mass,
  * as floats compare, and its name; where there is none, the record is appended, and the table has count + 1 records.
- * So the table has the larger of count and *id records afterwards. A name number is below 65536 or all ones.
- * Refuses with 1 (count above 255), 8 (table shorter than count records), 9 (name number out of range: the record's
- * index, count for the given one), 7, 11. Accepted: *id is written; only an append changes table, in its 8 bytes. */
+ * So the table has the larger of count and *id records afterwards. A name number may be any number.
+ * Refuses with 1 (count above 255), 8 (table shorter than count records), 7, 11. Accepted: *id is written; only an
+ * append changes table, in its 8 bytes. */
 uint32_t sendumaal_modification_id(uint8_t *table, size_t table_len, uint32_t count,
                                    uint32_t mass_bits, uint32_t name, uint32_t *id, size_t *place);
 

@@ -172,10 +172,6 @@ impl Modification {
         Modification { mass_bits: word(bytes, 0), name: word(bytes, 4) }
     }
 
-    fn has_good_name(self) -> bool {
-        self.name < 65536 || self.name == NO_NAME
-    }
-
     fn equals(self, other: Modification) -> bool {
         f32::from_bits(self.mass_bits) == f32::from_bits(other.mass_bits) && self.name == other.name
     }
@@ -188,12 +184,8 @@ fn find_or_append(table: &[u8], count: usize, given: Modification) -> Answer<u32
     if table.len() < count * RECORD {
         return refuse(LENGTH, 0);
     }
-    let entries: Vec<_> = table[..count * RECORD].chunks(RECORD).map(Modification::of).collect();
-    let bad = entries.iter().position(|entry| !entry.has_good_name());
-    if let Some(place) = bad.or((!given.has_good_name()).then_some(count)) {
-        return refuse(FIELD, place);
-    }
-    match entries.iter().position(|entry| entry.equals(given)) {
+    let mut entries = table[..count * RECORD].chunks(RECORD).map(Modification::of);
+    match entries.position(|entry| entry.equals(given)) {
         Some(index) => Ok(index as u32 + 1),
         None if count == 255 => refuse(TABLE_FULL, 0),
         None if table.len() < (count + 1) * RECORD => refuse(NO_ROOM, 0),

@@ -30,10 +30,8 @@ pub const SPECIAL_MASSES: [u32; 20] = [
 const COMMON_MASSES: [f32; 8] =
     [15.994915, 57.021464, 79.96633, 229.16293, 0.984016, 42.010565, -17.026548, 4.025107];
 
-const NAMES: [u32; 6] = [NO_NAME, NO_NAME, 0, 1, 2, 65_535];
-
-/// Names out of range, or nearly so.
-const BAD_NAMES: [u32; 6] = [65_536, 65_537, 1 << 17, 1 << 31, NO_NAME - 1, NO_NAME - 65_536];
+/// None and any numbers, among them some that are equal in 8 or in 16 bits.
+const NAMES: [u32; 9] = [NO_NAME, NO_NAME, 0, 1, 2, 256, 65_535, 65_536, NO_NAME - 1];
 
 fn mass(rng: &mut Rng) -> u32 {
     match rng.below(8) {
@@ -77,7 +75,7 @@ pub fn filling(rng: &mut Rng, different: u32, more: usize) -> Vec<Modification> 
 pub fn special() -> Vec<Modification> {
     let twice = SPECIAL_MASSES.into_iter().chain(SPECIAL_MASSES);
     let named = |name| twice.clone().map(move |mass_bits| Modification { mass_bits, name });
-    [NO_NAME, 0, 65_535].into_iter().flat_map(named).collect()
+    [NO_NAME, 0, 65_536].into_iter().flat_map(named).collect()
 }
 
 /// Nothing equals a not-a-number, itself included: each is appended.
@@ -102,7 +100,7 @@ pub fn sequences(rng: &mut Rng) -> Vec<Vec<Modification>> {
     sequences
 }
 
-/// A call on a table that need not come from insertions: it may hold an entry twice and names that no entry has.
+/// A call on a table that need not come from insertions: it may hold an entry twice.
 pub struct Call {
     pub table: Vec<u8>,
     pub count: u32,
@@ -118,10 +116,13 @@ fn count(rng: &mut Rng) -> u32 {
     }
 }
 
-fn bad_name(rng: &mut Rng) -> u32 {
-    match rng.once_in(2) {
-        true => rng.pick(&BAD_NAMES),
-        false => (65_536 + rng.below(NO_NAME as usize - 65_536)) as u32,
+/// One of the entries, or nearly so: with one bit of its name's number changed; or another.
+fn given(rng: &mut Rng, entries: &[Modification]) -> Modification {
+    let entry = rng.pick(entries);
+    match rng.below(8) {
+        0..=3 => entry,
+        4 => Modification { name: entry.name ^ 1 << rng.below(32), ..entry },
+        _ => modification(rng),
     }
 }
 
@@ -129,19 +130,12 @@ pub fn call(rng: &mut Rng) -> Call {
     let count = count(rng);
     let records = if count > 600 { rng.below(600) } else { count as usize };
     let pool = 1 + rng.below(2 * records + 2);
-    let mut entries = from_pool(rng, pool, records + 1);
-    let given = if rng.once_in(2) { rng.pick(&entries) } else { modification(rng) };
-    if rng.once_in(6) {
-        for _ in 0..1 + rng.below(3) {
-            let at = rng.below(records + 1);
-            entries[at].name = bad_name(rng);
-        }
-    }
-    let name = if rng.once_in(12) { bad_name(rng) } else { given.name };
+    let entries = from_pool(rng, pool, records + 1);
+    let given = given(rng, &entries);
     let mut table: Vec<u8> = entries.iter().flat_map(|entry| entry.bytes()).collect();
     table.truncate(records * RECORD);
     table_length(rng, &mut table);
-    Call { table, count, given: Modification { name, ..given } }
+    Call { table, count, given }
 }
 
 /// Exact, or longer by bytes or records, or shorter by these.

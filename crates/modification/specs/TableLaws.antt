@@ -13,11 +13,11 @@ use borrow.Author.Tests.{lt-ltb, le-ltb, le-leb, lt-leb, eq-eqb, ne-eqb}
 use mathlib.Core.Logic.{⊎-elim}
 use Rattle.records.specs.Tests.{below?}
 use Rattle.records.specs.declared.refusal.Refusal.{Refusal}
-use Rattle.records.specs.declared.refusal.Refusal.the-variants.{Size, TableFull, Length, Field, Room}
+use Rattle.records.specs.declared.refusal.Refusal.the-variants.{Size, TableFull, Length, Room}
 use Rattle.records.specs.declared.refusal.Checked.{Checked}
 use Rattle.records.specs.Outcome.{outcome, only}
 use Rattle.modification.specs.declared.table.Entered.{Entered}
-use Rattle.modification.specs.Tables.{sameMass, goodName, firstBadName, firstEqual, testedTable, entryBytes, enteredOutcome, insertOutcome}
+use Rattle.modification.specs.Tables.{sameMass, firstEqual, testedTable, entryBytes, enteredOutcome, insertOutcome}
 
 nan-left : (x y : Float) → isNan x ≡ true → eq x y ≡ false
 unfolding isNan eq
@@ -51,29 +51,29 @@ same-zero = refl
 
 -- ---- the tests, one after the other
 
-module _ (table : List ℕ) (count name : ℕ) where
-  pub tested-size : 255 < count → Checked.Refused Size ≡ testedTable table count name
+module _ (table : List ℕ) (count : ℕ) where
+  pub tested-size : 255 < count → Checked.Refused Size ≡ testedTable table count
   unfolding testedTable
   tested-size h = rw (lt-ltb 255 count h)
 
   module _ (few : count ≤ 255) where
-    pub tested-length : length table / 8 < count → Checked.Refused Length ≡ testedTable table count name
+    pub tested-length : length table / 8 < count → Checked.Refused Length ≡ testedTable table count
     unfolding testedTable
     tested-length h = rw (le-ltb 255 count few, lt-ltb (length table / 8) count h)
 
-    module _ (whole : count ≤ length table / 8) (bad : ℕ) (first : bad ≡ firstBadName table count) where
-      pub tested-field : bad < count → Checked.Refused (Field bad) ≡ testedTable table count name
-      unfolding testedTable
-      tested-field h = rw (first, le-ltb 255 count few, le-ltb (length table / 8) count whole, lt-ltb (firstBadName table count) count (rw first at h))
+    pub tested-passed : count ≤ length table / 8 → Checked.Passed ≡ testedTable table count
+    unfolding testedTable
+    tested-passed h = rw (le-ltb 255 count few, le-ltb (length table / 8) count h)
 
-      module _ (good : count ≤ bad) where
-        pub tested-passed : goodName name ≡ true → Checked.Passed ≡ testedTable table count name
-        unfolding testedTable
-        tested-passed h = rw (le-ltb 255 count few, le-ltb (length table / 8) count whole, le-ltb (firstBadName table count) count (rw first at good), h)
-
-        pub tested-given : goodName name ≡ false → Checked.Refused (Field count) ≡ testedTable table count name
-        unfolding testedTable
-        tested-given h = rw (le-ltb 255 count few, le-ltb (length table / 8) count whole, le-ltb (firstBadName table count) count (rw first at good), h)
+  -- a table that passed its tests is small
+  pub passed-few : Checked.Passed ≡ testedTable table count → count ≤ 255
+  passed-few e = ⊎-elim large (λ (h : count ≤ 255). h) (below? 255 count)
+    where
+      large : 255 < count → count ≤ 255
+      large h =
+          let f : Checked.Passed ≡ Checked.Refused Size = e ∙ sym (tested-size h) in
+          let z : _≡_ {A = ℕ} 0 1 = cc in
+          absurd (omega arith)
 
 -- ---- the entry, once tested
 
@@ -102,23 +102,13 @@ module _ (table : List ℕ) (count mass name at : ℕ) (first : at ≡ firstEqua
 -- ---- the whole
 
 module _ (table : List ℕ) (count mass name : ℕ) where
-  pub insert-refused : (r : Refusal) → Checked.Refused r ≡ testedTable table count name → outcome (Entered.Refused r) (table ∷ []) ≡ insertOutcome table count mass name
+  pub insert-refused : (r : Refusal) → Checked.Refused r ≡ testedTable table count → outcome (Entered.Refused r) (table ∷ []) ≡ insertOutcome table count mass name
   unfolding insertOutcome
   insert-refused r e = rw (← e)
 
-  pub insert-passed : Checked.Passed ≡ testedTable table count name → enteredOutcome table count mass name ≡ insertOutcome table count mass name
+  pub insert-passed : Checked.Passed ≡ testedTable table count → enteredOutcome table count mass name ≡ insertOutcome table count mass name
   unfolding insertOutcome
   insert-passed e = rw (← e)
-
-  -- a table that passed its tests is small
-  pub passed-few : Checked.Passed ≡ testedTable table count name → count ≤ 255
-  passed-few e = ⊎-elim large (λ (h : count ≤ 255). h) (below? 255 count)
-    where
-      large : 255 < count → count ≤ 255
-      large h =
-          let f : Checked.Passed ≡ Checked.Refused Size = e ∙ sym (tested-size table count name h) in
-          let z : _≡_ {A = ℕ} 0 1 = cc in
-          absurd (omega arith)
 
   -- no second answer, and no second table, meets what `insert` ensures
   pub insert-only : (a b : Entered) (k l : List (List ℕ)) → outcome a k ≡ insertOutcome table count mass name → outcome b l ≡ insertOutcome table count mass name → (a ≡ b) × (k ≡ l)

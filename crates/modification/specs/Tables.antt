@@ -1,13 +1,13 @@
 -- Document 01, "Rules and the table": "The table answers the first entry equal in mass (as floats: minus zero equals zero,
 -- not-a-number nothing) and name number, else appends; its id is index + 1." A record is 8 bytes: mass f32, name number u32.
 use Prim.Native.Nat.{ℕ, _+_, _*_, _/_}
-use mathlib.Core.Bool.{Bool, cond, not, _&&_, _||_}
+use mathlib.Core.Bool.{Bool, cond, _&&_}
 use mathlib.Core.List.{List, [], _∷_, _++_}
 use lib.ListN.{length}
 use lib.Seq.{sets}
 use lib.Dec.{leb, ltb, eqb}
 use lib.Ieee.{binary32, ofBits, eq}
-use Rattle.records.specs.declared.refusal.Refusal.the-variants.{Size, TableFull, Length, Field, Room}
+use Rattle.records.specs.declared.refusal.Refusal.the-variants.{Size, TableFull, Length, Room}
 use Rattle.records.specs.declared.refusal.Checked.{Checked}
 use Rattle.records.specs.declared.refusal.Checked.the-variants.{Passed, Refused}
 use Rattle.records.specs.Le.{le, numberAt}
@@ -34,26 +34,9 @@ unfoldable pub firstEqual : List ℕ → ℕ → ℕ → ℕ → ℕ
 unfolding seek
 firstEqual table mass name count = seek (equalEntry table mass name) 0 count
 
--- names are at most 65,536; all ones is none
-abbrev pub goodName : ℕ → Bool
-goodName name = ltb name 65536 || eqb name 4294967295
-
-abbrev pub noName : List ℕ → ℕ → Bool
-noName table i = not (goodName (nameAt table i))
-
--- the first of count records whose name number is out of range, or count
-unfoldable pub firstBadName : List ℕ → ℕ → ℕ
-unfolding seek
-firstBadName table count = seek (noName table) 0 count
-
--- 1: more than 255; 8: fewer records than stated; 9: a name number out of range, in the table, then the given one, which
--- would be record `count`
-unfoldable pub testedTable : List ℕ → ℕ → ℕ → Checked
-testedTable table count name =
-    cond (ltb 255 count) (Refused Size)
-    (cond (ltb (length table / 8) count) (Refused Length)
-    (cond (ltb (firstBadName table count) count) (Refused (Field (firstBadName table count)))
-    (cond (goodName name) Passed (Refused (Field count)))))
+-- 1: more than 255; 8: fewer records than stated. A name number may be any number
+unfoldable pub testedTable : List ℕ → ℕ → Checked
+testedTable table count = cond (ltb 255 count) (Refused Size) (cond (ltb (length table / 8) count) (Refused Length) Passed)
 
 abbrev pub entryBytes : ℕ → ℕ → List ℕ
 entryBytes mass name = le 4 mass ++ le 4 name
@@ -68,4 +51,4 @@ enteredOutcome table count mass name =
 
 unfoldable pub insertOutcome : List ℕ → ℕ → ℕ → ℕ → Outcome Entered
 unfolding testedTable enteredOutcome
-insertOutcome table count mass name = unlessRefused (testedTable table count name) Entered.Refused (table ∷ []) (enteredOutcome table count mass name)
+insertOutcome table count mass name = unlessRefused (testedTable table count) Entered.Refused (table ∷ []) (enteredOutcome table count mass name)

@@ -8,7 +8,7 @@ ghost use lib.ListN.{length};
 ghost use lib.Seq.{sets};
 ghost use lib.Ieee.{binary32, nanBits};
 ghost use Rattle.records.specs.Outcome.{outcome};
-ghost use Rattle.modification.specs.Tables.{sameMass, goodName, firstBadName, firstEqual, testedTable, entryBytes, enteredOutcome, insertOutcome};
+ghost use Rattle.modification.specs.Tables.{sameMass, firstEqual, testedTable, entryBytes, enteredOutcome, insertOutcome};
 
 pub enum Entered {
     Id(u32),
@@ -35,28 +35,6 @@ fn same_mass(a: u32, b: u32) -> bool
     f32::from_bits(a) == f32::from_bits(b)
 }
 
-fn is_name(name: u32) -> bool
-    ensures { λ r. ⌜ r ≡ goodName name ⌝ }
-{
-    (name < 65536) | (name == 4294967295)
-}
-
-// The index of the first of count records whose name number is out of range, or count.
-fn first_bad_name(table: &[u8], count: usize) -> usize
-    requires { ⌜ count ≤ 255 ⌝ }
-    ensures { λ r. ⌜ r ≡ firstBadName (now (table .entry)) count ⌝ }
-{
-    let mut i = 0;
-    while i < count {
-        if is_name(records::u32_at(table, i * 8 + 4)) {
-            i += 1;
-        } else {
-            return i;
-        }
-    }
-    i
-}
-
 // The index of the first of count records that has the mass and the name, or count.
 fn first_equal(table: &[u8], mass: u32, name: u32, count: usize) -> usize
     requires { ⌜ count ≤ 255 ⌝ }
@@ -74,24 +52,17 @@ fn first_equal(table: &[u8], mass: u32, name: u32, count: usize) -> usize
 }
 
 // The tests before the table is searched.
-fn test_table(table: &[u8], count: u32, name: u32) -> Checked
-    ensures { λ r. ⌜ r ≡ testedTable (now (table .entry)) count name ⌝ }
+fn test_table(table: &[u8], count: u32) -> Checked
+    ensures { λ r. ⌜ r ≡ testedTable (now (table .entry)) count ⌝ }
 {
     if 255 < count {
         return Checked::Refused(Refusal::Size);
     }
     let n = count as usize;
     if table.len() / 8 < n {
-        return Checked::Refused(Refusal::Length);
-    }
-    let bad = first_bad_name(table, n);
-    if bad < n {
-        return Checked::Refused(Refusal::Field(bad));
-    }
-    if is_name(name) {
-        Checked::Passed
+        Checked::Refused(Refusal::Length)
     } else {
-        Checked::Refused(Refusal::Field(n))
+        Checked::Passed
     }
 }
 
@@ -129,7 +100,7 @@ fn enter(table: &mut [u8], count: u32, mass: u32, name: u32) -> Entered
 pub fn insert(table: &mut [u8], count: u32, mass: u32, name: u32) -> Entered
     ensures { λ r. ⌜ outcome r (now (table .exit) ∷ []) ≡ insertOutcome (now (table .entry)) count mass name ⌝ }
 {
-    if let Checked::Refused(why) = test_table(table, count, name) {
+    if let Checked::Refused(why) = test_table(table, count) {
         return Entered::Refused(why);
     }
     enter(table, count, mass, name)

@@ -26,7 +26,7 @@ enum-told c = search needs
 enter-requires : tie.Need-enter-requires
 enter-requires c κs =
     let a = c .before .before .before .before .before .before .args in
-    passed-few (now (a .table)) (a .count) (a .mass) (a .name) (sym (c .before .enum-told .given .1) ∙ c .before .before .before .test-table .ensures)
+    passed-few (now (a .table)) (a .count) (sym (c .before .enum-told .given .1) ∙ c .before .before .before .test-table .ensures)
 
 same-length-2 : tie.Need-same-length-2
 same-length-2 c = search needs
