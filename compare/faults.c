@@ -1,9 +1,10 @@
-/* Faults of letters, rules, the table, digests, peptides and forms. */
+/* Faults of letters, names, rules, the table, digests, peptides and forms. */
 #include "faults.h"
 
 REAL(set_insert);
 REAL(set_contains);
 REAL(letters_test);
+REAL(names_test);
 REAL(rule_parse);
 REAL(rule_write);
 REAL(variable_rules_test);
@@ -43,6 +44,18 @@ uint32_t sendumaal_letters_test(const uint8_t *letters, size_t len, size_t *plac
         *place = 0;
         return 0;
     }
+    return number;
+}
+
+/* ---- names ---- */
+
+uint32_t sendumaal_names_test(const uint8_t *names, size_t len, size_t *place)
+{
+    if (planted("names: 65537 are taken") && len / 64 == 65537)
+        len -= 64;
+    uint32_t number = real_names_test(names, len, place);
+    if (planted("names: a repeated name is taken") && number == 13)
+        return *place = 0, 0;
     return number;
 }
 

@@ -62,6 +62,10 @@ pub fn letters_test(letters: &[u8]) -> Checked<Answer<()>> {
     test(ffi::sendumaal_letters_test, letters)
 }
 
+pub fn names_test(names: &[u8]) -> Checked<Answer<()>> {
+    test(ffi::sendumaal_names_test, names)
+}
+
 pub fn variable_rules_test(rules: &[u8]) -> Checked<Answer<()>> {
     test(ffi::sendumaal_variable_rules_test, rules)
 }

@@ -4,6 +4,8 @@ extern "C" {
     pub fn sendumaal_set_contains(set: u32, letter: u8) -> u32;
     pub fn sendumaal_letters_test(letters: *const u8, letters_len: usize, place: *mut usize) -> u32;
 
+    pub fn sendumaal_names_test(names: *const u8, names_len: usize, place: *mut usize) -> u32;
+
     pub fn sendumaal_rule_parse(
         text: *const u8,
         text_len: usize,

@@ -15,6 +15,7 @@ mod guard;
 mod letters;
 mod masses;
 mod model;
+mod names;
 mod oracle;
 mod passes;
 mod peptides;
@@ -37,6 +38,7 @@ use std::process::ExitCode;
 /// The entries by subject. A new entry is a function of this type, with its line here; quick ones stand first.
 const SUBJECTS: &[(&str, &[Entry])] = &[
     ("letters", &[letters::set_operations, letters::first_bad_byte]),
+    ("names", &[names::catalogues, names::large_catalogues]),
     (
         "rule texts",
         &[

@@ -6,6 +6,7 @@ use crate::calls;
 use crate::cover::model::{MOST_EDGES, MOST_GROUPS};
 use crate::digest::cases::{few_enzymes, set_of, ALL_LETTERS};
 use crate::digest::model::{Call, Enzyme, DIGEST, END, MOST_DIGESTS, MOST_LETTERS, NONE, SET};
+use crate::digest_groups::model::MOST_NAMES;
 use crate::entry::{Against, Context, Tally};
 use crate::forms::cases::{rules_on_m, unmodified};
 use crate::model::{Record, Rule};
@@ -174,6 +175,15 @@ fn of_rules() -> Vec<Run> {
     ]
 }
 
+/// As many names as each table on the stack has places for.
+fn catalogues(rng: &mut Rng) -> Vec<Run> {
+    let of = |size: usize| {
+        let names = digest_groups::cases::names(rng, size);
+        run(&format!("names_test, {size} names"), move || is_served(calls::names_test(&names)))
+    };
+    [8, 256, 4_096, MOST_NAMES].map(of).into()
+}
+
 fn of_records() -> Vec<Run> {
     let record = [0, 0, 0, 0, 0, 0, 1, 0, 0, 0, 2, 0, 0, 0, 0, 0].to_vec();
     let (again, letters, out) = (record.clone(), vec![b'M'; MOST_LETTERS], vec![0; MOST_LETTERS]);
@@ -196,6 +206,7 @@ fn all(rng: &mut Rng) -> Vec<Run> {
         protein_lists(rng),
         of_peptides(rng),
         of_rules(),
+        catalogues(rng),
         of_records(),
     ];
     parts.into_iter().flatten().collect()

@@ -84,9 +84,8 @@ impl Call {
 
 impl fmt::Debug for Call {
     fn fmt(&self, f: &mut fmt::Formatter<'_>) -> fmt::Result {
-        let names: Vec<String> = self.names.chunks(NAME).take(20).map(shown_name).collect();
         let bounds = &self.bounds[..self.bounds.len().min(20)];
-        write!(f, "names {} of {} bytes, ", names.join(" "), self.names.len())?;
+        write!(f, "{}, ", shown_names(&self.names))?;
         write!(f, "boundaries {bounds:?} of {}, letters {}, ", self.bounds.len(), shown(&self.letters))?;
         for record in self.digests.chunks_exact(DIGEST).take(20) {
             let Digest { start, end, missed, semi, position, decoy, protein } = Digest::of(record);
@@ -96,8 +95,14 @@ impl fmt::Debug for Call {
     }
 }
 
-pub fn shown_name(record: &[u8]) -> String {
+fn shown_name(record: &[u8]) -> String {
     name(record).escape_ascii().to_string()
+}
+
+/// The first names of a catalogue, and its length.
+pub fn shown_names(names: &[u8]) -> String {
+    let first: Vec<String> = names.chunks(NAME).take(20).map(shown_name).collect();
+    format!("names {} of {} bytes", first.join(" "), names.len())
 }
 
 /// A record without the zeros behind its name.

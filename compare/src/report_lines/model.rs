@@ -1,6 +1,6 @@
 //! Document 01's report line as plain Rust.
 use crate::answer::*;
-use crate::digest_groups::model::{name, names_test, shown_name, MOST_NAMES, NAME};
+use crate::digest_groups::model::{name, names_test, shown_names, MOST_NAMES, NAME};
 use crate::protein_groups::model::{Member, MEMBER, MOST_MEMBERS};
 use crate::room;
 use std::fmt;
@@ -34,8 +34,7 @@ impl Call {
 impl fmt::Debug for Call {
     fn fmt(&self, f: &mut fmt::Formatter<'_>) -> fmt::Result {
         let Call { names, members, marks, proteins, decoy, tag, generated } = self;
-        let shown_names: Vec<String> = names.chunks(NAME).take(20).map(shown_name).collect();
-        write!(f, "names {} of {} bytes, ", shown_names.join(" "), names.len())?;
+        write!(f, "{}, ", shown_names(names))?;
         for Member { group, protein, decoy } in self.members().take(20) {
             write!(f, "{group}.{protein}.{decoy} ")?;
         }

@@ -1,11 +1,13 @@
 -- Document 01, "Examples (P: proved of the rules)": P1, P3, P4, P5, P6, P8, P10 and P11, with further cases of the crates, in one table under
 -- one claim.
-use Prim.Native.Nat.{ℕ}
+use Prim.Native.Nat.{ℕ, _-_}
 use mathlib.Core.Path.{refl}
 use mathlib.Core.List.{List, [], _∷_, _++_, flatten, map}
-use lib.ListN.{getD}
+use lib.ListN.{length, getD, replicate}
 use lib.Dec.{eqb}
 use Rattle.records.specs.Cases.{Case, Hold, joined}
+use Rattle.records.specs.Search.{seek}
+use Rattle.catalogue.specs.Names.{nameLength, zerosTo, namesTested}
 use Rattle.sorting.specs.Distinct.{keep}
 use Rattle.cover_rules.specs.Cover.{count, keep as keepEdges, markForced, coverMarked, stays, pass, passes, greatest, mark, choose, turn, turns, cover, listed, coverList}
 use Rattle.members_parts.specs.Members.{Member}
@@ -19,6 +21,7 @@ use Rattle.grouping.specs.Cases.{table as grouped, cases as grouped-hold}
 use Rattle.cover.specs.Cases.{table as covers, cases as covers-hold}
 use Rattle.report_rules.specs.Cases.{table as lines, cases as lines-hold}
 use Rattle.reporting.specs.Cases.{table as reports, cases as reports-hold}
+use Rattle.sendumaal.specs.NameCalls.{namesCall}
 
 -- P10: of pairs (peptide, protein) the proteins of each group, then those of the groups that the cover of its edges marks
 abbrev p10 : Groups
@@ -39,9 +42,41 @@ whole-holds : Hold whole
 unfolding flatten count keepEdges markForced coverMarked stays pass passes greatest mark choose turn turns cover listed coverList proteins metas groupsOf grouping whole
 whole-holds = refl
 
+-- a name of these bytes
+name : List ℕ → List ℕ
+name t = t ++ replicate (64 - length t) 0
+
+-- the proteins P1, P2 and P3
+three : List ℕ
+unfolding name
+three = name (80 ∷ 49 ∷ []) ++ (name (80 ∷ 50 ∷ []) ++ name (80 ∷ 51 ∷ []))
+
+-- a catalogue, and the number and the place that its test gives
+test : List ℕ → ℕ → ℕ → Case
+test names number place = record { got = (namesCall names .answer ∷ []) ∷ namesCall names .lent; want = (number ∷ []) ∷ (place ∷ []) ∷ [] }
+
+names : List Case
+names =
+    test [] 0 0
+    ∷ test three 0 0
+    -- 8: a part of a name
+    ∷ test (three ++ (32 ∷ [])) 8 0
+    -- 12: no bytes; a space; a byte behind the zeros
+    ∷ test (three ++ name []) 12 3
+    ∷ test (three ++ name (80 ∷ 32 ∷ 49 ∷ [])) 12 3
+    ∷ test (name (80 ∷ 0 ∷ 49 ∷ []) ++ three) 12 0
+    -- 13: one accession twice, at the later; 12 where a bad name stands before it
+    ∷ test (three ++ name (80 ∷ 50 ∷ [])) 13 3
+    ∷ test (name [] ++ (three ++ name (80 ∷ 50 ∷ []))) 12 0
+    ∷ []
+
+names-hold : Hold names
+unfolding seek nameLength zerosTo namesTested name three test names
+names-hold = refl
+
 -- the tables from one of them on
 abbrev fromCovers : List Case
-fromCovers = covers ++ (lines ++ reports)
+fromCovers = covers ++ (lines ++ (reports ++ names))
 
 abbrev fromWhole : List Case
 fromWhole = whole ++ fromCovers
@@ -68,5 +103,6 @@ cases =
     (joined groups fromGrouped groups-hold
     (joined grouped fromWhole grouped-hold
     (joined whole fromCovers whole-holds
-    (joined covers (lines ++ reports) covers-hold
-    (joined lines reports lines-hold reports-hold))))))))
+    (joined covers (lines ++ (reports ++ names)) covers-hold
+    (joined lines (reports ++ names) lines-hold
+    (joined reports names reports-hold names-hold)))))))))

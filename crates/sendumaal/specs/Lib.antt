@@ -1,4 +1,5 @@
--- What a reader has to believe: GroupCalls and ProteinCalls, beside those of calls_parts. Cases has document 01's examples.
+-- What a reader has to believe: GroupCalls, NameCalls and ProteinCalls, beside those of calls_parts. Cases has document 01's examples.
 pub mod GroupCalls
+pub mod NameCalls
 pub mod ProteinCalls
 pub mod Cases

@@ -1,6 +1,7 @@
 // The C face: the entries of the library over numbers, slices and results, as include/sendumaal.h declares them.
 mod digests;
 mod groups;
+mod names;
 mod peptides;
 mod proteins;
 mod rules;
@@ -14,6 +15,7 @@ pub use digests::sendumaal_letters_reverse;
 pub use groups::sendumaal_cover;
 pub use groups::sendumaal_group_digests;
 pub use groups::sendumaal_update;
+pub use names::sendumaal_names_test;
 pub use peptides::sendumaal_base_mass;
 pub use peptides::sendumaal_forms;
 pub use peptides::sendumaal_peptide_reverse;

@@ -1,0 +1,13 @@
+// A catalogue of names alone, to be tested before anything else takes it.
+use calls_parts::told;
+ghost use mathlib.Core.Path.{_≡_};
+ghost use mathlib.Core.List.{List, [], _∷_};
+ghost use Rattle.records.specs.Outcome.{outcome};
+ghost use Rattle.sendumaal.specs.NameCalls.{namesCall};
+
+#[no_mangle]
+pub extern "C" fn sendumaal_names_test(names: &[u8], place: &mut usize) -> u32
+    ensures { λ r. ⌜ outcome r ((now (place .exit) ∷ []) ∷ []) ≡ namesCall (now (names .entry)) ⌝ }
+{
+    told(catalogue::names_checked(names), place)
+}
