@@ -8,7 +8,8 @@ use lib.Ieee.{Float}
 use Rattle.peptide.specs.declared.peptide.Peptide.{Peptide}
 use Rattle.peptide.specs.declared.mass.Weighed.{Weighed}
 use Rattle.records.specs.Tested.{andThen}
-use Rattle.peptide.specs.Peptides.{wrongSize, window, testedPeptide, reversed}
+use Rattle.peptide_parts.specs.Windows.{window}
+use Rattle.peptide.specs.Peptides.{wrongSize, testedPeptide, reversed}
 use Rattle.peptide.specs.Forms.{tooLarge, formsOutcome}
 use Rattle.records.specs.declared.refusal.Refusal.the-variants.{Size, Length, Field}
 use Rattle.records.specs.declared.refusal.Checked.{Checked}

@@ -21,16 +21,15 @@ pub fn peptide_of(
 ) -> Peptide
     ensures { λ r. ⌜ r ≡ peptideOf (now (letters .entry)) (now (ids .entry)) nterm cterm position decoy ⌝ }
 {
-    let bare = Peptide::of_form(letters, &letters[0..0], position, decoy);
-    let held = bare.letters;
-    let worn = Peptide::of_form(ids, &ids[0..0], 0, false);
-    let own = worn.letters;
+    let held = peptide_parts::window(letters, 0);
+    let worn = peptide_parts::window(ids, 0);
+    let len = peptide_parts::short(letters.len());
     Peptide {
         letters: held,
-        ids: own,
+        ids: worn,
         nterm,
         cterm,
-        len: bare.len,
+        len,
         position,
         decoy,
     }

@@ -1,23 +1,22 @@
 -- What the tests of a peptide come to, and that reversing twice gives the peptide back. Assumes nothing.
-use Prim.Native.Nat.{ℕ, _+_, _-_, _≤_, _<_}
-use mathlib.Core.Path.{_≡_, refl, sym, ap, _∙_, subst}
+use Prim.Native.Nat.{ℕ, _≤_, _<_}
+use mathlib.Core.Path.{_≡_, refl, sym, ap, ap₂, _∙_, subst}
 use mathlib.Core.Bool.{Bool, true, false, cond, true≢false, Bool·not-not}
-use mathlib.Core.List.{List, _++_}
+use mathlib.Core.List.{List}
 use native.Mathlib.Omega.{arith}
-use lib.ListN.{length, getD, take, drop, replicate, length-replicate, getD-replicate, length-append, length-drop, List·getD-append, List·getD-eq-default}
-use mathlib.Core.Logic.{_⊎_, inl, inr}
-use lib.Seq.{ext-getD, getD-take, getD-drop, getD-append-add, length-take-le}
+use lib.ListN.{length}
 use lib.Dec.{ltb, eqb}
-use borrow.Author.Tests.{lt-ltb, le-ltb, ltb-false}
+use borrow.Author.Tests.{lt-ltb, le-ltb, ltb-false, eq-eqb, ne-eqb}
 use Rattle.records.specs.declared.refusal.Refusal.{Refusal}
-use Rattle.records.specs.declared.refusal.Refusal.the-variants.{Size, Letter, Field}
+use Rattle.records.specs.declared.refusal.Refusal.the-variants.{Size, Letter, Length, Field}
 use Rattle.records.specs.declared.refusal.Checked.{Checked}
-use Rattle.records.specs.Tests.{neither, below?}
+use Rattle.records.specs.Tests.{neither}
+use Rattle.records.specs.Tested.{passed-first, passed-second}
 use Rattle.letters.specs.Letters.{firstBad}
 use Rattle.peptide_parts.specs.Mirror.{mirror}
 use Rattle.peptide_parts.specs.MirrorLaws.{mirror-mirror}
 use Rattle.peptide.specs.declared.peptide.Peptide.{Peptide}
-use Rattle.peptide.specs.Peptides.{window, wrongSize, lettersOf, clear, testedContents, testedPeptide, reversed}
+use Rattle.peptide.specs.Peptides.{wrongSize, lettersOf, clear, testedContents, testedPeptide, testedForm, given, none, madeOr, madeOfForm, reversed}
 
 pub size-fits : (n : ℕ) → wrongSize n ≡ false → n ≤ 64
 size-fits n h = ltb-false 64 n (neither (eqb n 0) (ltb 64 n) h .1)
@@ -60,26 +59,34 @@ module _ (p : Peptide) where
       go true e f = absurd (not-passed Size f)
       go false e f = size-fits (p .len) e
 
--- ---- bytes copied into an array
+-- ---- a peptide and its form
 
-pub window-is : (n from : ℕ) (xs out : List ℕ) → length out ≡ n → ((j : ℕ) → j < n → getD out j 0 ≡ getD xs (from + j) 0) → out ≡ window n from xs
-window-is n from xs out l h =
-    let z : List ℕ = replicate n 0 in
-    let d : List ℕ = drop from xs in
-    let k : length z ≡ n = length-replicate {A = ℕ} n 0 in
-    let w : length (take n (d ++ z)) ≡ n = length-take-le n (d ++ z) (omega (arith, length-append d z)) in
-    ext-getD 0 out (take n (d ++ z)) (l ∙ sym w) (λ j g. h j (omega arith) ∙ at j (omega arith) (below? j (length d)))
-  where
-    at : (j : ℕ) → j < n → (j < length (drop from xs)) ⊎ (length (drop from xs) ≤ j) → getD xs (from + j) 0 ≡ getD (take n (drop from xs ++ replicate n 0)) j 0
-    at j g (inl b) = sym (getD-take n (drop from xs ++ replicate n 0) j 0 g ∙ List·getD-append (drop from xs) (replicate n 0) 0 j b ∙ getD-drop from xs j 0)
-    at j g (inr b) =
-        let s : length (drop from xs) + (j - length (drop from xs)) ≡ j = omega arith in
-        List·getD-eq-default xs 0 (omega (arith, length-drop from xs))
-        ∙ sym
-        (getD-take n (drop from xs ++ replicate n 0) j 0 g
-        ∙ ap (λ (i : ℕ). getD (drop from xs ++ replicate n 0) i 0) (sym s)
-        ∙ getD-append-add (drop from xs) (replicate n 0) (j - length (drop from xs)) 0
-        ∙ getD-replicate n (j - length (drop from xs)) 0 0 (omega arith))
+module _ (form : List ℕ) (p : Peptide) where
+  pub form-size : wrongSize (p .len) ≡ true → Checked.Refused Size ≡ testedForm form p
+  unfolding testedForm
+  form-size e = rw e
+
+  module _ (fits : wrongSize (p .len) ≡ false) where
+    pub form-length : (length form ≡ 66 → ⊥) → Checked.Refused Length ≡ testedForm form p
+    unfolding testedForm
+    form-length h = rw (fits, ne-eqb (length form) 66 h)
+
+    pub form-contents : length form ≡ 66 → (r : Checked) → r ≡ testedContents p → r ≡ testedForm form p
+    unfolding testedForm
+    form-contents h r e = e ∙ rw (fits, eq-eqb (length form) 66 h)
+
+  -- a peptide that passes with its form passes alone: the other entries take what is made of a form
+  pub form-passes : testedForm form p ≡ Checked.Passed → testedPeptide p ≡ Checked.Passed
+  unfolding testedForm testedPeptide
+  form-passes h =
+      let a = passed-first (wrongSize (p .len)) Size (cond (eqb (length form) 66) (testedContents p) (Checked.Refused Length)) h in
+      rw (a .0) (passed-second (eqb (length form) 66) Length (testedContents p) (a .1) .1)
+
+-- what the tests of a form answer decides which peptide is handed out
+pub made-of-form : (letters form : List ℕ) (position : ℕ) (decoy : Bool) (t : Checked) (p q : Peptide)
+    → t ≡ testedForm form p → p ≡ given letters form position decoy → q ≡ none → madeOr t p q ≡ madeOfForm letters form position decoy
+made-of-form letters form position decoy t p q e f g =
+    ap (λ (x : Checked). madeOr x p q) e ∙ ap₂ (λ (x y : Peptide). madeOr (testedForm form x) x y) f g
 
 -- ---- reversal
 

@@ -2,14 +2,15 @@
 -- 0, after its letters)." "`Peptide::reverse` does so for letters and residue ids, terminals stay, and the decoy flag flips
 -- each time."
 use Prim.Native.Nat.{ℕ, min}
-use mathlib.Core.Bool.{Bool, cond, not, _&&_, _||_}
-use mathlib.Core.List.{List, _++_}
-use lib.ListN.{length, getD, take, drop, replicate}
+use mathlib.Core.Bool.{Bool, false, cond, not, _&&_, _||_}
+use mathlib.Core.List.{List, []}
+use lib.ListN.{length, getD, take, drop}
 use lib.Dec.{leb, ltb, eqb}
-use Rattle.records.specs.declared.refusal.Refusal.the-variants.{Size, Letter, Field}
+use Rattle.records.specs.declared.refusal.Refusal.the-variants.{Size, Letter, Length, Field}
 use Rattle.records.specs.declared.refusal.Checked.{Checked}
 use Rattle.letters.specs.Letters.{firstBad}
 use Rattle.peptide_parts.specs.Mirror.{mirror, allZero}
+use Rattle.peptide_parts.specs.Windows.{window}
 use Rattle.peptide.specs.declared.peptide.Peptide.{Peptide}
 use Rattle.peptide.specs.declared.peptide.Made.{Made}
 
@@ -39,6 +40,13 @@ unfoldable pub testedPeptide : Peptide → Checked
 unfolding testedContents
 testedPeptide p = cond (wrongSize (p .len)) (Checked.Refused Size) (testedContents p)
 
+-- a peptide and the form that its ids came from: 1, 8: the form is not one record, 2, 9
+unfoldable pub testedForm : List ℕ → Peptide → Checked
+unfolding testedContents
+testedForm form p =
+    cond (wrongSize (p .len)) (Checked.Refused Size)
+    (cond (eqb (length form) 66) (testedContents p) (Checked.Refused Length))
+
 -- the new peptide where the tests passed, else the other
 abbrev pub madeOr : Checked → Peptide → Peptide → Made
 madeOr Checked.Passed new other = record { checked = Checked.Passed; peptide = new }
@@ -46,11 +54,8 @@ madeOr (Checked.Refused why) new other = record { checked = Checked.Refused why;
 
 -- ---- peptides
 
--- the n places from one on; past the end stands 0
-abbrev pub window : ℕ → ℕ → List ℕ → List ℕ
-window n from xs = take n (drop from xs ++ replicate n 0)
-
--- of some letters, with the ids of a form: both ends, then the residues. With no form it is unmodified
+-- of some letters, with the ids of a form: both ends, then the residues. With no form it is unmodified. A length above 255 is
+-- 255, which no peptide has either
 abbrev pub given : List ℕ → List ℕ → ℕ → Bool → Peptide
 given letters form position decoy =
     record {
@@ -62,6 +67,14 @@ given letters form position decoy =
       position = position;
       decoy = decoy;
     }
+
+-- what is handed out where none was made
+abbrev pub none : Peptide
+none = given [] [] 0 false
+
+-- of a form's one record
+abbrev pub madeOfForm : List ℕ → List ℕ → ℕ → Bool → Made
+madeOfForm letters form position decoy = madeOr (testedForm form (given letters form position decoy)) (given letters form position decoy) none
 
 abbrev pub reversed : Peptide → Peptide
 reversed p =

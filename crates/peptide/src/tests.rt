@@ -4,7 +4,7 @@ use records::Checked;
 use records::Refusal;
 ghost use mathlib.Core.Path.{_≡_};
 ghost use Prim.Native.Nat.{_≤_};
-ghost use Rattle.peptide.specs.Peptides.{clear, testedContents, testedPeptide};
+ghost use Rattle.peptide.specs.Peptides.{clear, testedContents, testedPeptide, testedForm};
 ghost use Rattle.peptide.specs.Forms.{tooLarge, notWhole, testedLists, testedForms};
 
 // Whether the places past the length are 0, and the position is one.
@@ -44,6 +44,20 @@ pub(crate) fn test_peptide(p: Peptide) -> Checked
     let n = p.len;
     if (n == 0) | (64 < n) {
         return Checked::Refused(Refusal::Size);
+    }
+    test_contents(p)
+}
+
+// The tests of a peptide and of the form that its ids came from.
+pub(crate) fn test_form(form: &[u8], p: Peptide) -> Checked
+    ensures { λ r. ⌜ r ≡ testedForm (now (form .entry)) p ⌝ }
+{
+    let n = p.len;
+    if (n == 0) | (64 < n) {
+        return Checked::Refused(Refusal::Size);
+    }
+    if form.len() != 66 {
+        return Checked::Refused(Refusal::Length);
     }
     test_contents(p)
 }

@@ -1,9 +1,10 @@
--- What a reader has to believe: Hits, Sites, Filling, Mirror. Overlays and Used say what the code goes by, and the files
--- named Laws what follows.
+-- What a reader has to believe: Hits, Sites, Filling, Mirror, Windows. Overlays and Used say what the code goes by, and the
+-- files named Laws what follows.
 pub mod Hits
 pub mod Sites
 pub mod Filling
 pub mod Mirror
+pub mod Windows
 pub mod Overlays
 pub mod Used
 pub mod WroteLaws
@@ -12,3 +13,4 @@ pub mod UsedLaws
 pub mod OverlayLaws
 pub mod FillLaws
 pub mod MirrorLaws
+pub mod WindowLaws

@@ -1,8 +1,9 @@
-// What a peptide's arrays are made of: what rules hit, sites, forms, the reversal of the inner places.
+// What a peptide's arrays are made of: lent bytes, what rules hit, sites, forms, the reversal of the inner places.
 mod form;
 mod hits;
 mod mirror;
 mod sites;
+mod windows;
 
 pub use form::Form;
 pub use form::bare;
@@ -16,3 +17,5 @@ pub use mirror::zero_from;
 pub use sites::collect;
 pub use sites::collect_used;
 pub use sites::site_at;
+pub use windows::short;
+pub use windows::window;

@@ -29,12 +29,14 @@ fn read_form(line: &[u8], form: &mut [u8])
     put_byte(form, 1, small(decimal(line, field(line, 3))));
 }
 
+// A line that is refused has no letters here, and the forms refuse it.
 fn peptide_of(line: &[u8]) -> Peptide {
     let mut form = [0u8; 66];
     read_form(line, &mut form);
     let position = small(decimal(line, field(line, 4)));
     let n = letter_count(line);
-    Peptide::of_form(&line[0..n], &form, position, false)
+    let made = Peptide::of_form(&line[0..n], &form, position, false);
+    made.peptide
 }
 
 // The library's forms.

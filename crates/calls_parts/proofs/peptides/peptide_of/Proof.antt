@@ -3,43 +3,17 @@ use borrow.Author.Needs.{needs}
 use Rattle.calls_parts.proofs.peptides.peptide_of.Statement.{statement}
 use Rattle.calls_parts.proofs.peptides.peptide_of.Tie as tie
 
-sub-of-form : tie.Need-sub-of-form
-sub-of-form c = search needs
+window-requires : tie.Need-window-requires
+window-requires c κs = search needs
 
-part-of-form-start : tie.Need-part-of-form-start
-part-of-form-start c = search needs
+window-requires-2 : tie.Need-window-requires-2
+window-requires-2 c κs = search needs
 
-part-of-form-end : tie.Need-part-of-form-end
-part-of-form-end c = search needs
-
-of-form-requires : tie.Need-of-form-requires
-of-form-requires c κs = search needs
-
-sub-of-form-2 : tie.Need-sub-of-form-2
-sub-of-form-2 c = search needs
-
-part-of-form-start-2 : tie.Need-part-of-form-start-2
-part-of-form-start-2 c = search needs
-
-part-of-form-end-2 : tie.Need-part-of-form-end-2
-part-of-form-end-2 c = search needs
-
-of-form-requires-2 : tie.Need-of-form-requires-2
-of-form-requires-2 c κs = search needs
+short-requires : tie.Need-short-requires
+short-requires c κs = search needs
 
 returns : tie.Need-returns
-returns c = rw (c .before .before .before .before .of-form .ensures, c .before .of-form2 .ensures)
+returns c = rw (c .before .before .window .ensures, c .before .window2 .ensures, c .short .ensures)
 
 pub peptide-of-spec : {M : Type 1} → statement M
-peptide-of-spec =
-    tie.close
-    (tie.spec
-    sub-of-form
-    part-of-form-start
-    part-of-form-end
-    of-form-requires
-    sub-of-form-2
-    part-of-form-start-2
-    part-of-form-end-2
-    of-form-requires-2
-    returns)
+peptide-of-spec = tie.close (tie.spec window-requires window-requires-2 short-requires returns)

@@ -1,33 +1,49 @@
 -- `Peptide::of_form` meets its contract. Assumes nothing.
+use mathlib.Core.Path.{refl, sym, _∙_}
+use denote.Ref.{now}
+use Rattle.peptide.specs.Peptides.{none}
+use Rattle.peptide.specs.PeptideLaws.{made-of-form}
 use borrow.Author.Needs.{needs}
 use Rattle.peptide.proofs.peptide.Peptide.of_form.Statement.{statement}
 use Rattle.peptide.proofs.peptide.Peptide.of_form.Tie as tie
 
-window-requires : tie.Need-window-requires
-window-requires c κs = search needs
+given-requires : tie.Need-given-requires
+given-requires c κs = search needs
 
-window-requires-2 : tie.Need-window-requires-2
-window-requires-2 c κs = search needs
+test-form-requires : tie.Need-test-form-requires
+test-form-requires c κs = search needs
 
-byte-at-requires : tie.Need-byte-at-requires
-byte-at-requires c κs = search needs
+enum-known-why : tie.Need-enum-known-why
+enum-known-why c = search needs
 
-byte-at-requires-2 : tie.Need-byte-at-requires-2
-byte-at-requires-2 c κs = search needs
-
-short-requires : tie.Need-short-requires
-short-requires c κs = search needs
+none-requires : tie.Need-none-requires
+none-requires c κs = search needs
 
 returns : tie.Need-returns
-returns c = rw (c .before .before .before .before .window .ensures, c .before .before .before .window2 .ensures, c .before .before .byte-at .ensures, c .before .byte-at2 .ensures, c .short .ensures)
+returns c =
+    let a = c .before .before .before .before .before .before .before .before .args in
+    let p = c .before .before .before .before .before .given in
+    let e = sym (c .before .before .why .given .1) ∙ c .before .before .before .before .test-form .ensures in
+    made-of-form (now (a .letters)) (now (a .form)) (a .position) (a .decoy) _ (p .result) (c .none .result) e (p .ensures) (c .none .ensures)
+
+enum-told : tie.Need-enum-told
+enum-told c = search needs
+
+returns-2 : tie.Need-returns-2
+returns-2 c =
+    let a = c .before .before .before .before .before .before .args in
+    let p = c .before .before .before .given in
+    let e = sym (c .enum-told .given .1) ∙ c .before .before .test-form .ensures in
+    made-of-form (now (a .letters)) (now (a .form)) (a .position) (a .decoy) _ (p .result) none e (p .ensures) refl
 
 pub of-form-spec : {M : Type 1} → statement M
 of-form-spec =
     tie.close
     (tie.spec
-    window-requires
-    window-requires-2
-    byte-at-requires
-    byte-at-requires-2
-    short-requires
-    returns)
+    given-requires
+    test-form-requires
+    enum-known-why
+    none-requires
+    returns
+    enum-told
+    returns-2)

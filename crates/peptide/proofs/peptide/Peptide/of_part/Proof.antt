@@ -10,51 +10,33 @@ test-part-requires c κs = search needs
 enum-known-why : tie.Need-enum-known-why
 enum-known-why c = search needs
 
-sub-of-form : tie.Need-sub-of-form
-sub-of-form c = search needs
-
-part-of-form-start : tie.Need-part-of-form-start
-part-of-form-start c = search needs
-
-part-of-form-end : tie.Need-part-of-form-end
-part-of-form-end c = search needs
-
-sub-of-form-2 : tie.Need-sub-of-form-2
-sub-of-form-2 c = search needs
-
-part-of-form-start-2 : tie.Need-part-of-form-start-2
-part-of-form-start-2 c = search needs
-
-part-of-form-end-2 : tie.Need-part-of-form-end-2
-part-of-form-end-2 c = search needs
-
-of-form-requires : tie.Need-of-form-requires
-of-form-requires c κs = search needs
+none-requires : tie.Need-none-requires
+none-requires c κs = search needs
 
 returns : tie.Need-returns
 returns c =
-    let e = sym (c .before .before .before .before .why .given .1) ∙ c .before .before .before .before .before .before .test-part .ensures in
-    rw (← e, c .of-form .ensures)
+    let e = sym (c .before .before .why .given .1) ∙ c .before .before .before .before .test-part .ensures in
+    rw (← e, c .none .ensures)
 
 enum-told : tie.Need-enum-told
 enum-told c = search needs
 
-sub-of-form-3 : tie.Need-sub-of-form-3
-sub-of-form-3 c = search needs
+sub-given : tie.Need-sub-given
+sub-given c = search needs
 
-part-of-form-start-3 : tie.Need-part-of-form-start-3
-part-of-form-start-3 c = search needs
+part-given-start : tie.Need-part-given-start
+part-given-start c = search needs
 
-part-of-form-end-3 : tie.Need-part-of-form-end-3
-part-of-form-end-3 c = search needs
+part-given-end : tie.Need-part-given-end
+part-given-end c = search needs
 
-of-form-requires-2 : tie.Need-of-form-requires-2
-of-form-requires-2 c κs = search needs
+given-requires : tie.Need-given-requires
+given-requires c κs = search needs
 
 returns-2 : tie.Need-returns-2
 returns-2 c =
     let e = sym (c .before .before .enum-told .given .1) ∙ c .before .before .before .before .test-part .ensures in
-    rw (← e, c .of-form2 .ensures)
+    rw (← e, c .given .ensures)
 
 pub of-part-spec : {M : Type 1} → statement M
 of-part-spec =
@@ -62,17 +44,11 @@ of-part-spec =
     (tie.spec
     test-part-requires
     enum-known-why
-    sub-of-form
-    part-of-form-start
-    part-of-form-end
-    sub-of-form-2
-    part-of-form-start-2
-    part-of-form-end-2
-    of-form-requires
+    none-requires
     returns
     enum-told
-    sub-of-form-3
-    part-of-form-start-3
-    part-of-form-end-3
-    of-form-requires-2
+    sub-given
+    part-given-start
+    part-given-end
+    given-requires
     returns-2)

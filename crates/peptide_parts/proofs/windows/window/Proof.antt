@@ -5,10 +5,10 @@ use native.Mathlib.Omega.{arith}
 use denote.Ref.{now}
 use lib.ListN.{getD, replicate, length-replicate}
 use mathlib.Core.List.{List}
 use Rattle.peptide_parts.specs.OverlayLaws.{Upto, upto-none, upto-more}
-use Rattle.peptide.specs.PeptideLaws.{window-is}
-use Rattle.peptide.proofs.peptide.window.Statement.{statement}
-use Rattle.peptide.proofs.peptide.window.Tie as tie
+use Rattle.peptide_parts.specs.WindowLaws.{window-is}
+use Rattle.peptide_parts.proofs.windows.window.Statement.{statement}
+use Rattle.peptide_parts.proofs.windows.window.Tie as tie
 
 -- what is stored at place k
 abbrev byteAt : ℕ → List ℕ → ℕ → ℕ → ℕ
