@@ -64,7 +64,7 @@ uint32_t sendumaal_letters_test(const uint8_t *letters, size_t letters_len, size
 
 /* Tests a catalogue. Call it before anything else: sendumaal_group_proteins and sendumaal_cover see numbers only, so that a
  * protein whose name stands twice passes them as two. Refuses with 1 (more than 65536 names), 8 (not whole names), then, at
- * the lowest place, 12 (no name) or 13 (equal to an earlier one). It takes 0.6 MB of stack. */
+ * the lowest place, 12 (no name) or 13 (equal to an earlier one). It takes less than 0.6 MB of stack. */
 uint32_t sendumaal_names_test(const uint8_t *names, size_t names_len, size_t *place);
 
 /* ---- rules ----
@@ -171,9 +171,8 @@ uint32_t sendumaal_forms(const uint8_t *letters, size_t letters_len, const uint8
 
 /* ---- groups of digests ----
  * A book is the letters of all proteins in a row, and their boundaries, one more than names: the first 0, none below the one
- * before or more than 65536 above it, the last letters_len.
- * A digest's range counts from its protein's first letter. A group is 24 bytes: the record of a digest, first u32 and count
- * u32, little-endian, which name a stretch of proteins. */
+ * before or more than 65536 above it, the last letters_len. A digest's range counts from its protein's first letter. A group
+ * is 24 bytes: the record of a digest, first u32 and count u32, little-endian, which name a stretch of proteins. */
 
 /* Groups digests that are equal in position, decoy and letters, sorted by these; the record of a group is the first of its
  * digests, and its proteins, one for each digest, are sorted by the bytes of their names. names are at most 65536, letters
@@ -235,8 +234,8 @@ uint32_t sendumaal_update(const uint8_t *old_edges, size_t old_edges_len,
 
 /* Writes the report line of a peptide that has the given proteins and decoy flag: of the marked groups that hold one of its
  * proteins with that flag, each once, the names of all members, sorted and joined by '/', groups sorted and joined by ';'.
- * A member that is a decoy has the tag before its name where generated is 1. names are a catalogue;
- * members may stand in any order; marks_len is the number of groups. names are at most 65536, members and marks
+ * A member that is a decoy has the tag before its name where generated is 1. names are a catalogue as for groups of
+ * digests; members may stand in any order; marks_len is the number of groups. names are at most 65536, members and marks
  * 131072, proteins 1048576; the line has no limit but line_len. Refuses with 1; 8 (names or members are not whole records);
  * 12 and 13 in names, the lowest place; 9 in members (a group without a mark, a protein without a name, a flag above 1, no
  * three zeros); 9 in marks; 9 in proteins (no name); 12 (the tag is longer than 16 bytes, or has one that is not 33 to 126:

@@ -53,7 +53,7 @@ three = name (80 ∷ 49 ∷ []) ++ (name (80 ∷ 50 ∷ []) ++ name (80 ∷ 51 �
 
 -- a catalogue, and the number and the place that its test gives
 test : List ℕ → ℕ → ℕ → Case
-test names number place = record { got = (namesCall names .answer ∷ []) ∷ namesCall names .lent; want = (number ∷ []) ∷ (place ∷ []) ∷ [] }
+test catalogue number place = record { got = (namesCall catalogue .answer ∷ []) ∷ namesCall catalogue .lent; want = (number ∷ []) ∷ (place ∷ []) ∷ [] }
 
 names : List Case
 names =
