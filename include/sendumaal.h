@@ -18,11 +18,16 @@
 #include <stdint.h>
 #include <string.h>
 
+/* docs/CHANGES.md says what each version changed. The second number rises where a declaration, an answer or a refusal does. */
+#define SENDUMAAL_VERSION_MAJOR 0
+#define SENDUMAAL_VERSION_MINOR 2
+#define SENDUMAAL_VERSION_PATCH 0
+
 #ifdef __cplusplus
 extern "C" {
 #endif
 
-/* What a call says no with, and what its place is then. */
+/* What a call refuses with, and what its place is then. */
 enum {
     SENDUMAAL_ACCEPTED = 0,
     SENDUMAAL_SIZE = 1,        /* a size above its limit, or an empty peptide: 0 */
