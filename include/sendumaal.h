@@ -166,8 +166,9 @@ uint32_t sendumaal_peptide_reverse(uint8_t *letters, size_t letters_len, uint8_t
  * length 0. First the peptide as it is, then for n = 1 to limit (at most 8) every choice of n sites of the variable rules
  * in lexicographic order that uses no slot twice and no rule above its own limit, until there are cap forms
  * (SENDUMAAL_NO_CAP: all); the fixed rules then fill what is free in each. They stand at the front of out; the rest of
- * out stays. Refuses with 1 (also more than 16 variable or 32 fixed rules), 8 (also rules that are not whole records), 2, 9
- * (position: 0; then variable rules, then fixed ones: the record's index), 11: the forms that fit stand in order.
+ * out stays. Refuses with 1 (also more than 16 variable or 32 fixed rules), 8 (ids are not as many as letters, or rules are
+ * not whole records), 2, 9 (position: 0; then variable rules, then fixed ones: the record's index), 11: the forms that fit
+ * stand in order.
  * Accepted: *count is their number, at most 1048576. */
 uint32_t sendumaal_forms(const uint8_t *letters, size_t letters_len, const uint8_t *ids, size_t ids_len,
                          uint8_t nterm, uint8_t cterm, uint8_t position,
