@@ -6,8 +6,8 @@ use mathlib.Core.List.{List}
 use lib.ListN.{length, getD}
 use lib.Dec.{ltb, eqb}
 use Rattle.records.specs.declared.refusal.Refusal.the-variants.{Letter, Field}
-use Rattle.records.specs.declared.refusal.Checked.{Checked}
-use Rattle.records.specs.declared.refusal.Checked.the-variants.{Passed, Refused}
+use Rattle.records.specs.declared.refusal.Tested.{Tested}
+use Rattle.records.specs.declared.refusal.Tested.the-variants.{Passed, Refused}
 use Rattle.records.specs.Search.{seek}
 use Rattle.letters.specs.Letters.{firstBad}
 
@@ -44,11 +44,11 @@ unfolding seek
 firstBadBound bounds count = seek (badBound bounds count) 0 (length bounds)
 
 -- 9 at the lowest bad boundary; where there is none at all, the first is missing
-abbrev pub boundsTested : List ℕ → ℕ → Checked
+abbrev pub boundsTested : List ℕ → ℕ → Tested
 boundsTested bounds count =
     cond (eqb (length bounds) 0) (Refused (Field 0))
     (cond (ltb (firstBadBound bounds count) (length bounds)) (Refused (Field (firstBadBound bounds count))) Passed)
 
 -- 2 at the first byte that is not A to Z
-abbrev pub lettersTested : List ℕ → Checked
+abbrev pub lettersTested : List ℕ → Tested
 lettersTested letters = cond (ltb (firstBad letters) (length letters)) (Refused (Letter (firstBad letters))) Passed

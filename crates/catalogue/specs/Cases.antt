@@ -4,15 +4,15 @@ use mathlib.Core.Path.{refl}
 use mathlib.Core.List.{List, [], _∷_, _++_, flatten, map}
 use lib.ListN.{length, replicate}
 use Rattle.records.specs.Refusals.{numberOf, placeOf}
-use Rattle.records.specs.declared.refusal.Checked.{Checked}
-use Rattle.records.specs.declared.refusal.Checked.the-variants.{Passed, Refused}
+use Rattle.records.specs.declared.refusal.Tested.{Tested}
+use Rattle.records.specs.declared.refusal.Tested.the-variants.{Passed, Refused}
 use Rattle.records.specs.Cases.{Case, Hold}
 use Rattle.records.specs.Search.{seek}
 use Rattle.letters.specs.Letters.{isLetter, firstBad}
 use Rattle.catalogue.specs.Names.{nameLength, zerosTo, namesTested, catalogueTested}
 use Rattle.catalogue.specs.Book.{firstBadBound, boundsTested, lettersTested}
 
-told : Checked → List ℕ
+told : Tested → List ℕ
 told Passed = 0 ∷ 0 ∷ []
 told (Refused why) = numberOf why ∷ placeOf why ∷ []
 

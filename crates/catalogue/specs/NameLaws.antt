@@ -10,17 +10,17 @@ use lib.Seq.{length-slice, getD-drop}
 use lib.Dec.{leb, ltb, eqb}
 use borrow.Author.Tests.{le-leb, lt-leb, ltb-true, ltb-false, lt-ltb, le-ltb, eqb-true, leb-true, not-false}
 use Rattle.records.specs.declared.refusal.Refusal.the-variants.{Size, Length, Name, Repeat as Again}
-use Rattle.records.specs.declared.refusal.Checked.{Checked}
-use Rattle.records.specs.declared.refusal.Checked.the-variants.{Passed, Refused}
+use Rattle.records.specs.declared.refusal.Tested.{Tested}
+use Rattle.records.specs.declared.refusal.Tested.the-variants.{Passed, Refused}
 use Rattle.records.specs.Outcome.{Outcome, outcome}
 use Rattle.records.specs.Search.{seek}
 use Rattle.records.specs.SearchLaws.{seek-to, seek-passes, seek-before}
 use Rattle.records.specs.Tests.{below?, both, neither}
-use Rattle.sorting_parts.specs.Text.{nameOf}
-use Rattle.sorting_parts.specs.TextLaws.{stands}
+use Rattle.sorting_merge.specs.Text.{nameOf}
+use Rattle.sorting_merge.specs.TextLaws.{stands}
 use Rattle.sorting.specs.Distinct.{same}
 use Rattle.sorting.specs.DistinctLaws.{same-refl}
-use Rattle.sorting_parts.specs.SortLaws.{clash}
+use Rattle.sorting_merge.specs.SortLaws.{clash}
 use Rattle.sorting.specs.Repeats.{repeats, firstRepeat, repeatedAt, repeatOutcome}
 use Rattle.sorting.specs.declared.repeats.Repeated.{Repeated}
 use Rattle.sorting.specs.declared.repeats.Repeated.the-variants.{At, Never, Unfit}
@@ -28,7 +28,7 @@ use Rattle.records.specs.Tested.{passed-first, passed-second}
 use Rattle.catalogue.specs.Names.{hidden, filled, nameLength, zerosTo, isName, nameCount, tooManyNames, wholeNames, badName, wrongName, wrongAt, namesTested, catalogueTested, cleared, namesOutcome}
 
 -- what the first bad name and the first that repeats tell of n names: the lower place, at one place 12 before 13
-abbrev pub lowerOf : ℕ → ℕ → ℕ → Checked
+abbrev pub lowerOf : ℕ → ℕ → ℕ → Tested
 lowerOf bad again n = cond (ltb again bad) (Refused (Again again)) (cond (ltb bad n) (Refused (Name bad)) Passed)
 
 -- ---- the search for a first place

@@ -7,11 +7,11 @@ use lib.ListN.{length, getD, drop, replicate}
 use lib.Dec.{leb, ltb, eqb}
 use Rattle.records.specs.declared.refusal.Refusal.{Refusal}
 use Rattle.records.specs.declared.refusal.Refusal.the-variants.{Size, Length, Name, Repeat}
-use Rattle.records.specs.declared.refusal.Checked.{Checked}
-use Rattle.records.specs.declared.refusal.Checked.the-variants.{Passed, Refused}
+use Rattle.records.specs.declared.refusal.Tested.{Tested}
+use Rattle.records.specs.declared.refusal.Tested.the-variants.{Passed, Refused}
 use Rattle.records.specs.Outcome.{Outcome, outcome, only}
 use Rattle.records.specs.Search.{seek}
-use Rattle.sorting_parts.specs.Text.{nameOf}
+use Rattle.sorting_merge.specs.Text.{nameOf}
 use Rattle.sorting.specs.Repeats.{repeats}
 
 -- ---- one record
@@ -68,14 +68,14 @@ abbrev pub wrongAt : List ℕ → ℕ → Refusal
 wrongAt names at = cond (badName names at) (Name at) (Repeat at)
 
 -- the contents: the lowest place where a record is wrong
-unfoldable pub namesTested : List ℕ → Checked
+unfoldable pub namesTested : List ℕ → Tested
 unfolding seek
 namesTested names =
     let at = seek (wrongName names) 0 (nameCount names) in
     cond (ltb at (nameCount names)) (Refused (wrongAt names at)) Passed
 
 -- a catalogue alone: 1, then 8, then its contents
-abbrev pub catalogueTested : List ℕ → Checked
+abbrev pub catalogueTested : List ℕ → Tested
 catalogueTested names =
     cond (tooManyNames names) (Refused Size)
     (cond (wholeNames names) (namesTested names) (Refused Length))
@@ -85,11 +85,11 @@ abbrev pub cleared : ℕ → List ℕ → List ℕ
 cleared n tab = replicate (n + n) 0 ++ drop (n + n) tab
 
 -- the same tests with a lent table, which is used where there are names to compare and it has two numbers for each
-abbrev pub namesOutcome : List ℕ → List ℕ → Outcome Checked
+abbrev pub namesOutcome : List ℕ → List ℕ → Outcome Tested
 namesOutcome names tab =
     outcome (catalogueTested names)
     (cond (not (tooManyNames names) && wholeNames names && leb (nameCount names + nameCount names) (length tab)) (cleared (nameCount names) tab) tab ∷ [])
 
--- no second answer and no second contents meet the contract of `names_checked_in`
-pub names-only : (names tab : List ℕ) (r q : Checked) (k l : List (List ℕ)) → outcome r k ≡ namesOutcome names tab → outcome q l ≡ namesOutcome names tab → (r ≡ q) × (k ≡ l)
+-- no second answer and no second contents meet the contract of `names_tested_in`
+pub names-only : (names tab : List ℕ) (r q : Tested) (k l : List (List ℕ)) → outcome r k ≡ namesOutcome names tab → outcome q l ≡ namesOutcome names tab → (r ≡ q) × (k ≡ l)
 names-only names tab r q k l = only r q k l (namesOutcome names tab)

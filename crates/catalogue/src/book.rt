@@ -1,6 +1,6 @@
 // A sequence book: all proteins' letters in a row, and the boundaries between them.
-use records::Checked;
 use records::Refusal;
+use records::Tested;
 ghost use mathlib.Core.Path.{_≡_};
 ghost use Prim.Native.Nat.{_<_};
 ghost use lib.ListN.{length};
@@ -84,26 +84,26 @@ fn first_bad_bound(bounds: &[u32], letters: usize) -> usize
 }
 
 // The tests of boundaries: 9 at the lowest bad one.
-pub fn bounds_checked(bounds: &[u32], letters: usize) -> Checked
+pub fn bounds_tested(bounds: &[u32], letters: usize) -> Tested
     ensures { λ r. ⌜ r ≡ boundsTested (now (bounds .entry)) letters ⌝ }
 {
     if bounds.len() == 0 {
-        return Checked::Refused(Refusal::Field(0));
+        return Tested::Refused(Refusal::Field(0));
     }
     let bad = first_bad_bound(bounds, letters);
     if bad < bounds.len() {
-        return Checked::Refused(Refusal::Field(bad));
+        return Tested::Refused(Refusal::Field(bad));
     }
-    Checked::Passed
+    Tested::Passed
 }
 
 // The test of a book's letters: 2 at the first byte that is not A to Z.
-pub fn letters_checked(letters: &[u8]) -> Checked
+pub fn letters_tested(letters: &[u8]) -> Tested
     ensures { λ r. ⌜ r ≡ lettersTested (now (letters .entry)) ⌝ }
 {
     let bad = letters::first_bad(letters);
     if bad < letters.len() {
-        return Checked::Refused(Refusal::Letter(bad));
+        return Tested::Refused(Refusal::Letter(bad));
     }
-    Checked::Passed
+    Tested::Passed
 }

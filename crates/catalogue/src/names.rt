@@ -2,15 +2,15 @@
 use crate::name::is_name;
 use crate::repeat::first_repeat;
 use crate::repeat::repeat_over;
-use records::Checked;
 use records::Refusal;
+use records::Tested;
 ghost use mathlib.Core.Path.{_≡_};
 ghost use mathlib.Core.List.{[], _∷_};
 ghost use Prim.Native.Nat.{_+_, _≤_, _<_};
 ghost use lib.ListN.{length};
 ghost use Rattle.records.specs.Outcome.{outcome};
 ghost use Rattle.records.specs.Search.{seek};
-ghost use Rattle.sorting_parts.specs.Text.{nameOf};
+ghost use Rattle.sorting_merge.specs.Text.{nameOf};
 ghost use Rattle.catalogue.specs.Names.{nameCount, tooManyNames, wholeNames, isName, badName, namesTested, catalogueTested, cleared, namesOutcome};
 ghost use Rattle.catalogue.specs.NameLaws.{lowerOf};
 
@@ -61,20 +61,20 @@ fn first_bad_name(names: &[u8]) -> usize
 }
 
 // What the first bad name and the first that repeats tell of n names: the lower of the two.
-fn told(bad: usize, again: usize, n: usize) -> Checked
+fn told(bad: usize, again: usize, n: usize) -> Tested
     ensures { λ r. ⌜ r ≡ lowerOf bad again n ⌝ }
 {
     if again < bad {
-        return Checked::Refused(Refusal::Repeat(again));
+        return Tested::Refused(Refusal::Repeat(again));
     }
     if bad < n {
-        return Checked::Refused(Refusal::Name(bad));
+        return Tested::Refused(Refusal::Name(bad));
     }
-    Checked::Passed
+    Tested::Passed
 }
 
 // The contents, with a table of the call's own.
-fn contents_checked(names: &[u8]) -> Checked
+fn contents_tested(names: &[u8]) -> Tested
     requires { ⌜ nameCount (now names) ≤ 65536 ⌝ }
     ensures { λ r. ⌜ r ≡ namesTested (now (names .entry)) ⌝ }
 {
@@ -84,7 +84,7 @@ fn contents_checked(names: &[u8]) -> Checked
 }
 
 // The same with a table that is lent.
-fn contents_over(names: &[u8], tab: &mut [u32]) -> Checked
+fn contents_over(names: &[u8], tab: &mut [u32]) -> Tested
     requires { ⌜ (nameCount (now names) ≤ 65536) × (nameCount (now names) + nameCount (now names) ≤ length (now tab)) ⌝ }
     ensures { λ r. ⌜ (r ≡ namesTested (now (names .entry))) × (now (tab .exit) ≡ cleared (nameCount (now (names .entry))) (now (tab .entry))) ⌝ }
 {
@@ -94,32 +94,32 @@ fn contents_over(names: &[u8], tab: &mut [u32]) -> Checked
 }
 
 // The tests of a catalogue: 1, 8, and 12 or 13 at the lowest place.
-pub fn names_checked(names: &[u8]) -> Checked
+pub fn names_tested(names: &[u8]) -> Tested
     ensures { λ r. ⌜ r ≡ catalogueTested (now (names .entry)) ⌝ }
 {
     if too_many_names(names) {
-        return Checked::Refused(Refusal::Size);
+        return Tested::Refused(Refusal::Size);
     }
     if are_whole_names(names) {
-        return contents_checked(names);
+        return contents_tested(names);
     }
-    Checked::Refused(Refusal::Length)
+    Tested::Refused(Refusal::Length)
 }
 
 // The same tests with a table that is lent, so that the call takes little stack: two numbers a name are used, and are zero at the
 // end. A table that is too short is not used.
-pub fn names_checked_in(names: &[u8], tab: &mut [u32]) -> Checked
+pub fn names_tested_in(names: &[u8], tab: &mut [u32]) -> Tested
     ensures { λ r. ⌜ outcome r (now (tab .exit) ∷ []) ≡ namesOutcome (now (names .entry)) (now (tab .entry)) ⌝ }
 {
     if too_many_names(names) {
-        return Checked::Refused(Refusal::Size);
+        return Tested::Refused(Refusal::Size);
     }
     if are_whole_names(names) {
         let n = names.len() / 64;
         if n + n <= tab.len() {
             return contents_over(names, tab);
         }
-        return contents_checked(names);
+        return contents_tested(names);
     }
-    Checked::Refused(Refusal::Length)
+    Tested::Refused(Refusal::Length)
 }

@@ -8,9 +8,9 @@ use Rattle.records.specs.Le.{le, numberAt}
 use Rattle.records.specs.Cases.{Case, Hold, counted, refused, numbers, told}
 use Rattle.records.specs.Room.{written}
 use Rattle.records.specs.Search.{seek}
-use Rattle.cover_rules.specs.Cover.{count, keep, markForced, coverMarked, stays, pass, passes, greatest, mark, choose, turn, turns, cover, listed, coverList}
-use Rattle.edges_parts.specs.Edges.{edgesTo, firstBadEdge, firstBadMark}
-use Rattle.cover_rules.specs.Update.{spread, touchedEdges, touched, update, updateList}
+use Rattle.cover_spec.specs.Cover.{count, keep, markForced, coverMarked, stays, pass, passes, greatest, mark, choose, turn, turns, cover, listed, coverList}
+use Rattle.cover_edges.specs.Edges.{edgesTo, firstBadEdge, firstBadMark}
+use Rattle.cover_spec.specs.Update.{spread, touchedEdges, touched, update, updateList}
 use Rattle.cover.specs.Covering.{coverOutcome}
 use Rattle.cover.specs.Updating.{updateOutcome}
 

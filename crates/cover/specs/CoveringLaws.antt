@@ -9,22 +9,22 @@ use lib.Dec.{eqb, ltb}
 use borrow.Author.Tests.{ltb-false}
 use Rattle.records.specs.declared.refusal.Refusal.{Refusal}
 use Rattle.records.specs.declared.refusal.Refusal.the-variants.{Size, Length, Field, Work, Room}
-use Rattle.records.specs.declared.refusal.Checked.{Checked}
-use Rattle.records.specs.declared.refusal.Checked.the-variants.{Passed, Refused}
+use Rattle.records.specs.declared.refusal.Tested.{Tested}
+use Rattle.records.specs.declared.refusal.Tested.the-variants.{Passed, Refused}
 use Rattle.records.specs.Tests.{neither}
 use Rattle.records.specs.declared.refusal.Counted.the-variants.{Count, Refused as No}
 use Rattle.records.specs.Outcome.{outcome}
-use Rattle.cover_rules.specs.Cover.{coverList, listed}
-use Rattle.cover_rules.specs.ListedLaws.{length-cover}
-use Rattle.cover_rules.specs.Marks.{workNeeded, handed}
-use Rattle.cover_rules.specs.MarkLaws.{handed-all, handed-short}
-use Rattle.edges_parts.specs.Edges.{edgesOf, firstBadEdge, InRange}
-use Rattle.edges_parts.specs.RangeLaws.{in-range}
-use Rattle.covering_parts.specs.Tables.{Fit}
+use Rattle.cover_spec.specs.Cover.{coverList, listed}
+use Rattle.cover_spec.specs.ListedLaws.{length-cover}
+use Rattle.cover_spec.specs.Marks.{workNeeded, handed}
+use Rattle.cover_spec.specs.MarkLaws.{handed-all, handed-short}
+use Rattle.cover_edges.specs.Edges.{edgesOf, firstBadEdge, InRange}
+use Rattle.cover_edges.specs.RangeLaws.{in-range}
+use Rattle.cover_walk.specs.Tables.{Fit}
 use Rattle.cover.specs.Covering.{tooLarge, coverTested, coverMarks}
 
 -- a test that refuses did not
-pub passed : (t : Bool) (why : Refusal) (rest : Checked) → cond t (Refused why) rest ≡ Passed → (t ≡ false) × (rest ≡ Passed)
+pub passed : (t : Bool) (why : Refusal) (rest : Tested) → cond t (Refused why) rest ≡ Passed → (t ≡ false) × (rest ≡ Passed)
 passed true why rest e = let z : _≡_ {A = ℕ} 0 1 = cc in absurd (omega arith)
 passed false why rest e = (refl, e)
 
@@ -49,9 +49,9 @@ small n groups metas h =
 pub ready : (bs : List ℕ) (groups metas words : ℕ) → coverTested bs groups metas words ≡ Passed → Ready bs groups metas words
 ready bs groups metas words e =
     let n : ℕ = length bs / 8 in
-    let t9 : Checked = cond (ltb (firstBadEdge bs groups metas n) n) (Refused (Field (firstBadEdge bs groups metas n))) Passed in
-    let t10 : Checked = cond (ltb words (workNeeded groups metas n)) (Refused Work) t9 in
-    let t8 : Checked = cond (not (eqb (length bs % 8) 0)) (Refused Length) t10 in
+    let t9 : Tested = cond (ltb (firstBadEdge bs groups metas n) n) (Refused (Field (firstBadEdge bs groups metas n))) Passed in
+    let t10 : Tested = cond (ltb words (workNeeded groups metas n)) (Refused Work) t9 in
+    let t8 : Tested = cond (not (eqb (length bs % 8) 0)) (Refused Length) t10 in
     let p1 = passed (tooLarge n groups metas) Size t8 e in
     let p8 = passed (not (eqb (length bs % 8) 0)) Length t10 (p1 .1) in
     let p10 = passed (ltb words (workNeeded groups metas n)) Work t9 (p8 .1) in

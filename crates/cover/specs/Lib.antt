@@ -1,4 +1,4 @@
--- What a reader has to believe: Covering and Updating, and below them Cover, Update and Marks of cover_rules and Edges of edges_parts.
+-- What a reader has to believe: Covering and Updating, and below them Cover, Update and Marks of cover_spec and Edges of cover_edges.
 -- Theorems says what the cover and the update achieve.
 pub mod Covering
 pub mod Updating

@@ -9,19 +9,19 @@ use lib.ListN.{length, getD, List·getD-eq-default}
 use lib.Dec.{eqb}
 use lib.Seq.{ext-getD}
 use borrow.Author.Tests.{eqb-true, ltb-true}
-use Rattle.records.specs.declared.refusal.Checked.the-variants.{Passed}
+use Rattle.records.specs.declared.refusal.Tested.the-variants.{Passed}
 use Rattle.records.specs.Tests.{below?, both}
-use Rattle.cover_rules.specs.Cover.{Edge, group, meta, bit, same, count, keep, ofMeta, cover, coverList}
-use Rattle.cover_rules.specs.Update.{touched}
-use Rattle.cover_rules.specs.CountLaws.{All, all-at, count-keep, count-determined, every, find, keep-same}
-use Rattle.cover_rules.specs.ChoiceLaws.{Under}
-use Rattle.cover_rules.specs.ListedLaws.{getD-listed, bit-is, length-cover}
-use Rattle.cover_rules.specs.LocalityLaws.{cover-local}
-use Rattle.cover_rules.specs.UpdateLaws.{update-list}
-use Rattle.cover_rules.specs.TouchedLaws.{Touched, touched-to, touched-of}
-use Rattle.cover_rules.specs.CoverLaws.{neighbour, Marking, cover-marking}
-use Rattle.edges_parts.specs.Edges.{edgesOf}
-use Rattle.edges_parts.specs.EdgeLaws.{edges-under}
+use Rattle.cover_spec.specs.Cover.{Edge, group, meta, bit, same, count, keep, ofMeta, cover, coverList}
+use Rattle.cover_spec.specs.Update.{touched}
+use Rattle.cover_spec.specs.CountLaws.{All, all-at, count-keep, count-determined, every, find, keep-same}
+use Rattle.cover_spec.specs.ChoiceLaws.{Under}
+use Rattle.cover_spec.specs.ListedLaws.{getD-listed, bit-is, length-cover}
+use Rattle.cover_spec.specs.LocalityLaws.{cover-local}
+use Rattle.cover_spec.specs.UpdateLaws.{update-list}
+use Rattle.cover_spec.specs.TouchedLaws.{Touched, touched-to, touched-of}
+use Rattle.cover_spec.specs.CoverLaws.{neighbour, Marking, cover-marking}
+use Rattle.cover_edges.specs.Edges.{edgesOf}
+use Rattle.cover_edges.specs.EdgeLaws.{edges-under}
 use Rattle.cover.specs.Covering.{coverTested, coverMarks}
 use Rattle.cover.specs.CoveringLaws.{ready}
 use Rattle.cover.specs.Updating.{updateTested, updateMarks}
@@ -49,7 +49,7 @@ module _ (bs : List ℕ) (groups metas words : ℕ) (p : coverTested bs groups m
       let r = both (eqb (meta e) m) (cover groups (edgesOf bs) (group e)) q in
       (e, eqb-true (meta e) m (r .0), i, mark-at (group e) (all-at (λ d. group d < groups) e (edgesOf bs) under i) ∙ ap bit (r .1))
 
-  -- the moment when it was marked is a record of cover_rules: where the run stood, and the meta-peptide that was not covered there
+  -- the moment when it was marked is a record of cover_spec: where the run stood, and the meta-peptide that was not covered there
   pub newly-covered : (g : ℕ) → getD (coverMarks bs groups) g 0 ≡ 1 → Marking groups (edgesOf bs) g
   newly-covered g h = ⊎-elim inside outside (below? g groups)
     where
@@ -84,23 +84,23 @@ module _ (bs₁ bs₂ : List ℕ) (groups metas words words′ : ℕ) (p : cover
 -- ---- the update
 
 module _ (old new : List ℕ) (groups metas : ℕ) (given : List ℕ) (words : ℕ) (p : updateTested old new groups metas given words ≡ Passed) where
-  checked : UpdateReady old new groups metas given words
-  checked = update-ready old new groups metas given words p
+  tested : UpdateReady old new groups metas given words
+  tested = update-ready old new groups metas given words p
 
   -- if the old marks were the cover of the old edges, the whole answer is the cover of the new ones
   pub update-covers : given ≡ coverMarks old groups → updateMarks old new groups given ≡ coverMarks new groups
   update-covers e =
       ap (updateMarks old new groups) e
-      ∙ update-list groups (edgesOf old) (edgesOf new) (edges-under old (length old / 8) groups metas (checked .old-inside)) (edges-under new (length new / 8) groups metas (checked .of-new .inside))
+      ∙ update-list groups (edgesOf old) (edgesOf new) (edges-under old (length old / 8) groups metas (tested .old-inside)) (edges-under new (length new / 8) groups metas (tested .of-new .inside))
 
   -- a group is touched if it is connected, in both lists joined, to an edge that stands a different number of times in the two; then
   -- its mark is the cover's
   pub touched-made : (g : ℕ) → g < groups → Touched (edgesOf old) (edgesOf new) g → getD (updateMarks old new groups given) g 0 ≡ getD (coverMarks new groups) g 0
-  touched-made g l t = mark-of old new groups metas given words checked g l ∙ rw (touched-of (edgesOf old) (edgesOf new) g t)
+  touched-made g l t = mark-of old new groups metas given words tested g l ∙ rw (touched-of (edgesOf old) (edgesOf new) g t)
 
   -- every other group keeps the mark given
   pub untouched-kept : (g : ℕ) → g < groups → (Touched (edgesOf old) (edgesOf new) g → ⊥) → getD (updateMarks old new groups given) g 0 ≡ getD given g 0
-  untouched-kept g l u = mark-of old new groups metas given words checked g l ∙ go (touched (edgesOf old) (edgesOf new) g) refl
+  untouched-kept g l u = mark-of old new groups metas given words tested g l ∙ go (touched (edgesOf old) (edgesOf new) g) refl
     where
       go : (b : Bool) → touched (edgesOf old) (edgesOf new) g ≡ b → cond b (getD (coverMarks new groups) g 0) (getD given g 0) ≡ getD given g 0
       go true e = absurd (u (touched-to (edgesOf old) (edgesOf new) g e))

@@ -6,14 +6,14 @@ use mathlib.Core.List.{List, [], _∷_}
 use lib.ListN.{length}
 use lib.Dec.{eqb, ltb}
 use Rattle.records.specs.declared.refusal.Refusal.the-variants.{Size, Length, Field, Work}
-use Rattle.records.specs.declared.refusal.Checked.{Checked}
-use Rattle.records.specs.declared.refusal.Checked.the-variants.{Passed, Refused}
+use Rattle.records.specs.declared.refusal.Tested.{Tested}
+use Rattle.records.specs.declared.refusal.Tested.the-variants.{Passed, Refused}
 use Rattle.records.specs.declared.refusal.Counted.{Counted}
 use Rattle.records.specs.declared.refusal.Counted.the-variants.{Refused as No}
 use Rattle.records.specs.Outcome.{Outcome, outcome, unlessRefused, only}
-use Rattle.cover_rules.specs.Marks.{workNeeded, handed}
-use Rattle.cover_rules.specs.Update.{updateList}
-use Rattle.edges_parts.specs.Edges.{edgesOf, firstBadEdge, firstBadMark}
+use Rattle.cover_spec.specs.Marks.{workNeeded, handed}
+use Rattle.cover_spec.specs.Update.{updateList}
+use Rattle.cover_edges.specs.Edges.{edgesOf, firstBadEdge, firstBadMark}
 use Rattle.cover.specs.Covering.{tooLarge}
 
 -- 1: the limits of the cover, for either list of edges
@@ -25,14 +25,14 @@ abbrev pub lengthsWrong : List ℕ → List ℕ → ℕ → List ℕ → Bool
 lengthsWrong old new groups given = not (eqb (length old % 8) 0) || not (eqb (length new % 8) 0) || not (eqb (length given) groups)
 
 -- 9, list by list: at the first bad edge of the old ones, of the new ones, at the first bad mark
-abbrev pub contentsTested : List ℕ → List ℕ → ℕ → ℕ → List ℕ → Checked
+abbrev pub contentsTested : List ℕ → List ℕ → ℕ → ℕ → List ℕ → Tested
 contentsTested old new groups metas given =
     cond (ltb (firstBadEdge old groups metas (length old / 8)) (length old / 8)) (Refused (Field (firstBadEdge old groups metas (length old / 8))))
     (cond (ltb (firstBadEdge new groups metas (length new / 8)) (length new / 8)) (Refused (Field (firstBadEdge new groups metas (length new / 8))))
     (cond (ltb (firstBadMark given) (length given)) (Refused (Field (firstBadMark given))) Passed))
 
 -- 1, then 8, then 10 for the old and new edges together, then 9
-abbrev pub updateTested : List ℕ → List ℕ → ℕ → ℕ → List ℕ → ℕ → Checked
+abbrev pub updateTested : List ℕ → List ℕ → ℕ → ℕ → List ℕ → ℕ → Tested
 updateTested old new groups metas given words =
     cond (eitherTooLarge (length old / 8) (length new / 8) groups metas) (Refused Size)
     (cond (lengthsWrong old new groups given) (Refused Length)

@@ -11,8 +11,8 @@ use lib.Seq.{sets, length-sets, ext-getD, getD-set-same}
 use lib.Dec.{eqb, ltb}
 use borrow.Author.Tests.{ltb-false, eqb-true, eqb-false}
 use Rattle.records.specs.declared.refusal.Refusal.the-variants.{Size, Length, Field, Work, Room}
-use Rattle.records.specs.declared.refusal.Checked.{Checked}
-use Rattle.records.specs.declared.refusal.Checked.the-variants.{Passed, Refused}
+use Rattle.records.specs.declared.refusal.Tested.{Tested}
+use Rattle.records.specs.declared.refusal.Tested.the-variants.{Passed, Refused}
 use Rattle.records.specs.declared.refusal.Counted.{Counted}
 use Rattle.records.specs.declared.refusal.Counted.the-variants.{Count, Refused as No}
 use Rattle.records.specs.LeLaws.{getD-sets-other}
@@ -20,13 +20,13 @@ use Rattle.records.specs.Outcome.{Outcome, outcome}
 use Rattle.records.specs.Room.{fits, fitted, bytewise}
 use Rattle.records.specs.RoomLaws.{stored-text, fits-text}
 use Rattle.records.specs.Tests.{below?, neither, truth?}
-use Rattle.cover_rules.specs.Cover.{bit, coverList}
-use Rattle.cover_rules.specs.ListedLaws.{length-listed, getD-listed, length-cover}
-use Rattle.cover_rules.specs.Marks.{workNeeded, handed}
-use Rattle.cover_rules.specs.Update.{touched, update, updateList}
-use Rattle.edges_parts.specs.Edges.{edgesOf, firstBadEdge, firstBadMark, InRange}
-use Rattle.edges_parts.specs.RangeLaws.{in-range, all-bits}
-use Rattle.touching_parts.specs.Touching.{Sized, Mixed}
+use Rattle.cover_spec.specs.Cover.{bit, coverList}
+use Rattle.cover_spec.specs.ListedLaws.{length-listed, getD-listed, length-cover}
+use Rattle.cover_spec.specs.Marks.{workNeeded, handed}
+use Rattle.cover_spec.specs.Update.{touched, update, updateList}
+use Rattle.cover_edges.specs.Edges.{edgesOf, firstBadEdge, firstBadMark, InRange}
+use Rattle.cover_edges.specs.RangeLaws.{in-range, all-bits}
+use Rattle.cover_touched.specs.Touching.{Sized, Mixed}
 use Rattle.cover.specs.Covering.{tooLarge, coverMarks}
 use Rattle.cover.specs.CoveringLaws.{passed, Ready, Small, small}
 use Rattle.cover.specs.Updating.{eitherTooLarge, lengthsWrong, updateTested, updateMarks}
@@ -53,11 +53,11 @@ pub update-ready : (old new : List ℕ) (groups metas : ℕ) (given : List ℕ) 
 update-ready old new groups metas given words e =
     let on : ℕ = length old / 8 in
     let nn : ℕ = length new / 8 in
-    let tm : Checked = cond (ltb (firstBadMark given) (length given)) (Refused (Field (firstBadMark given))) Passed in
-    let tn : Checked = cond (ltb (firstBadEdge new groups metas nn) nn) (Refused (Field (firstBadEdge new groups metas nn))) tm in
-    let to : Checked = cond (ltb (firstBadEdge old groups metas on) on) (Refused (Field (firstBadEdge old groups metas on))) tn in
-    let t10 : Checked = cond (ltb words (workNeeded groups metas (on + nn))) (Refused Work) to in
-    let t8 : Checked = cond (lengthsWrong old new groups given) (Refused Length) t10 in
+    let tm : Tested = cond (ltb (firstBadMark given) (length given)) (Refused (Field (firstBadMark given))) Passed in
+    let tn : Tested = cond (ltb (firstBadEdge new groups metas nn) nn) (Refused (Field (firstBadEdge new groups metas nn))) tm in
+    let to : Tested = cond (ltb (firstBadEdge old groups metas on) on) (Refused (Field (firstBadEdge old groups metas on))) tn in
+    let t10 : Tested = cond (ltb words (workNeeded groups metas (on + nn))) (Refused Work) to in
+    let t8 : Tested = cond (lengthsWrong old new groups given) (Refused Length) t10 in
     let p1 = passed (eitherTooLarge on nn groups metas) Size t8 e in
     let p8 = passed (lengthsWrong old new groups given) Length t10 (p1 .1) in
     let p10 = passed (ltb words (workNeeded groups metas (on + nn))) Work to (p8 .1) in

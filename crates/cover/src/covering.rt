@@ -1,16 +1,16 @@
 // The cover as a call.
-use crate::checks::checked;
 use crate::handing::cover_all;
 use crate::handing::cover_short;
-use records::Checked;
+use crate::tests::tested;
 use records::Counted;
 use records::Refusal;
+use records::Tested;
 use records::clear;
 ghost use mathlib.Core.Path.{_≡_};
 ghost use mathlib.Core.List.{[], _∷_};
 ghost use lib.ListN.{length};
 ghost use Rattle.records.specs.Outcome.{outcome};
-ghost use Rattle.cover_rules.specs.Marks.{handed};
+ghost use Rattle.cover_spec.specs.Marks.{handed};
 ghost use Rattle.cover.specs.Covering.{coverMarks, coverOutcome};
 ghost use Rattle.cover.specs.CoveringLaws.{Ready};
 
@@ -45,9 +45,9 @@ pub fn cover(edges: &[u8], groups: u32, metas: u32, work: &mut [u32], marks: &mu
 {
     let left = groups as usize;
     let right = metas as usize;
-    let found = checked(edges, left, right, work.len());
+    let found = tested(edges, left, right, work.len());
     match found {
-        Checked::Refused(why) => Counted::Refused(why),
-        Checked::Passed => cover_passed(edges, left, right, work, marks),
+        Tested::Refused(why) => Counted::Refused(why),
+        Tested::Passed => cover_passed(edges, left, right, work, marks),
     }
 }

@@ -1,12 +1,12 @@
 // The marks of the cover, as many as there is room for.
-use covering_parts::cover_into;
+use cover_walk::cover_into;
 ghost use mathlib.Core.Path.{_≡_};
 ghost use mathlib.Core.List.{_++_};
 ghost use Prim.Native.Nat.{_≤_, _<_};
 ghost use lib.ListN.{length, take, drop, replicate};
-ghost use Rattle.cover_rules.specs.Cover.{coverList};
-ghost use Rattle.edges_parts.specs.Edges.{edgesTo};
-ghost use Rattle.covering_parts.specs.Tables.{Fit};
+ghost use Rattle.cover_spec.specs.Cover.{coverList};
+ghost use Rattle.cover_edges.specs.Edges.{edgesTo};
+ghost use Rattle.cover_walk.specs.Tables.{Fit};
 
 // The first marks, as many as fit.
 fn copy(from: &[u8], to: &mut [u8])

@@ -1,9 +1,9 @@
 // The cover of groups: a mark for each group, such that every meta-peptide with an edge has a marked one. And its update, which leaves
 // the marks of parts alone in which no edge differs.
-mod checks;
 mod covering;
 mod handing;
-mod update_checks;
+mod tests;
+mod update_tests;
 mod updating;
 
 pub use covering::cover;

@@ -1,18 +1,18 @@
 // The update as a call.
 use crate::covering::cover_passed;
-use crate::update_checks::update_checked;
-use records::Checked;
+use crate::update_tests::update_tested;
+use cover_touched::renew;
 use records::Counted;
+use records::Tested;
 use records::clear;
-use touching_parts::renew;
 ghost use mathlib.Core.Path.{_≡_};
 ghost use mathlib.Core.List.{[], _∷_};
 ghost use Prim.Native.Nat.{min};
 ghost use lib.ListN.{length, replicate};
 ghost use Rattle.records.specs.Outcome.{outcome};
-ghost use Rattle.cover_rules.specs.Marks.{handed};
-ghost use Rattle.edges_parts.specs.Edges.{edgesOf};
-ghost use Rattle.touching_parts.specs.Touching.{Mixed};
+ghost use Rattle.cover_spec.specs.Marks.{handed};
+ghost use Rattle.cover_edges.specs.Edges.{edgesOf};
+ghost use Rattle.cover_touched.specs.Touching.{Mixed};
 ghost use Rattle.cover.specs.Updating.{updateMarks, updateOutcome};
 ghost use Rattle.cover.specs.UpdatingLaws.{UpdateReady};
 
@@ -79,9 +79,9 @@ pub fn update(
 {
     let left = groups as usize;
     let right = metas as usize;
-    let found = update_checked(old, new, left, right, given, work.len());
+    let found = update_tested(old, new, left, right, given, work.len());
     match found {
-        Checked::Refused(why) => Counted::Refused(why),
-        Checked::Passed => update_passed(old, new, left, right, given, work, marks),
+        Tested::Refused(why) => Counted::Refused(why),
+        Tested::Passed => update_passed(old, new, left, right, given, work, marks),
     }
 }

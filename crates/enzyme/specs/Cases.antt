@@ -6,8 +6,8 @@ use mathlib.Core.Bool.{Bool, true, false}
 use mathlib.Core.List.{List, [], _∷_, _++_, flatten}
 use lib.ListN.{replicate}
 use Rattle.records.specs.Refusals.{numberOf, placeOf}
-use Rattle.records.specs.declared.refusal.Checked.{Checked}
-use Rattle.records.specs.declared.refusal.Checked.the-variants.{Passed, Refused as RefusedBy}
+use Rattle.records.specs.declared.refusal.Tested.{Tested}
+use Rattle.records.specs.declared.refusal.Tested.the-variants.{Passed, Refused as RefusedBy}
 use Rattle.records.specs.Le.{le, numberAt}
 use Rattle.records.specs.Outcome.{Outcome}
 use Rattle.records.specs.Cases.{Case, Hold, counted, refused, numbers, told}
@@ -15,12 +15,12 @@ use Rattle.records.specs.Room.{written}
 use Rattle.records.specs.Search.{seek}
 use Rattle.letters.specs.declared.letter_set.LetterSet.{LetterSet}
 use Rattle.letters.specs.Letters.{isLetter, bit, has, proper, subset, firstBad}
-use Rattle.cutting_parts.specs.declared.enzyme.Side.{Side}
-use Rattle.cutting_parts.specs.declared.enzyme.Side.the-variants.{C, N}
-use Rattle.cutting_parts.specs.declared.enzyme.Kind.{Kind}
-use Rattle.cutting_parts.specs.declared.enzyme.Kind.the-variants.{None, End, Set}
-use Rattle.cutting_parts.specs.declared.enzyme.Enzyme.{Enzyme}
-use Rattle.offering_parts.specs.Digests.{positionOf, recordOf}
+use Rattle.enzyme_cuts.specs.declared.kinds.Side.{Side}
+use Rattle.enzyme_cuts.specs.declared.kinds.Side.the-variants.{C, N}
+use Rattle.enzyme_cuts.specs.declared.kinds.Kind.{Kind}
+use Rattle.enzyme_cuts.specs.declared.kinds.Kind.the-variants.{None, End, Set}
+use Rattle.enzyme_cuts.specs.declared.kinds.Enzyme.{Enzyme}
+use Rattle.enzyme_keep.specs.Digests.{positionOf, recordOf}
 use Rattle.enzyme.specs.declared.settings.Settings.{Settings}
 use Rattle.enzyme.specs.Digestion.{digestOutcome}
 use Rattle.enzyme.specs.Reversal.{reverseOutcome, reverseRecordOutcome, lettersOutcome}
@@ -88,18 +88,18 @@ digestCases =
 passed : List ℕ
 passed = 0 ∷ 0 ∷ []
 
-toldChecked : Outcome Checked → List (List ℕ)
-toldChecked o = go (o .answer) ∷ o .lent
+toldTested : Outcome Tested → List (List ℕ)
+toldTested o = go (o .answer) ∷ o .lent
   where
-    go : Checked → List ℕ
+    go : Tested → List ℕ
     go Passed = passed
     go (RefusedBy why) = refused (numberOf why) (placeOf why)
 
 reversing : List ℕ → List ℕ → List ℕ → Case
-reversing letters answer after = record { got = toldChecked (reverseOutcome letters); want = answer ∷ after ∷ [] }
+reversing letters answer after = record { got = toldTested (reverseOutcome letters); want = answer ∷ after ∷ [] }
 
 marking : List ℕ → List ℕ → List ℕ → Case
-marking bytes answer after = record { got = toldChecked (reverseRecordOutcome bytes); want = answer ∷ after ∷ [] }
+marking bytes answer after = record { got = toldTested (reverseRecordOutcome bytes); want = answer ∷ after ∷ [] }
 
 spelling : List ℕ → List ℕ → ℕ → List ℕ → List ℕ → Case
 spelling letters bytes room answer after = record { got = told (lettersOutcome letters bytes (replicate room 170)); want = answer ∷ after ∷ [] }
@@ -133,5 +133,5 @@ pub table : List Case
 table = digestCases ++ reversalCases
 
 pub cases : Hold table
-unfolding isLetter bit has proper subset firstBad seek numberAt positionOf recordOf flatten written passed toldChecked set enzyme settings row digesting digestCases reversing marking spelling reversalCases table
+unfolding isLetter bit has proper subset firstBad seek numberAt positionOf recordOf flatten written passed toldTested set enzyme settings row digesting digestCases reversing marking spelling reversalCases table
 cases = refl

@@ -6,17 +6,17 @@ use mathlib.Core.List.{List, [], _∷_, map}
 use lib.ListN.{length}
 use lib.Dec.{ltb}
 use Rattle.records.specs.declared.refusal.Refusal.the-variants.{Size, Letter, Alphabet, Room}
-use Rattle.records.specs.declared.refusal.Checked.{Checked}
-use Rattle.records.specs.declared.refusal.Checked.the-variants.{Passed, Refused}
+use Rattle.records.specs.declared.refusal.Tested.{Tested}
+use Rattle.records.specs.declared.refusal.Tested.the-variants.{Passed, Refused}
 use Rattle.records.specs.Outcome.{Outcome, outcome, unlessRefused, only}
 use Rattle.records.specs.Room.{fits, fitted}
 use Rattle.letters.specs.declared.letter_set.LetterSet.{LetterSet}
 use Rattle.letters.specs.Letters.{empty, proper, subset, firstBad}
-use Rattle.cutting_parts.specs.declared.enzyme.Kind.{Kind}
-use Rattle.cutting_parts.specs.declared.enzyme.Kind.the-variants.{None, End, Set}
-use Rattle.cutting_parts.specs.declared.enzyme.Enzyme.{Enzyme}
-use Rattle.cutting_parts.specs.Cutting.{digests}
-use Rattle.offering_parts.specs.Digests.{recordOf}
+use Rattle.enzyme_cuts.specs.declared.kinds.Kind.{Kind}
+use Rattle.enzyme_cuts.specs.declared.kinds.Kind.the-variants.{None, End, Set}
+use Rattle.enzyme_cuts.specs.declared.kinds.Enzyme.{Enzyme}
+use Rattle.enzyme_cuts.specs.Cutting.{digests}
+use Rattle.enzyme_keep.specs.Digests.{recordOf}
 use Rattle.enzyme.specs.declared.settings.Settings.{Settings}
 use Rattle.records.specs.declared.refusal.Counted.{Counted}
 use Rattle.records.specs.declared.refusal.Counted.the-variants.{Count, Refused as No}
@@ -40,7 +40,7 @@ abbrev pub badSets : Enzyme → LetterSet → Bool
 badSets e alphabet = not (proper alphabet && inAlphabet (cleaveOf (e .kind)) alphabet && inAlphabet (e .skip) alphabet)
 
 -- 1, then 3, then 2 at the first byte that is not A to Z
-abbrev pub tested : List ℕ → LetterSet → Enzyme → Settings → Checked
+abbrev pub tested : List ℕ → LetterSet → Enzyme → Settings → Tested
 tested s alphabet e st =
     cond (tooLarge s st) (Refused Size)
     (cond (badSets e alphabet) (Refused Alphabet)

@@ -7,13 +7,13 @@ use mathlib.Core.List.{List, [], _∷_}
 use lib.ListN.{length, take, drop, getD, set}
 use lib.Dec.{ltb, leb, eqb}
 use Rattle.records.specs.declared.refusal.Refusal.the-variants.{Size, Letter, Length, Field, Room}
-use Rattle.records.specs.declared.refusal.Checked.{Checked}
-use Rattle.records.specs.declared.refusal.Checked.the-variants.{Passed, Refused}
+use Rattle.records.specs.declared.refusal.Tested.{Tested}
+use Rattle.records.specs.declared.refusal.Tested.the-variants.{Passed, Refused}
 use Rattle.records.specs.Le.{numberAt}
 use Rattle.records.specs.Outcome.{Outcome, outcome, unlessRefused, only}
 use Rattle.records.specs.Room.{fits, fitted, bytewise}
 use Rattle.letters.specs.Letters.{firstBad}
-use Rattle.offering_parts.specs.Digests.{goodRecord}
+use Rattle.enzyme_keep.specs.Digests.{goodRecord}
 use Rattle.letters.specs.Reversal.{reversed, lettersOf}
 use Rattle.records.specs.declared.refusal.Counted.{Counted}
 use Rattle.records.specs.declared.refusal.Counted.the-variants.{Count, Refused as No}
@@ -21,22 +21,22 @@ use Rattle.records.specs.declared.refusal.Counted.the-variants.{Count, Refused 
 -- ---- of letters
 
 -- 1: no letters, or more than a protein's 65,536; then 2 at the first byte that is not A to Z
-abbrev pub stretchTested : List ℕ → Checked
+abbrev pub stretchTested : List ℕ → Tested
 stretchTested s =
     cond (eqb (length s) 0 || ltb 65536 (length s)) (Refused Size)
     (cond (ltb (firstBad s) (length s)) (Refused (Letter (firstBad s))) Passed)
 
-abbrev pub reverseOutcome : List ℕ → Outcome Checked
+abbrev pub reverseOutcome : List ℕ → Outcome Tested
 reverseOutcome s = unlessRefused (stretchTested s) Refused (s ∷ []) (outcome Passed (reversed s ∷ []))
 
 -- ---- of a record
 
 -- 8: not the 16 bytes of one record; then 9
-abbrev pub recordTested : List ℕ → Checked
+abbrev pub recordTested : List ℕ → Tested
 recordTested r = cond (eqb (length r) 16) (cond (goodRecord r) Passed (Refused (Field 0))) (Refused Length)
 
 -- decoy, the byte at 11, is 1: a decoy stays as it was
-abbrev pub reverseRecordOutcome : List ℕ → Outcome Checked
+abbrev pub reverseRecordOutcome : List ℕ → Outcome Tested
 reverseRecordOutcome r = unlessRefused (recordTested r) Refused (r ∷ []) (outcome Passed (set r 11 1 ∷ []))
 
 -- ---- the letters of a record
@@ -48,7 +48,7 @@ abbrev pub recordLetters : List ℕ → List ℕ → List ℕ
 recordLetters s r = lettersOf (eqb (getD r 11 0) 1) (rangeLetters s (numberAt 4 r 0) (numberAt 4 r 4))
 
 -- 1: more than a protein's letters; 8; 2; and 9 also where the end is not within this protein
-abbrev pub spellingTested : List ℕ → List ℕ → Checked
+abbrev pub spellingTested : List ℕ → List ℕ → Tested
 spellingTested s r =
     cond (ltb 65536 (length s)) (Refused Size)
     (cond (eqb (length r) 16)
@@ -65,10 +65,10 @@ lettersOutcome s r old = unlessRefused (spellingTested s r) No (old ∷ []) (spe
 
 -- ---- no second answer and no second contents meet the contracts
 
-pub reverse-only : (s : List ℕ) (r q : Checked) (k l : List ℕ) → outcome r (k ∷ []) ≡ reverseOutcome s → outcome q (l ∷ []) ≡ reverseOutcome s → (r ≡ q) × (k ∷ [] ≡ l ∷ [])
+pub reverse-only : (s : List ℕ) (r q : Tested) (k l : List ℕ) → outcome r (k ∷ []) ≡ reverseOutcome s → outcome q (l ∷ []) ≡ reverseOutcome s → (r ≡ q) × (k ∷ [] ≡ l ∷ [])
 reverse-only s r q k l = only r q (k ∷ []) (l ∷ []) (reverseOutcome s)
 
-pub reverse-record-only : (b : List ℕ) (r q : Checked) (k l : List ℕ) → outcome r (k ∷ []) ≡ reverseRecordOutcome b → outcome q (l ∷ []) ≡ reverseRecordOutcome b → (r ≡ q) × (k ∷ [] ≡ l ∷ [])
+pub reverse-record-only : (b : List ℕ) (r q : Tested) (k l : List ℕ) → outcome r (k ∷ []) ≡ reverseRecordOutcome b → outcome q (l ∷ []) ≡ reverseRecordOutcome b → (r ≡ q) × (k ∷ [] ≡ l ∷ [])
 reverse-record-only b r q k l = only r q (k ∷ []) (l ∷ []) (reverseRecordOutcome b)
 
 pub letters-only : (s b old : List ℕ) (r q : Counted) (k l : List ℕ) → outcome r (k ∷ []) ≡ lettersOutcome s b old → outcome q (l ∷ []) ≡ lettersOutcome s b old → (r ≡ q) × (k ∷ [] ≡ l ∷ [])

@@ -10,8 +10,8 @@ use lib.Seq.{getD-set-same, getD-set-other, ext-getD}
 use lib.Dec.{ltb, eqb}
 use borrow.Author.Tests.{eqb-false}
 use Rattle.records.specs.declared.refusal.Refusal.the-variants.{Size}
-use Rattle.records.specs.declared.refusal.Checked.{Checked}
-use Rattle.records.specs.declared.refusal.Checked.the-variants.{Passed, Refused}
+use Rattle.records.specs.declared.refusal.Tested.{Tested}
+use Rattle.records.specs.declared.refusal.Tested.the-variants.{Passed, Refused}
 use Rattle.records.specs.Tests.{below?, same?}
 use Rattle.letters.specs.Reversal.{reversed}
 use Rattle.letters.specs.ReversalLaws.{length-reversed, reversed-first, reversed-last, reversed-inner}
@@ -91,6 +91,6 @@ flipped-end s i j out f h = ext-getD 0 out (reversed s) (f .same-length ∙ sym 
 pub stretch-passed : (s : List ℕ) → stretchTested s ≡ Passed → 0 < length s
 stretch-passed s e = go (eqb (length s) 0) (ltb 65536 (length s)) _ refl e
   where
-    go : (a b : Bool) (rest : Checked) → eqb (length s) 0 ≡ a → cond (a || b) (Refused Size) rest ≡ Passed → 0 < length s
+    go : (a b : Bool) (rest : Tested) → eqb (length s) 0 ≡ a → cond (a || b) (Refused Size) rest ≡ Passed → 0 < length s
     go true b rest f e = let z : _≡_ {A = ℕ} 0 1 = cc in absurd (omega arith)
     go false b rest f e = ⊎-elim (λ (h : 0 < length s). h) (λ (h : length s ≤ 0). absurd (eqb-false (length s) 0 f (omega arith))) (below? 0 (length s))

@@ -14,17 +14,17 @@ use Rattle.records.specs.declared.refusal.Refusal.the-variants.{Room}
 use Rattle.records.specs.Outcome.{Outcome, outcome}
 use Rattle.records.specs.Room.{written}
 use Rattle.records.specs.RoomLaws.{Sized, Standing, written-none, written-more, standing-length, standing-done, standing-full}
-use Rattle.cutting_parts.specs.declared.enzyme.Enzyme.{Enzyme}
-use Rattle.cutting_parts.specs.Cutting.{Range, keep, wanted, digests}
-use Rattle.cutting_parts.specs.Work.{Inside}
-use Rattle.cutting_parts.specs.InsideLaws.{inside-append}
-use Rattle.offering_parts.specs.declared.offering.Step.{Step}
-use Rattle.offering_parts.specs.declared.offering.Step.the-variants.{Kept, Full}
-use Rattle.offering_parts.specs.declared.offering.Terms.{Terms}
-use Rattle.offering_parts.specs.Digests.{recordOf}
-use Rattle.offering_parts.specs.Buffer.{rangesIn}
-use Rattle.offering_parts.specs.BufferLaws.{length-record, ranges-more}
-use Rattle.offering_parts.specs.Steps.{room, After, after, decided, offered, andThen, offers}
+use Rattle.enzyme_cuts.specs.declared.kinds.Enzyme.{Enzyme}
+use Rattle.enzyme_cuts.specs.Cutting.{Range, keep, wanted, digests}
+use Rattle.enzyme_cuts.specs.Work.{Inside}
+use Rattle.enzyme_cuts.specs.InsideLaws.{inside-append}
+use Rattle.enzyme_keep.specs.declared.offering.Step.{Step}
+use Rattle.enzyme_keep.specs.declared.offering.Step.the-variants.{Kept, Full}
+use Rattle.enzyme_keep.specs.declared.offering.Terms.{Terms}
+use Rattle.enzyme_keep.specs.Digests.{recordOf}
+use Rattle.enzyme_keep.specs.Buffer.{rangesIn}
+use Rattle.enzyme_keep.specs.BufferLaws.{length-record, ranges-more}
+use Rattle.enzyme_keep.specs.Steps.{room, After, after, decided, offered, andThen, offers}
 use Rattle.enzyme_ways.specs.Ways.{way}
 use Rattle.enzyme_ways.specs.WayLaws.{way-keeps, way-inside}
 use Rattle.records.specs.declared.refusal.Counted.{Counted}

@@ -11,7 +11,7 @@ use lib.Seq.{drop-cons}
 use lib.Dec.{ltb, leb, eqb}
 use borrow.Author.Tests.{ltb-true, ltb-false, leb-true}
 use Rattle.records.specs.declared.refusal.Refusal.the-variants.{Size, Letter, Length, Field, Room}
-use Rattle.records.specs.declared.refusal.Checked.the-variants.{Passed, Refused as RefusedBy}
+use Rattle.records.specs.declared.refusal.Tested.the-variants.{Passed, Refused as RefusedBy}
 use Rattle.records.specs.Le.{numberAt}
 use Rattle.records.specs.Outcome.{outcome}
 use Rattle.records.specs.Room.{roomOf, bytewise}
@@ -19,7 +19,7 @@ use Rattle.records.specs.RoomLaws.{Sized, Standing, standing-none, standing-mor
 use Rattle.records.specs.Tests.{both}
 use Rattle.letters.specs.Letters.{firstBad}
 use Rattle.records.specs.declared.refusal.Counted.the-variants.{Count, Refused}
-use Rattle.offering_parts.specs.Digests.{goodRecord}
+use Rattle.enzyme_keep.specs.Digests.{goodRecord}
 use Rattle.enzyme.specs.Reversal.{spellingTested, spelled}
 
 -- ---- the letters written one after the other

@@ -1,13 +1,13 @@
 // The digests of a protein, as records of a lent buffer.
-use crate::checks::checked;
 use crate::settings::Settings;
-use cutting_parts::Enzyme;
+use crate::tests::tested;
+use enzyme_cuts::Enzyme;
+use enzyme_keep::Step;
+use enzyme_keep::Terms;
 use letters::LetterSet;
-use offering_parts::Step;
-use offering_parts::Terms;
-use records::Checked;
 use records::Counted;
 use records::Refusal;
+use records::Tested;
 ghost use mathlib.Core.Path.{_≡_};
 ghost use mathlib.Core.List.{[], _∷_};
 ghost use Prim.Native.Nat.{_≤_};
@@ -44,10 +44,10 @@ pub fn digest(
 ) -> Counted
     ensures { λ r. ⌜ outcome r (now (out .exit) ∷ []) ≡ digestOutcome (now (letters .entry)) alphabet enzyme settings protein (now (out .entry)) ⌝ }
 {
-    let found = checked(letters, alphabet, enzyme, settings);
+    let found = tested(letters, alphabet, enzyme, settings);
     match found {
-        Checked::Refused(why) => Counted::Refused(why),
-        Checked::Passed => {
+        Tested::Refused(why) => Counted::Refused(why),
+        Tested::Passed => {
             let terms = Terms {
                 minimum: settings.minimum,
                 maximum: settings.maximum,

@@ -1,7 +1,7 @@
 // Reversal of letters and of a digest record.
-use offering_parts::is_good;
-use records::Checked;
+use enzyme_keep::is_good;
 use records::Refusal;
+use records::Tested;
 ghost use mathlib.Core.Path.{_≡_};
 ghost use mathlib.Core.List.{[], _∷_};
 ghost use Prim.Native.Nat.{_<_};
@@ -28,57 +28,57 @@ fn flip(letters: &mut [u8])
     }
 }
 
-fn stretch_checked(letters: &[u8]) -> Checked
+fn stretch_tested(letters: &[u8]) -> Tested
     ensures { λ r. ⌜ r ≡ stretchTested (now (letters .entry)) ⌝ }
 {
     let n = letters.len();
     if (n == 0) | (65536 < n) {
-        return Checked::Refused(Refusal::Size);
+        return Tested::Refused(Refusal::Size);
     }
     let bad = letters::first_bad(letters);
     if bad < n {
-        return Checked::Refused(Refusal::Letter(bad));
+        return Tested::Refused(Refusal::Letter(bad));
     }
-    Checked::Passed
+    Tested::Passed
 }
 
 // Reverses all letters of a digest but the first and the last.
-pub fn reverse_letters(letters: &mut [u8]) -> Checked
+pub fn reverse_letters(letters: &mut [u8]) -> Tested
     ensures { λ r. ⌜ outcome r (now (letters .exit) ∷ []) ≡ reverseOutcome (now (letters .entry)) ⌝ }
 {
-    let found = stretch_checked(letters);
+    let found = stretch_tested(letters);
     match found {
-        Checked::Refused(why) => Checked::Refused(why),
-        Checked::Passed => {
+        Tested::Refused(why) => Tested::Refused(why),
+        Tested::Passed => {
             flip(letters);
-            Checked::Passed
+            Tested::Passed
         }
     }
 }
 
-fn record_checked(bytes: &[u8]) -> Checked
+fn record_tested(bytes: &[u8]) -> Tested
     ensures { λ r. ⌜ r ≡ recordTested (now (bytes .entry)) ⌝ }
 {
     if bytes.len() != 16 {
-        return Checked::Refused(Refusal::Length);
+        return Tested::Refused(Refusal::Length);
     }
     if is_good(bytes) {
-        Checked::Passed
+        Tested::Passed
     } else {
-        Checked::Refused(Refusal::Field(0))
+        Tested::Refused(Refusal::Field(0))
     }
 }
 
 // Makes a digest record a decoy; a decoy stays as it was.
-pub fn reverse_record(bytes: &mut [u8]) -> Checked
+pub fn reverse_record(bytes: &mut [u8]) -> Tested
     ensures { λ r. ⌜ outcome r (now (bytes .exit) ∷ []) ≡ reverseRecordOutcome (now (bytes .entry)) ⌝ }
 {
-    let found = record_checked(bytes);
+    let found = record_tested(bytes);
     match found {
-        Checked::Refused(why) => Checked::Refused(why),
-        Checked::Passed => {
+        Tested::Refused(why) => Tested::Refused(why),
+        Tested::Passed => {
             records::put_byte(bytes, 11, 1);
-            Checked::Passed
+            Tested::Passed
         }
     }
 }

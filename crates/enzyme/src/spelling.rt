@@ -1,8 +1,8 @@
 // The letters of a digest record.
-use offering_parts::is_good;
-use records::Checked;
+use enzyme_keep::is_good;
 use records::Counted;
 use records::Refusal;
+use records::Tested;
 ghost use mathlib.Core.Path.{_≡_};
 ghost use mathlib.Core.List.{[], _∷_};
 ghost use Prim.Native.Nat.{_≤_, _<_};
@@ -30,25 +30,25 @@ fn spell(part: &[u8], decoy: bool, out: &mut [u8]) -> Counted
     Counted::Count(count)
 }
 
-fn spelling_checked(letters: &[u8], bytes: &[u8]) -> Checked
+fn spelling_tested(letters: &[u8], bytes: &[u8]) -> Tested
     ensures { λ r. ⌜ r ≡ spellingTested (now (letters .entry)) (now (bytes .entry)) ⌝ }
 {
     let n = letters.len();
     if 65536 < n {
-        return Checked::Refused(Refusal::Size);
+        return Tested::Refused(Refusal::Size);
     }
     if bytes.len() != 16 {
-        return Checked::Refused(Refusal::Length);
+        return Tested::Refused(Refusal::Length);
     }
     let bad = letters::first_bad(letters);
     if bad < n {
-        return Checked::Refused(Refusal::Letter(bad));
+        return Tested::Refused(Refusal::Letter(bad));
     }
     let end = records::u32_at(bytes, 4) as usize;
     if is_good(bytes) & (end <= n) {
-        Checked::Passed
+        Tested::Passed
     } else {
-        Checked::Refused(Refusal::Field(0))
+        Tested::Refused(Refusal::Field(0))
     }
 }
 
@@ -56,10 +56,10 @@ fn spelling_checked(letters: &[u8], bytes: &[u8]) -> Checked
 pub fn digest_letters(letters: &[u8], bytes: &[u8], out: &mut [u8]) -> Counted
     ensures { λ r. ⌜ outcome r (now (out .exit) ∷ []) ≡ lettersOutcome (now (letters .entry)) (now (bytes .entry)) (now (out .entry)) ⌝ }
 {
-    let found = spelling_checked(letters, bytes);
+    let found = spelling_tested(letters, bytes);
     match found {
-        Checked::Refused(why) => Counted::Refused(why),
-        Checked::Passed => {
+        Tested::Refused(why) => Counted::Refused(why),
+        Tested::Passed => {
             let start = records::u32_at(bytes, 0) as usize;
             let end = records::u32_at(bytes, 4) as usize;
             let decoy = records::byte_at(bytes, 11) == 1;

@@ -5,8 +5,8 @@ use mathlib.Core.Logic.{inl, inr}
 use mathlib.Core.List.{List, [], _∷_, _++_, Sublistᴰ, Sublistᴰ·slnil, Sublistᴰ·cons, Sublistᴰ·cons-cons, Sublistᴰ·refl, Sublistᴰ·nil-sublist, Sublistᴰ·append}
 use lib.ListN.{drop}
 use lib.Dec.{ltb}
-use Rattle.cutting_parts.specs.Cutting.{Range}
-use Rattle.cutting_parts.specs.Work.{Inside}
+use Rattle.enzyme_cuts.specs.Cutting.{Range}
+use Rattle.enzyme_cuts.specs.Work.{Inside}
 use Rattle.enzyme_once.specs.Once.{own, ownZip, ownsFrom}
 use Rattle.enzyme_once.specs.ThinLaws.{Hit}
 use Rattle.enzyme_once.specs.DistinctLaws.{Distinct}

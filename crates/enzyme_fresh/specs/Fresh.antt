@@ -5,8 +5,8 @@ use mathlib.Core.Bool.{cond}
 use mathlib.Core.List.{List, [], _∷_, _++_}
 use lib.ListN.{length, drop}
 use lib.Dec.{ltb}
-use Rattle.cutting_parts.specs.declared.enzyme.Knife.{Knife}
-use Rattle.cutting_parts.specs.Cutting.{Range, setSites, windowsFrom}
+use Rattle.enzyme_cuts.specs.declared.kinds.Knife.{Knife}
+use Rattle.enzyme_cuts.specs.Cutting.{Range, setSites, windowsFrom}
 use Rattle.enzyme_windows.specs.Shared.{SameWindow}
 use Rattle.enzyme_once.specs.Once.{filled, own}
 

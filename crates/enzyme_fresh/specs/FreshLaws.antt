@@ -5,11 +5,11 @@ use mathlib.Core.Bool.{true}
 use mathlib.Core.List.{List, [], _∷_, foldl, Sublistᴰ, Sublistᴰ·refl, Sublistᴰ·append}
 use native.Mathlib.Omega.{arith}
 use lib.ListN.{length}
-use Rattle.cutting_parts.specs.declared.enzyme.Knife.{Knife}
-use Rattle.cutting_parts.specs.Cutting.{Range, setSites, windowsFrom, keep}
-use Rattle.cutting_parts.specs.Work.{Inside}
-use Rattle.offering_parts.specs.declared.offering.Terms.{Terms}
-use Rattle.offering_parts.specs.Steps.{offers}
+use Rattle.enzyme_cuts.specs.declared.kinds.Knife.{Knife}
+use Rattle.enzyme_cuts.specs.Cutting.{Range, setSites, windowsFrom, keep}
+use Rattle.enzyme_cuts.specs.Work.{Inside}
+use Rattle.enzyme_keep.specs.declared.offering.Terms.{Terms}
+use Rattle.enzyme_keep.specs.Steps.{offers}
 use Rattle.enzyme_windows.specs.Pieces.{pieces, placed}
 use Rattle.enzyme_windows.specs.PieceLaws.{joined-pieces}
 use Rattle.enzyme_windows.specs.SiteLaws.{nonEmpty, sites-pieces}

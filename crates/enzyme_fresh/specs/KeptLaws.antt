@@ -10,8 +10,8 @@ use lib.Seq.{drop-cons}
 use lib.Dec.{ltb}
 use borrow.Author.Tests.{ltb-true}
 use Rattle.records.specs.Tests.{below?}
-use Rattle.cutting_parts.specs.Cutting.{Range, part, windowsFrom}
-use Rattle.cutting_parts.specs.Work.{Inside}
+use Rattle.enzyme_cuts.specs.Cutting.{Range, part, windowsFrom}
+use Rattle.enzyme_cuts.specs.Work.{Inside}
 use Rattle.enzyme_windows.specs.Pieces.{joined, placed}
 use Rattle.enzyme_windows.specs.LookedLaws.{looked, firsts, firsts-append}
 use Rattle.enzyme_windows.specs.EmptyLaws.{inside-behind}

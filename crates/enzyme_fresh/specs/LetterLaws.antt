@@ -6,7 +6,7 @@ use native.Mathlib.Omega.{arith}
 use native.Mathlib.Numerals.{add-one}
 use lib.ListN.{length, take, drop, length-append, take-append-drop}
 use lib.Seq.{take-take, take-add, drop-drop}
-use Rattle.cutting_parts.specs.Cutting.{Range, range, site, halves, part}
+use Rattle.enzyme_cuts.specs.Cutting.{Range, range, site, halves, part}
 use Rattle.enzyme_windows.specs.Pieces.{joined}
 use Rattle.enzyme_windows.specs.WindowLaws.{joined-append}
 use Rattle.enzyme_windows.specs.StartLaws.{startOf, window-letters}

@@ -4,9 +4,9 @@ use mathlib.Core.Path.{_≡_, refl, _∙_}
 use mathlib.Core.Bool.{true, false, and-false, or-true}
 use mathlib.Core.List.{List, [], _∷_, _++_, map}
 use lib.ListN.{length}
-use Rattle.cutting_parts.specs.Cutting.{Range, same, part, seenIn, within, wanted}
-use Rattle.cutting_parts.specs.SameLaws.{same-self}
-use Rattle.cutting_parts.specs.Work.{Inside}
+use Rattle.enzyme_cuts.specs.Cutting.{Range, same, part, seenIn, within, wanted}
+use Rattle.enzyme_cuts.specs.SameLaws.{same-self}
+use Rattle.enzyme_cuts.specs.Work.{Inside}
 use Rattle.enzyme_windows.specs.LookedLaws.{looked, firsts, part-length, agree-more, firsts-agree}
 
 module _ (s : List ℕ) where

@@ -4,13 +4,13 @@ use mathlib.Core.List.{List}
 use native.Mathlib.Omega.{arith}
 use native.Mathlib.Nat.{min-le-left}
 use lib.ListN.{length}
-use Rattle.cutting_parts.specs.Cutting.{Range}
-use Rattle.offering_parts.specs.declared.offering.Terms.{Terms}
-use Rattle.offering_parts.specs.declared.offering.Step.the-variants.{Kept}
-use Rattle.offering_parts.specs.Buffer.{sealed}
-use Rattle.offering_parts.specs.BufferLaws.{length-sealed}
-use Rattle.offering_parts.specs.Steps.{room, View}
-use Rattle.offering_parts.specs.StepLaws.{offers-roomy}
+use Rattle.enzyme_cuts.specs.Cutting.{Range}
+use Rattle.enzyme_keep.specs.declared.offering.Terms.{Terms}
+use Rattle.enzyme_keep.specs.declared.offering.Step.the-variants.{Kept}
+use Rattle.enzyme_keep.specs.Buffer.{sealed}
+use Rattle.enzyme_keep.specs.BufferLaws.{length-sealed}
+use Rattle.enzyme_keep.specs.Steps.{room, View}
+use Rattle.enzyme_keep.specs.StepLaws.{offers-roomy}
 
 pub view-fits : (s : List ℕ) (t : Terms) (rs : List Range) (out : List ℕ) (k : ℕ) (o : List ℕ) → View s t rs 0 out (Kept k) o → 16 * k ≤ length o
 view-fits s t rs out k o x =

@@ -1,14 +1,14 @@
 // A set with semi: each different range is looked at once, but for the parts of windows that stand before. A range longer than
 // what any other start shares is new; any other is sought in a list of the records so far, which rises by length and letters.
-use cutting_parts::Knife;
-use offering_parts::Step;
-use offering_parts::Terms;
+use enzyme_cuts::Knife;
+use enzyme_keep::Step;
+use enzyme_keep::Terms;
 ghost use mathlib.Core.Path.{_≡_};
 ghost use mathlib.Core.Bool.{true};
 ghost use mathlib.Core.List.{List};
 ghost use Prim.Native.Nat.{ℕ, _≤_, _<_};
 ghost use lib.ListN.{length, getD};
-ghost use Rattle.offering_parts.specs.Steps.{after, offers};
+ghost use Rattle.enzyme_keep.specs.Steps.{after, offers};
 ghost use Rattle.enzyme_once.specs.Once.{once};
 ghost use Rattle.enzyme_words.specs.Words.{wordsOf, Zeros, Far};
 ghost use Rattle.enzyme_sites.specs.Starts.{Starts};
@@ -66,10 +66,10 @@ fn list_semi(
         out,
         marks,
     ) else {
-        offering_parts::seal_all(out, terms.protein);
+        enzyme_keep::seal_all(out, terms.protein);
         return Step::Full;
     };
-    offering_parts::seal(out, k, terms.protein);
+    enzyme_keep::seal(out, k, terms.protein);
     Step::Kept(k)
 }
 

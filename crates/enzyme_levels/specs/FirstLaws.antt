@@ -11,8 +11,8 @@ use borrow.Author.Tests.{lt-ltb, ltb-true}
 use lib.Dec.{ltb}
 use lib.ListN.{length, getD, take, drop, length-append, take-append-drop}
 use Rattle.records.specs.Tests.{same?, below?, both}
-use Rattle.sorting_parts.specs.SortLaws.{clash}
-use Rattle.cutting_parts.specs.declared.enzyme.Knife.{Knife}
+use Rattle.sorting_merge.specs.SortLaws.{clash}
+use Rattle.enzyme_cuts.specs.declared.kinds.Knife.{Knife}
 use Rattle.enzyme_windows.specs.Pieces.{joined, pieces}
 use Rattle.enzyme_windows.specs.Shared.{SameWindow, Named, sharedSites}
 use Rattle.enzyme_windows.specs.PieceLaws.{joined-pieces}

@@ -5,7 +5,7 @@ use mathlib.Core.Bool.{Bool, cond, true, false}
 use mathlib.Core.List.{List, [], _∷_, _++_}
 use lib.ListN.{length, getD, set}
 use lib.Dec.{eqb}
-use Rattle.cutting_parts.specs.Cutting.{Range, site, part, seenIn}
+use Rattle.enzyme_cuts.specs.Cutting.{Range, site, part, seenIn}
 use Rattle.enzyme_list.specs.declared.walk.Place.{Place}
 use Rattle.enzyme_list.specs.declared.walk.Place.the-variants.{Same, Behind}
 use Rattle.enzyme_order.specs.Order.{orderOf}

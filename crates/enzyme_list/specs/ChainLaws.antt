@@ -10,11 +10,11 @@ use lib.Seq.{getD-at}
 use lib.Dec.{eqb}
 use borrow.Author.Tests.{eq-eqb, ne-eqb}
 use Rattle.records.specs.Tests.{below?, truth?}
-use Rattle.cutting_parts.specs.Cutting.{Range, site, same, seenIn}
-use Rattle.cutting_parts.specs.SameLaws.{same-self, same-eq}
-use Rattle.cutting_parts.specs.KeepLaws.{seenIn-append}
-use Rattle.offering_parts.specs.Buffer.{rangeAt, rangesIn}
-use Rattle.offering_parts.specs.BufferLaws.{length-ranges}
+use Rattle.enzyme_cuts.specs.Cutting.{Range, site, same, seenIn}
+use Rattle.enzyme_cuts.specs.SameLaws.{same-self, same-eq}
+use Rattle.enzyme_cuts.specs.KeepLaws.{seenIn-append}
+use Rattle.enzyme_keep.specs.Buffer.{rangeAt, rangesIn}
+use Rattle.enzyme_keep.specs.BufferLaws.{length-ranges}
 use Rattle.enzyme_list.specs.declared.walk.Place.{Place}
 use Rattle.enzyme_list.specs.declared.walk.Place.the-variants.{Same, Behind}
 use Rattle.enzyme_order.specs.Order.{orderOf}

@@ -8,7 +8,7 @@ use lib.ListN.{length, getD, set, length-append, length-set, List·getD-append}
 use lib.Seq.{getD-at, getD-set-same, getD-set-other}
 use lib.Dec.{eqb}
 use borrow.Author.Tests.{eq-eqb, ne-eqb}
-use Rattle.cutting_parts.specs.Cutting.{Range, site, part}
+use Rattle.enzyme_cuts.specs.Cutting.{Range, site, part}
 use Rattle.enzyme_order.specs.Order.{orderOf}
 use Rattle.enzyme_list.specs.Chain.{textOf, nextOf, Linked, lastOf, Lower, Upper, Rises, Listed, Placed, linksWith, headWith}
 use Rattle.enzyme_list.specs.ChainLaws.{below-unlike, last-from, linked-behind}

@@ -5,13 +5,13 @@ use mathlib.Core.Bool.{false}
 use mathlib.Core.Logic.{_⊎_}
 use mathlib.Core.List.{List, [], _∷_, _++_}
 use lib.ListN.{length}
-use Rattle.cutting_parts.specs.Cutting.{Range, same, part}
-use Rattle.cutting_parts.specs.Work.{Inside}
-use Rattle.offering_parts.specs.declared.offering.Step.{Step}
-use Rattle.offering_parts.specs.declared.offering.Step.the-variants.{Kept, Full}
-use Rattle.offering_parts.specs.declared.offering.Terms.{Terms}
-use Rattle.offering_parts.specs.Buffer.{rangesIn, linksIn}
-use Rattle.offering_parts.specs.Steps.{View}
+use Rattle.enzyme_cuts.specs.Cutting.{Range, same, part}
+use Rattle.enzyme_cuts.specs.Work.{Inside}
+use Rattle.enzyme_keep.specs.declared.offering.Step.{Step}
+use Rattle.enzyme_keep.specs.declared.offering.Step.the-variants.{Kept, Full}
+use Rattle.enzyme_keep.specs.declared.offering.Terms.{Terms}
+use Rattle.enzyme_keep.specs.Buffer.{rangesIn, linksIn}
+use Rattle.enzyme_keep.specs.Steps.{View}
 use Rattle.enzyme_list.specs.declared.offering.Run.{Run}
 use Rattle.enzyme_list.specs.declared.offering.Offered.{Offered}
 use Rattle.enzyme_list.specs.declared.offering.Offered.the-variants.{Left, NoRoom}

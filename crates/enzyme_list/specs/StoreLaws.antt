@@ -13,10 +13,10 @@ use borrow.Author.Tests.{eq-eqb, ne-eqb}
 use Rattle.records.specs.Le.{le}
 use Rattle.records.specs.LeLaws.{length-le, Apart, number-stored, number-apart, getD-sets-other}
 use Rattle.records.specs.Tests.{below?, same?}
-use Rattle.cutting_parts.specs.Cutting.{Range, range}
-use Rattle.offering_parts.specs.Digests.{recordOf}
-use Rattle.offering_parts.specs.Buffer.{rangeAt, rangesIn, linksIn}
-use Rattle.offering_parts.specs.BufferLaws.{length-ranges, length-links, ranges-more, links-more, link-read}
+use Rattle.enzyme_cuts.specs.Cutting.{Range, range}
+use Rattle.enzyme_keep.specs.Digests.{recordOf}
+use Rattle.enzyme_keep.specs.Buffer.{rangeAt, rangesIn, linksIn}
+use Rattle.enzyme_keep.specs.BufferLaws.{length-ranges, length-links, ranges-more, links-more, link-read}
 use Rattle.enzyme_list.specs.Chain.{nextOf, Listed, linksWith, headWith}
 use Rattle.enzyme_list.specs.Insert.{insertedIn, Inserted}
 use Rattle.enzyme_list.specs.InsertLaws.{listed-insert}

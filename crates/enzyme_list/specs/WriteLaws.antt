@@ -11,14 +11,14 @@ use lib.ListN.{length, length-append}
 use lib.Seq.{sets, length-sets}
 use lib.Dec.{ltb}
 use borrow.Author.Tests.{lt-ltb, le-ltb}
-use Rattle.cutting_parts.specs.Cutting.{Range, same, part, seenIn, within, wanted}
-use Rattle.cutting_parts.specs.InsideLaws.{inside-append}
-use Rattle.offering_parts.specs.declared.offering.Step.the-variants.{Kept}
-use Rattle.offering_parts.specs.declared.offering.Terms.{Terms}
-use Rattle.offering_parts.specs.Digests.{recordOf}
-use Rattle.offering_parts.specs.Buffer.{rangesIn, linksIn, sealed}
-use Rattle.offering_parts.specs.BufferLaws.{length-ranges, length-links, ranges-more, links-more, sealed-more}
-use Rattle.offering_parts.specs.Steps.{room, after, offers}
+use Rattle.enzyme_cuts.specs.Cutting.{Range, same, part, seenIn, within, wanted}
+use Rattle.enzyme_cuts.specs.InsideLaws.{inside-append}
+use Rattle.enzyme_keep.specs.declared.offering.Step.the-variants.{Kept}
+use Rattle.enzyme_keep.specs.declared.offering.Terms.{Terms}
+use Rattle.enzyme_keep.specs.Digests.{recordOf}
+use Rattle.enzyme_keep.specs.Buffer.{rangesIn, linksIn, sealed}
+use Rattle.enzyme_keep.specs.BufferLaws.{length-ranges, length-links, ranges-more, links-more, sealed-more}
+use Rattle.enzyme_keep.specs.Steps.{room, after, offers}
 use Rattle.enzyme_list.specs.declared.offering.Offered.the-variants.{Left, NoRoom}
 use Rattle.enzyme_list.specs.Chain.{Listed}
 use Rattle.enzyme_list.specs.ChainLaws.{linked-one}

@@ -2,13 +2,13 @@
 use crate::linking::insert;
 use crate::walk::Place;
 use crate::walk::search;
-use offering_parts::Terms;
+use enzyme_keep::Terms;
 ghost use mathlib.Core.Path.{_≡_};
 ghost use mathlib.Core.Bool.{false};
 ghost use Prim.Native.Nat.{_≤_};
 ghost use lib.ListN.{length};
-ghost use Rattle.cutting_parts.specs.Cutting.{range, site, part, seenIn};
-ghost use Rattle.offering_parts.specs.Buffer.{rangesIn, linksIn};
+ghost use Rattle.enzyme_cuts.specs.Cutting.{range, site, part, seenIn};
+ghost use Rattle.enzyme_keep.specs.Buffer.{rangesIn, linksIn};
 ghost use Rattle.enzyme_list.specs.Chain.{Begun};
 ghost use Rattle.enzyme_list.specs.Offer.{Keeps, Knows, Came, Wrote};
 
@@ -41,7 +41,7 @@ pub fn offer(
     requires { ⌜ Keeps (now letters) count head (now out) × (a ≤ e) × (e ≤ length (now letters)) × Knows (now letters) count head (now out) (part (now letters) (site a e)) × Begun (now letters) (rangesIn count (now out)) (linksIn count (now out)) head from (part (now letters) (site a e)) ⌝ }
     ensures { λ r. ⌜ Came (now (letters .entry)) terms (range a e missed semi) count head (now (out .entry)) r (now (out .exit)) ⌝ }
 {
-    if !offering_parts::length_within(e - a, terms.minimum, terms.maximum) {
+    if !enzyme_keep::length_within(e - a, terms.minimum, terms.maximum) {
         return Offered::Left(Run {
             count: count,
             head: head,
@@ -80,7 +80,7 @@ pub fn write(
     requires { ⌜ Keeps (now letters) count head (now out) × (a ≤ e) × (e ≤ length (now letters)) × (seenIn (now letters) (rangesIn count (now out)) (part (now letters) (site a e)) ≡ false) ⌝ }
     ensures { λ r. ⌜ Wrote (now (letters .entry)) terms (range a e missed semi) count head (now (out .entry)) r (now (out .exit)) ⌝ }
 {
-    if !offering_parts::length_within(e - a, terms.minimum, terms.maximum) {
+    if !enzyme_keep::length_within(e - a, terms.minimum, terms.maximum) {
         return Offered::Left(Run {
             count: count,
             head: head,
@@ -90,7 +90,7 @@ pub fn write(
         return Offered::NoRoom;
     }
     let n = letters.len();
-    offering_parts::put_record(out, 16 * count, a, e, missed, semi, n, 0);
+    enzyme_keep::put_record(out, 16 * count, a, e, missed, semi, n, 0);
     let next = count + 1;
     Offered::Left(Run {
         count: next,

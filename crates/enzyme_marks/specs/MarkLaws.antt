@@ -8,8 +8,8 @@ use lib.ListN.{length, getD, set, length-set}
 use lib.Seq.{getD-set-same, getD-set-other}
 use borrow.Author.Tests.{eq-eqb, ne-eqb}
 use Rattle.records.specs.Tests.{same?, below?}
-use Rattle.cutting_parts.specs.Cutting.{Range}
-use Rattle.offering_parts.specs.Buffer.{rangesIn, linksIn}
+use Rattle.enzyme_cuts.specs.Cutting.{Range}
+use Rattle.enzyme_keep.specs.Buffer.{rangesIn, linksIn}
 use Rattle.enzyme_order.specs.Order.{orderOf}
 use Rattle.enzyme_list.specs.Chain.{textOf, nextOf, Begun}
 use Rattle.enzyme_list.specs.Offer.{Keeps, Has}

@@ -7,8 +7,8 @@ use mathlib.Core.Logic.{_⊎_}
 use mathlib.Core.List.{List}
 use lib.ListN.{length, getD}
 use lib.Dec.{eqb}
-use Rattle.cutting_parts.specs.Cutting.{Range}
-use Rattle.offering_parts.specs.Buffer.{linksIn}
+use Rattle.enzyme_cuts.specs.Cutting.{Range}
+use Rattle.enzyme_keep.specs.Buffer.{linksIn}
 use Rattle.enzyme_order.specs.Order.{orderOf}
 use Rattle.enzyme_list.specs.Chain.{textOf, Linked}
 use Rattle.enzyme_list.specs.Offer.{Has}

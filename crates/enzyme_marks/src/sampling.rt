@@ -3,9 +3,9 @@
 ghost use mathlib.Core.Path.{_≡_};
 ghost use Prim.Native.Nat.{_*_, _≤_, _<_};
 ghost use lib.ListN.{length};
-ghost use Rattle.cutting_parts.specs.Cutting.{site, part};
-ghost use Rattle.cutting_parts.specs.Work.{Inside};
-ghost use Rattle.offering_parts.specs.Buffer.{rangesIn};
+ghost use Rattle.enzyme_cuts.specs.Cutting.{site, part};
+ghost use Rattle.enzyme_cuts.specs.Work.{Inside};
+ghost use Rattle.enzyme_keep.specs.Buffer.{rangesIn};
 ghost use Rattle.enzyme_marks.specs.Marks.{sampleOf, Numbered, Below};
 
 fn letter_at(text: &[u8], i: usize) -> u32

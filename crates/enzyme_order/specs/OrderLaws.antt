@@ -8,7 +8,7 @@ use lib.ListN.{length, drop, getD, drop-of-length-le}
 use lib.Seq.{drop-cons}
 use borrow.Author.Tests.{lt-ltb, le-ltb}
 use Rattle.records.specs.Tests.{below?}
-use Rattle.cutting_parts.specs.SameLaws.{same-eq, Alike, alike-all}
+use Rattle.enzyme_cuts.specs.SameLaws.{same-eq, Alike, alike-all}
 use Rattle.enzyme_order.specs.Order.{first, letterwise, orderOf}
 
 pub first-below : (x y r : ℕ) → x < y → first x y r ≡ 0

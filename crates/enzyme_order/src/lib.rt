@@ -3,9 +3,9 @@ mod inserting;
 mod keys;
 mod merging;
 mod ordering;
-mod sorting;
+mod sites;
 
 pub use keys::Key;
 pub use keys::le;
 pub use ordering::order;
-pub use sorting::sort;
+pub use sites::sort;

@@ -8,15 +8,15 @@ use native.Mathlib.Numerals.{add-one}
 use lib.ListN.{length, take, drop, getD, length-append, take-append-drop}
 use lib.Seq.{take-add}
 use lib.Dec.{ltb}
-use Rattle.cutting_parts.specs.declared.enzyme.Knife.{Knife}
-use Rattle.cutting_parts.specs.Cutting.{Range, range, windows, within, keep}
-use Rattle.cutting_parts.specs.Work.{Inside, setWindows, setWork}
-use Rattle.cutting_parts.specs.InsideLaws.{inside-sizes}
-use Rattle.cutting_parts.specs.KeepLaws.{spread-plain}
-use Rattle.offering_parts.specs.declared.offering.Terms.{Terms}
-use Rattle.offering_parts.specs.declared.offering.Step.the-variants.{Kept, Full}
-use Rattle.offering_parts.specs.Digests.{recordOf}
-use Rattle.offering_parts.specs.Steps.{room, After, after, decided, offers}
+use Rattle.enzyme_cuts.specs.declared.kinds.Knife.{Knife}
+use Rattle.enzyme_cuts.specs.Cutting.{Range, range, windows, within, keep}
+use Rattle.enzyme_cuts.specs.Work.{Inside, setWindows, setWork}
+use Rattle.enzyme_cuts.specs.InsideLaws.{inside-sizes}
+use Rattle.enzyme_cuts.specs.KeepLaws.{spread-plain}
+use Rattle.enzyme_keep.specs.declared.offering.Terms.{Terms}
+use Rattle.enzyme_keep.specs.declared.offering.Step.the-variants.{Kept, Full}
+use Rattle.enzyme_keep.specs.Digests.{recordOf}
+use Rattle.enzyme_keep.specs.Steps.{room, After, after, decided, offers}
 use Rattle.enzyme_windows.specs.Pieces.{pieces, joined, placed}
 use Rattle.enzyme_windows.specs.Shared.{picked, pickedFrom}
 use Rattle.enzyme_windows.specs.PieceLaws.{joined-pieces}

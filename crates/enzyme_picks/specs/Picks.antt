@@ -4,10 +4,10 @@ use mathlib.Core.Bool.{Bool, true, cond, _&&_}
 use mathlib.Core.List.{List, [], _∷_, _++_}
 use lib.ListN.{length, getD}
 use lib.Dec.{ltb}
-use Rattle.cutting_parts.specs.Cutting.{Range, range, within}
-use Rattle.offering_parts.specs.declared.offering.Step.the-variants.{Kept}
-use Rattle.offering_parts.specs.Digests.{recordOf}
-use Rattle.offering_parts.specs.Steps.{room, After, after, decided, andThen}
+use Rattle.enzyme_cuts.specs.Cutting.{Range, range, within}
+use Rattle.enzyme_keep.specs.declared.offering.Step.the-variants.{Kept}
+use Rattle.enzyme_keep.specs.Digests.{recordOf}
+use Rattle.enzyme_keep.specs.Steps.{room, After, after, decided, andThen}
 
 -- the starts of m sites, and the end of the last
 pub record Rising (starts : List ℕ) (m : ℕ) : Type 0 where

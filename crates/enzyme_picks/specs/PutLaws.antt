@@ -10,15 +10,15 @@ use lib.ListN.{length}
 use lib.Seq.{sets}
 use lib.Dec.{ltb}
 use borrow.Author.Tests.{ltb-true}
-use Rattle.cutting_parts.specs.Cutting.{Range, wanted, keep}
-use Rattle.cutting_parts.specs.Work.{Inside}
-use Rattle.offering_parts.specs.declared.offering.Step.{Step}
-use Rattle.offering_parts.specs.declared.offering.Step.the-variants.{Kept, Full}
-use Rattle.offering_parts.specs.declared.offering.Terms.{Terms}
-use Rattle.offering_parts.specs.Digests.{recordOf}
-use Rattle.offering_parts.specs.Buffer.{rangesIn}
-use Rattle.offering_parts.specs.BufferLaws.{ranges-more}
-use Rattle.offering_parts.specs.Steps.{room, after, decided, offered, andThen, offers}
+use Rattle.enzyme_cuts.specs.Cutting.{Range, wanted, keep}
+use Rattle.enzyme_cuts.specs.Work.{Inside}
+use Rattle.enzyme_keep.specs.declared.offering.Step.{Step}
+use Rattle.enzyme_keep.specs.declared.offering.Step.the-variants.{Kept, Full}
+use Rattle.enzyme_keep.specs.declared.offering.Terms.{Terms}
+use Rattle.enzyme_keep.specs.Digests.{recordOf}
+use Rattle.enzyme_keep.specs.Buffer.{rangesIn}
+use Rattle.enzyme_keep.specs.BufferLaws.{ranges-more}
+use Rattle.enzyme_keep.specs.Steps.{room, after, decided, offered, andThen, offers}
 use Rattle.enzyme_picks.specs.Picks.{puts}
 
 -- ---- two lists of ranges, one after the other

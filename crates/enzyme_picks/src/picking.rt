@@ -1,16 +1,16 @@
 // The new windows as records.
-use cutting_parts::Knife;
-use offering_parts::Step;
-use offering_parts::Terms;
+use enzyme_cuts::Knife;
+use enzyme_keep::Step;
+use enzyme_keep::Terms;
 ghost use mathlib.Core.Path.{_≡_};
 ghost use mathlib.Core.Bool.{false, _&&_};
 ghost use Prim.Native.Nat.{ℕ, suc, _+_, _-_, _≤_, _<_};
 ghost use lib.ListN.{length, getD};
 ghost use lib.Dec.{ltb};
-ghost use Rattle.cutting_parts.specs.Cutting.{range, within};
-ghost use Rattle.cutting_parts.specs.Work.{setWork};
-ghost use Rattle.offering_parts.specs.Digests.{recordOf};
-ghost use Rattle.offering_parts.specs.Steps.{room, after, decided, offers};
+ghost use Rattle.enzyme_cuts.specs.Cutting.{range, within};
+ghost use Rattle.enzyme_cuts.specs.Work.{setWork};
+ghost use Rattle.enzyme_keep.specs.Digests.{recordOf};
+ghost use Rattle.enzyme_keep.specs.Steps.{room, after, decided, offers};
 ghost use Rattle.enzyme_windows.specs.Pieces.{pieces};
 ghost use Rattle.enzyme_windows.specs.StartLaws.{startOf};
 ghost use Rattle.enzyme_windows.specs.TableLaws.{Counted};
@@ -64,7 +64,7 @@ fn list_size(
             wide(share[i]),
             sites,
         );
-        let Step::Kept(x) = offering_parts::write_range(
+        let Step::Kept(x) = enzyme_keep::write_range(
             new,
             from,
             to,

@@ -7,9 +7,9 @@ use mathlib.Core.List.{List}
 use native.Mathlib.Omega.{arith}
 use lib.ListN.{getD}
 use Rattle.records.specs.Tests.{below?, truth?}
-use Rattle.sorting_parts.specs.SortLaws.{clash}
-use Rattle.cutting_parts.specs.Cutting.{same}
-use Rattle.cutting_parts.specs.SameLaws.{same-self, same-eq}
+use Rattle.sorting_merge.specs.SortLaws.{clash}
+use Rattle.enzyme_cuts.specs.Cutting.{same}
+use Rattle.enzyme_cuts.specs.SameLaws.{same-self, same-eq}
 use Rattle.enzyme_runs.specs.Steps.{Lined, Runs}
 
 pub alike? : (t u : List ℕ) → (t ≡ u) ⊎ (t ≡ u → ⊥)

@@ -10,9 +10,9 @@ use lib.Dec.{eqb}
 use lib.ListN.{length, getD, set, length-set}
 use lib.Seq.{getD-set-same, getD-set-other}
 use Rattle.records.specs.Tests.{below?}
-use Rattle.sorting_parts.specs.SortLaws.{clash}
-use Rattle.cutting_parts.specs.Cutting.{same}
-use Rattle.cutting_parts.specs.SameLaws.{same-self, same-eq}
+use Rattle.sorting_merge.specs.SortLaws.{clash}
+use Rattle.enzyme_cuts.specs.Cutting.{same}
+use Rattle.enzyme_cuts.specs.SameLaws.{same-self, same-eq}
 use Rattle.enzyme_runs.specs.Steps.{Has, Apart, Runs, Written, Marked, Kept}
 
 -- an index below i + 1 is below i, or it is i

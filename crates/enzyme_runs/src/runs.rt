@@ -5,7 +5,7 @@ ghost use mathlib.Core.Path.{_≡_};
 ghost use mathlib.Core.Bool.{cond};
 ghost use Prim.Native.Nat.{_≤_};
 ghost use lib.ListN.{length};
-ghost use Rattle.cutting_parts.specs.Cutting.{same};
+ghost use Rattle.enzyme_cuts.specs.Cutting.{same};
 ghost use Rattle.enzyme_order.specs.Keys.{Site, lettersAt, namesAt, keyOf};
 ghost use Rattle.enzyme_runs.specs.Steps.{Apart, Sited, Arranged, Runs};
 
@@ -18,7 +18,7 @@ fn same_site(letters: &[u8], starts: &[u32], a: u16, b: u16) -> bool
     let q = reading::end_of(starts, a);
     let u = reading::start_of(starts, b);
     let v = reading::end_of(starts, b);
-    cutting_parts::equal(&letters[p..q], &letters[u..v])
+    enzyme_cuts::equal(&letters[p..q], &letters[u..v])
 }
 
 // Whether two sites have the same rank, and the sites k places on the same name.

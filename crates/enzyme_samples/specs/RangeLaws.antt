@@ -6,9 +6,9 @@ use mathlib.Core.Logic.{_⊎_, inl, inr}
 use mathlib.Core.List.{List, [], _∷_, _++_, append-assoc}
 use native.Mathlib.Omega.{arith}
 use lib.ListN.{length, getD}
-use Rattle.cutting_parts.specs.Cutting.{Range, site, same, part, seenIn, within}
-use Rattle.offering_parts.specs.declared.offering.Terms.{Terms}
-use Rattle.offering_parts.specs.Buffer.{rangesIn}
+use Rattle.enzyme_cuts.specs.Cutting.{Range, site, same, part, seenIn, within}
+use Rattle.enzyme_keep.specs.declared.offering.Terms.{Terms}
+use Rattle.enzyme_keep.specs.Buffer.{rangesIn}
 use Rattle.enzyme_once.specs.DistinctLaws.{Distinct}
 use Rattle.enzyme_list.specs.declared.offering.Run.{Run as Ends}
 use Rattle.enzyme_list.specs.declared.offering.Offered.the-variants as list

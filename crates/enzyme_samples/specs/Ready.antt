@@ -4,13 +4,13 @@ use mathlib.Core.Path.{_≡_}
 use mathlib.Core.Bool.{false}
 use mathlib.Core.List.{List, _++_}
 use lib.ListN.{length, getD}
-use Rattle.cutting_parts.specs.Cutting.{Range, site, same, part}
-use Rattle.cutting_parts.specs.Work.{Inside}
-use Rattle.offering_parts.specs.declared.offering.Step.{Step}
-use Rattle.offering_parts.specs.declared.offering.Step.the-variants.{Kept, Full}
-use Rattle.offering_parts.specs.declared.offering.Terms.{Terms}
-use Rattle.offering_parts.specs.Buffer.{rangesIn}
-use Rattle.offering_parts.specs.Steps.{View}
+use Rattle.enzyme_cuts.specs.Cutting.{Range, site, same, part}
+use Rattle.enzyme_cuts.specs.Work.{Inside}
+use Rattle.enzyme_keep.specs.declared.offering.Step.{Step}
+use Rattle.enzyme_keep.specs.declared.offering.Step.the-variants.{Kept, Full}
+use Rattle.enzyme_keep.specs.declared.offering.Terms.{Terms}
+use Rattle.enzyme_keep.specs.Buffer.{rangesIn}
+use Rattle.enzyme_keep.specs.Steps.{View}
 use Rattle.enzyme_words.specs.Words.{Far}
 use Rattle.enzyme_once.specs.DistinctLaws.{Distinct}
 use Rattle.enzyme_list.specs.Offer.{Keeps, Knows}

@@ -7,15 +7,15 @@ use mathlib.Core.List.{List, [], _∷_, _++_, append-assoc}
 use native.Mathlib.Omega.{arith}
 use lib.ListN.{length, drop, getD, length-take, length-drop}
 use Rattle.records.specs.Tests.{same?, truth?}
-use Rattle.cutting_parts.specs.Cutting.{Range, site, same, part, seenIn}
-use Rattle.cutting_parts.specs.SameLaws.{same-self, same-eq, same-short}
-use Rattle.cutting_parts.specs.Work.{Inside}
-use Rattle.offering_parts.specs.declared.offering.Step.{Step}
-use Rattle.offering_parts.specs.declared.offering.Step.the-variants.{Kept, Full}
-use Rattle.offering_parts.specs.declared.offering.Terms.{Terms}
-use Rattle.offering_parts.specs.Buffer.{rangesIn, sealed}
-use Rattle.offering_parts.specs.Steps.{room, After, after, offered, andThen, offers, View}
-use Rattle.offering_parts.specs.StepLaws.{view-then, view-full}
+use Rattle.enzyme_cuts.specs.Cutting.{Range, site, same, part, seenIn}
+use Rattle.enzyme_cuts.specs.SameLaws.{same-self, same-eq, same-short}
+use Rattle.enzyme_cuts.specs.Work.{Inside}
+use Rattle.enzyme_keep.specs.declared.offering.Step.{Step}
+use Rattle.enzyme_keep.specs.declared.offering.Step.the-variants.{Kept, Full}
+use Rattle.enzyme_keep.specs.declared.offering.Terms.{Terms}
+use Rattle.enzyme_keep.specs.Buffer.{rangesIn, sealed}
+use Rattle.enzyme_keep.specs.Steps.{room, After, after, offered, andThen, offers, View}
+use Rattle.enzyme_keep.specs.StepLaws.{view-then, view-full}
 use Rattle.enzyme_once.specs.ThinLaws.{Hit, hit-left, hit-right, hit-either}
 use Rattle.enzyme_once.specs.DistinctLaws.{Distinct}
 use Rattle.enzyme_list.specs.OfferLaws.{keeps-start, knows-start}

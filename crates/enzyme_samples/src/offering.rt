@@ -1,11 +1,11 @@
 // Ranges offered to the list of records.
 use crate::noting::note;
-use offering_parts::Terms;
+use enzyme_keep::Terms;
 ghost use mathlib.Core.Path.{_≡_};
 ghost use mathlib.Core.List.{[], _∷_};
 ghost use Prim.Native.Nat.{_-_, _≤_, _<_};
 ghost use lib.ListN.{getD};
-ghost use Rattle.cutting_parts.specs.Cutting.{range};
+ghost use Rattle.enzyme_cuts.specs.Cutting.{range};
 ghost use Rattle.enzyme_samples.specs.Ready.{started, Ready, Offers};
 
 // How many records there are, the first of the list, and how many samples of it there are: the first of them is the
@@ -133,7 +133,7 @@ pub fn offer_range(
     requires { ⌜ Ready (now letters) (now far) (range a e missed semi ∷ []) run (now out) (now marks) ⌝ }
     ensures { λ r. ⌜ Offers (now (letters .entry)) (now (far .entry)) terms (range a e missed semi ∷ []) run (now (out .entry)) (now (marks .entry)) r (now (out .exit)) (now (marks .exit)) ⌝ }
 {
-    if offering_parts::length_within(e - a, terms.minimum, terms.maximum) {
+    if enzyme_keep::length_within(e - a, terms.minimum, terms.maximum) {
         if far_at(far, a) < e - a {
             return write_range(letters, far, a, e, missed, semi, terms, out, marks, run);
         }

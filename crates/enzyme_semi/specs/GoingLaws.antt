@@ -3,8 +3,8 @@ use Prim.Native.Nat.{ℕ}
 use mathlib.Core.Path.{_≡_, refl, _∙_}
 use mathlib.Core.List.{List, [], _∷_, _++_}
 use lib.ListN.{length}
-use Rattle.cutting_parts.specs.Cutting.{Range}
-use Rattle.offering_parts.specs.declared.offering.Terms.{Terms}
+use Rattle.enzyme_cuts.specs.Cutting.{Range}
+use Rattle.enzyme_keep.specs.declared.offering.Terms.{Terms}
 use Rattle.enzyme_samples.specs.declared.offering.Run.{Run}
 use Rattle.enzyme_samples.specs.declared.offering.Offered.the-variants.{Left, NoRoom}
 use Rattle.enzyme_samples.specs.Ready.{Ready, Offers}

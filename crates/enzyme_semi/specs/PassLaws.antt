@@ -8,8 +8,8 @@ use native.Mathlib.Omega.{arith}
 use lib.Dec.{leb}
 use borrow.Author.Tests.{lt-leb}
 use Rattle.records.specs.Tests.{below?}
-use Rattle.cutting_parts.specs.Cutting.{Range, halves, within}
-use Rattle.offering_parts.specs.declared.offering.Terms.{Terms}
+use Rattle.enzyme_cuts.specs.Cutting.{Range, halves, within}
+use Rattle.enzyme_keep.specs.declared.offering.Terms.{Terms}
 use Rattle.enzyme_once.specs.Once.{endings, openings}
 use Rattle.enzyme_samples.specs.declared.offering.Run.{Run}
 use Rattle.enzyme_samples.specs.RangeLaws.{unfit-left}

@@ -2,10 +2,10 @@
 use Prim.Native.Nat.{ℕ, suc, _≤_}
 use mathlib.Core.List.{List, _++_}
 use lib.ListN.{length}
-use Rattle.cutting_parts.specs.declared.enzyme.Knife.{Knife}
-use Rattle.cutting_parts.specs.Cutting.{windowsFrom}
-use Rattle.offering_parts.specs.declared.offering.Terms.{Terms}
-use Rattle.offering_parts.specs.Steps.{View}
+use Rattle.enzyme_cuts.specs.declared.kinds.Knife.{Knife}
+use Rattle.enzyme_cuts.specs.Cutting.{windowsFrom}
+use Rattle.enzyme_keep.specs.declared.offering.Terms.{Terms}
+use Rattle.enzyme_keep.specs.Steps.{View}
 use Rattle.enzyme_fresh.specs.Fresh.{freshFrom, fresh}
 use Rattle.enzyme_fresh.specs.FreshLaws.{fresh-inside, fresh-once}
 use Rattle.enzyme_sites.specs.Starts.{Starts}

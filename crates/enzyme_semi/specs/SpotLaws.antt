@@ -4,8 +4,8 @@ use mathlib.Core.Path.{_≡_, refl, ap, _∙_}
 use mathlib.Core.List.{List, [], _∷_, _++_, append-nil}
 use native.Mathlib.Omega.{arith}
 use lib.ListN.{length, take, getD, length-append}
-use Rattle.cutting_parts.specs.declared.enzyme.Knife.{Knife}
-use Rattle.cutting_parts.specs.Cutting.{Range, site, setSites, windowsFrom}
+use Rattle.enzyme_cuts.specs.declared.kinds.Knife.{Knife}
+use Rattle.enzyme_cuts.specs.Cutting.{Range, site, setSites, windowsFrom}
 use Rattle.enzyme_windows.specs.Pieces.{pieces, joined, placed}
 use Rattle.enzyme_windows.specs.StartLaws.{startOf}
 use Rattle.enzyme_once.specs.Once.{filled}

@@ -4,7 +4,7 @@ use mathlib.Core.Bool.{cond}
 use mathlib.Core.List.{List, [], _++_}
 use lib.ListN.{getD}
 use lib.Dec.{ltb}
-use Rattle.cutting_parts.specs.Cutting.{Range, site}
+use Rattle.enzyme_cuts.specs.Cutting.{Range, site}
 use Rattle.enzyme_once.specs.Once.{own}
 use Rattle.enzyme_once.specs.SpotLaws.{spots}
 

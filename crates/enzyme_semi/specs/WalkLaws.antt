@@ -7,7 +7,7 @@ use native.Mathlib.Omega.{arith}
 use native.Mathlib.Numerals.{add-one}
 use lib.Dec.{ltb}
 use borrow.Author.Tests.{lt-ltb, le-ltb}
-use Rattle.cutting_parts.specs.Cutting.{Range, range, site, halves, windows, windowsFrom}
+use Rattle.enzyme_cuts.specs.Cutting.{Range, range, site, halves, windows, windowsFrom}
 use Rattle.enzyme_once.specs.Once.{endings, openings, own}
 use Rattle.enzyme_once.specs.SpotLaws.{spots, spans, drop-spots, windows-spans}
 use Rattle.enzyme_fresh.specs.Fresh.{freshZip, freshOwns, freshFrom}

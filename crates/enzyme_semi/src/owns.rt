@@ -1,9 +1,9 @@
 // The parts of windows of neighbouring sites, by the table of their starts; those whose letters an earlier one has are left out.
 use crate::parts::offer_own;
 use crate::windows::place;
+use enzyme_keep::Terms;
 use enzyme_samples::Offered;
 use enzyme_samples::Run;
-use offering_parts::Terms;
 ghost use mathlib.Core.Path.{_≡_};
 ghost use Prim.Native.Nat.{suc, _+_, _<_, _≤_};
 ghost use lib.ListN.{length};

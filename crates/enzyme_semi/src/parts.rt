@@ -2,12 +2,12 @@
 use crate::cuts::first_cut;
 use crate::cuts::last_cut;
 use crate::cuts::next_cut;
+use enzyme_keep::Terms;
 use enzyme_samples::Offered;
 use enzyme_samples::Run;
 use enzyme_samples::offer_range;
-use offering_parts::Terms;
 ghost use Prim.Native.Nat.{suc, _-_, _<_};
-ghost use Rattle.cutting_parts.specs.Cutting.{range, site, halves};
+ghost use Rattle.enzyme_cuts.specs.Cutting.{range, site, halves};
 ghost use Rattle.enzyme_once.specs.Once.{endings, openings, own};
 ghost use Rattle.enzyme_samples.specs.Ready.{Ready, Offers};
 

@@ -1,17 +1,17 @@
 // All ranges of a set with the semi flag.
 use crate::owns::offer_all_owns;
 use crate::windows::offer_all_windows;
-use cutting_parts::Knife;
+use enzyme_cuts::Knife;
+use enzyme_keep::Step;
+use enzyme_keep::Terms;
 use enzyme_samples::Offered;
 use enzyme_samples::Run;
 use enzyme_samples::start_run;
-use offering_parts::Step;
-use offering_parts::Terms;
 ghost use mathlib.Core.List.{_++_};
 ghost use Prim.Native.Nat.{suc, _<_, _≤_};
 ghost use lib.ListN.{length, getD};
-ghost use Rattle.cutting_parts.specs.Cutting.{windowsFrom};
-ghost use Rattle.offering_parts.specs.Steps.{View};
+ghost use Rattle.enzyme_cuts.specs.Cutting.{windowsFrom};
+ghost use Rattle.enzyme_keep.specs.Steps.{View};
 ghost use Rattle.enzyme_fresh.specs.Fresh.{freshFrom, fresh};
 ghost use Rattle.enzyme_sites.specs.Starts.{Starts};
 ghost use Rattle.enzyme_samples.specs.Ready.{Ready, Offers};

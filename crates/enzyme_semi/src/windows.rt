@@ -1,13 +1,13 @@
 // Windows of neighbouring sites, by the table of their starts.
+use enzyme_keep::Terms;
 use enzyme_samples::Offered;
 use enzyme_samples::Run;
 use enzyme_samples::offer_range;
-use offering_parts::Terms;
 ghost use mathlib.Core.Path.{_≡_};
 ghost use mathlib.Core.List.{[], _∷_};
 ghost use Prim.Native.Nat.{suc, _+_, _<_, _≤_};
 ghost use lib.ListN.{length};
-ghost use Rattle.cutting_parts.specs.Cutting.{range, windows, windowsFrom};
+ghost use Rattle.enzyme_cuts.specs.Cutting.{range, windows, windowsFrom};
 ghost use Rattle.enzyme_samples.specs.Ready.{Ready, Offers};
 ghost use Rattle.enzyme_semi.specs.Walk.{placeIn, sitesIn};
 

@@ -1,13 +1,13 @@
 // A set without semi: equal sites have one name, and windows of sites are told apart by the names.
-use cutting_parts::Knife;
-use offering_parts::Step;
-use offering_parts::Terms;
+use enzyme_cuts::Knife;
+use enzyme_keep::Step;
+use enzyme_keep::Terms;
 ghost use mathlib.Core.Path.{_≡_};
 ghost use mathlib.Core.Bool.{false};
 ghost use Prim.Native.Nat.{_+_, _≤_, _<_};
 ghost use lib.ListN.{length};
-ghost use Rattle.cutting_parts.specs.Work.{setWork};
-ghost use Rattle.offering_parts.specs.Steps.{after, offers};
+ghost use Rattle.enzyme_cuts.specs.Work.{setWork};
+ghost use Rattle.enzyme_keep.specs.Steps.{after, offers};
 
 // With tables that are lent: where the sites start; two for their order; their names, and the ranks of windows; how many sites each
 // window shares with an earlier one; and what was seen of their letters.

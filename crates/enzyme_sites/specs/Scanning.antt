@@ -4,7 +4,7 @@ use mathlib.Core.Path.{_≡_}
 use mathlib.Core.Bool.{Bool, true}
 use mathlib.Core.List.{List, [], _∷_}
 use lib.ListN.{length, getD, drop}
-use Rattle.cutting_parts.specs.declared.enzyme.Knife.{Knife}
+use Rattle.enzyme_cuts.specs.declared.kinds.Knife.{Knife}
 use Rattle.enzyme_windows.specs.Pieces.{between, onFirst, pieces}
 use Rattle.enzyme_windows.specs.StartLaws.{startOf}
 

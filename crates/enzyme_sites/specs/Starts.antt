@@ -3,7 +3,7 @@ use Prim.Native.Nat.{ℕ, _≤_, _<_}
 use mathlib.Core.Path.{_≡_}
 use mathlib.Core.List.{List}
 use lib.ListN.{length, getD}
-use Rattle.cutting_parts.specs.declared.enzyme.Knife.{Knife}
+use Rattle.enzyme_cuts.specs.declared.kinds.Knife.{Knife}
 use Rattle.enzyme_windows.specs.Pieces.{pieces}
 use Rattle.enzyme_windows.specs.StartLaws.{startOf}
 

@@ -5,7 +5,7 @@ use mathlib.Core.List.{List}
 use native.Mathlib.Omega.{arith}
 use lib.ListN.{length}
 use lib.Seq.{take-length}
-use Rattle.cutting_parts.specs.declared.enzyme.Knife.{Knife}
+use Rattle.enzyme_cuts.specs.declared.kinds.Knife.{Knife}
 use Rattle.enzyme_windows.specs.Pieces.{pieces, joined}
 use Rattle.enzyme_windows.specs.PieceLaws.{joined-pieces}
 use Rattle.enzyme_windows.specs.SiteLaws.{pieces-filled, filled-at}

@@ -1,6 +1,6 @@
 // The scan for sites, letter by letter.
-use cutting_parts::Knife;
-use cutting_parts::Side;
+use enzyme_cuts::Knife;
+use enzyme_cuts::Side;
 ghost use mathlib.Core.Path.{_≡_};
 ghost use Prim.Native.Nat.{_+_, _≤_, _<_};
 ghost use lib.ListN.{length, drop};

@@ -7,17 +7,17 @@ use native.Mathlib.Omega.{arith}
 use lib.ListN.{length}
 use lib.Dec.{ltb}
 use Rattle.letters.specs.declared.letter_set.LetterSet.{LetterSet}
-use Rattle.cutting_parts.specs.declared.enzyme.Kind.{Kind}
-use Rattle.cutting_parts.specs.declared.enzyme.Kind.the-variants.{None, End, Set}
-use Rattle.cutting_parts.specs.declared.enzyme.Enzyme.{Enzyme}
-use Rattle.cutting_parts.specs.Cutting.{Range, site, knife, meant, keep, digests, within}
-use Rattle.cutting_parts.specs.Work.{Inside, setWork, workOf, work}
-use Rattle.cutting_parts.specs.KeepLaws.{work-keeps}
-use Rattle.cutting_parts.specs.InsideLaws.{inside-work}
-use Rattle.offering_parts.specs.declared.offering.Terms.{Terms}
-use Rattle.offering_parts.specs.Digests.{recordOf}
-use Rattle.offering_parts.specs.Steps.{room, decided, offered, offers}
-use Rattle.offering_parts.specs.StepLaws.{offers-one}
+use Rattle.enzyme_cuts.specs.declared.kinds.Kind.{Kind}
+use Rattle.enzyme_cuts.specs.declared.kinds.Kind.the-variants.{None, End, Set}
+use Rattle.enzyme_cuts.specs.declared.kinds.Enzyme.{Enzyme}
+use Rattle.enzyme_cuts.specs.Cutting.{Range, site, knife, meant, keep, digests, within}
+use Rattle.enzyme_cuts.specs.Work.{Inside, setWork, workOf, work}
+use Rattle.enzyme_cuts.specs.KeepLaws.{work-keeps}
+use Rattle.enzyme_cuts.specs.InsideLaws.{inside-work}
+use Rattle.enzyme_keep.specs.declared.offering.Terms.{Terms}
+use Rattle.enzyme_keep.specs.Digests.{recordOf}
+use Rattle.enzyme_keep.specs.Steps.{room, decided, offered, offers}
+use Rattle.enzyme_keep.specs.StepLaws.{offers-one}
 use Rattle.enzyme_once.specs.Once.{once}
 use Rattle.enzyme_once.specs.OnceLaws.{once-keeps}
 use Rattle.enzyme_once.specs.RangeLaws.{once-inside}

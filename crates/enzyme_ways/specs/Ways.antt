@@ -3,11 +3,11 @@ use Prim.Native.Nat.{ℕ}
 use mathlib.Core.Bool.{true, false, cond}
 use mathlib.Core.List.{List, [], _∷_}
 use lib.ListN.{length}
-use Rattle.cutting_parts.specs.declared.enzyme.Kind.{Kind}
-use Rattle.cutting_parts.specs.declared.enzyme.Kind.the-variants.{None, End, Set}
-use Rattle.cutting_parts.specs.declared.enzyme.Enzyme.{Enzyme}
-use Rattle.cutting_parts.specs.Cutting.{Range, site, knife, noneSites, meant}
-use Rattle.cutting_parts.specs.Work.{setWork}
+use Rattle.enzyme_cuts.specs.declared.kinds.Kind.{Kind}
+use Rattle.enzyme_cuts.specs.declared.kinds.Kind.the-variants.{None, End, Set}
+use Rattle.enzyme_cuts.specs.declared.kinds.Enzyme.{Enzyme}
+use Rattle.enzyme_cuts.specs.Cutting.{Range, site, knife, noneSites, meant}
+use Rattle.enzyme_cuts.specs.Work.{setWork}
 use Rattle.enzyme_once.specs.Once.{once}
 
 -- all of "none", the whole protein of "end", the windows of a set, or with semi each different range of it once

@@ -1,16 +1,16 @@
 // The ranges of an enzyme, by the way that suits it.
 use crate::ends::offer_end;
-use cutting_parts::Enzyme;
-use cutting_parts::Kind;
-use cutting_parts::Knife;
+use enzyme_cuts::Enzyme;
+use enzyme_cuts::Kind;
+use enzyme_cuts::Knife;
+use enzyme_keep::Step;
+use enzyme_keep::Terms;
 use letters::LetterSet;
-use offering_parts::Step;
-use offering_parts::Terms;
 ghost use mathlib.Core.Path.{_≡_};
 ghost use Prim.Native.Nat.{_≤_};
 ghost use lib.ListN.{length};
-ghost use Rattle.cutting_parts.specs.Cutting.{knife};
-ghost use Rattle.offering_parts.specs.Steps.{after, offers};
+ghost use Rattle.enzyme_cuts.specs.Cutting.{knife};
+ghost use Rattle.enzyme_keep.specs.Steps.{after, offers};
 ghost use Rattle.enzyme_ways.specs.Ways.{none, way};
 
 // The enzyme that cuts everywhere.

@@ -10,8 +10,8 @@ use lib.Seq.{getD-set-same, getD-set-other, getD-take, getD-drop}
 use lib.Dec.{eqb}
 use borrow.Author.Tests.{eqb-true, eqb-false, eq-eqb, ne-eqb}
 use Rattle.records.specs.Tests.{below?, same?}
-use Rattle.cutting_parts.specs.Cutting.{site, same, part}
-use Rattle.cutting_parts.specs.SameLaws.{same-eq}
+use Rattle.enzyme_cuts.specs.Cutting.{site, same, part}
+use Rattle.enzyme_cuts.specs.SameLaws.{same-eq}
 use Rattle.enzyme_words.specs.Words.{digitOf, threeOf, codeAt, wordsOf, Zeros, Coded, Twice, Tallied, Picked, Unlike, Far, Reach, Swept}
 
 -- ---- the number of a word

@@ -6,7 +6,7 @@ use mathlib.Core.Logic.{_⊎_}
 use mathlib.Core.List.{List}
 use lib.ListN.{length, getD}
 use lib.Dec.{eqb}
-use Rattle.cutting_parts.specs.Cutting.{site, same, part}
+use Rattle.enzyme_cuts.specs.Cutting.{site, same, part}
 
 -- A is 0, Z is 25
 abbrev pub digitOf : ℕ → ℕ

@@ -1,6 +1,6 @@
 // Sets of letters.
 ghost use mathlib.Core.Path.{_≡_};
-ghost use Rattle.letters.specs.Letters.{has, inserted, proper, subset};
+ghost use Rattle.letters.specs.Letters.{all, empty, has, inserted, proper, subset};
 
 // A number whose bit 0 is A and bit 25 is Z.
 pub struct LetterSet {
@@ -11,6 +11,20 @@ impl LetterSet {
     pub const EMPTY: LetterSet = LetterSet { mask: 0 };
 
     pub const ALL: LetterSet = LetterSet { mask: 0x03ff_ffff };
+
+    // `EMPTY`, which holds none.
+    pub fn no_letters() -> LetterSet
+        ensures { λ r. ⌜ r ≡ empty ⌝ }
+    {
+        LetterSet::EMPTY
+    }
+
+    // `ALL`, which holds A to Z.
+    pub fn all_letters() -> LetterSet
+        ensures { λ r. ⌜ r ≡ all ⌝ }
+    {
+        LetterSet::ALL
+    }
 
     // Whether the letter is in the set: no byte but a letter is in any.
     pub fn contains(self, letter: u8) -> bool

@@ -10,7 +10,7 @@ use lib.Dec.{ltb, eqb}
 use borrow.Author.Tests.{lt-ltb, le-ltb, eq-eqb, ne-eqb}
 use Rattle.records.specs.declared.refusal.Refusal.{Refusal}
 use Rattle.records.specs.declared.refusal.Refusal.the-variants.{Size, Length, Field, Room}
-use Rattle.records.specs.declared.refusal.Checked.{Checked}
+use Rattle.records.specs.declared.refusal.Tested.{Tested}
 use Rattle.records.specs.Tested.{first-refuses}
 use Rattle.records.specs.Tests.{both}
 use Rattle.records.specs.Le.{le, numberAt}
@@ -28,41 +28,41 @@ use Rattle.modification.specs.Rules.{goodRule, ruleAt, readRule, firstBa
 
 module _ (fixed : Bool) (rules : List ℕ) where
   module _ (most : ℕ) (is : most ≡ mostRules fixed) where
-    pub length-size : most < length rules / 8 → Checked.Refused Size ≡ testedLength fixed rules
+    pub length-size : most < length rules / 8 → Tested.Refused Size ≡ testedLength fixed rules
     length-size h = rw (lt-ltb (mostRules fixed) (length rules / 8) (rw is at h))
 
     module _ (few : length rules / 8 ≤ most) where
       not-many : ltb (mostRules fixed) (length rules / 8) ≡ false
       not-many = le-ltb (mostRules fixed) (length rules / 8) (rw is at few)
 
-      pub length-whole : length rules % 8 ≡ 0 → Checked.Passed ≡ testedLength fixed rules
+      pub length-whole : length rules % 8 ≡ 0 → Tested.Passed ≡ testedLength fixed rules
       length-whole h = rw (not-many, eq-eqb (length rules % 8) 0 h)
 
-      pub length-part : (length rules % 8 ≡ 0 → ⊥) → Checked.Refused Length ≡ testedLength fixed rules
+      pub length-part : (length rules % 8 ≡ 0 → ⊥) → Tested.Refused Length ≡ testedLength fixed rules
       length-part h = rw (not-many, ne-eqb (length rules % 8) 0 h)
 
-  module _ (t : Checked) (is : t ≡ testedLength fixed rules) where
-    pub tested-refused : (why : Refusal) → t ≡ Checked.Refused why → Checked.Refused why ≡ testedRules fixed rules
+  module _ (t : Tested) (is : t ≡ testedLength fixed rules) where
+    pub tested-refused : (why : Refusal) → t ≡ Tested.Refused why → Tested.Refused why ≡ testedRules fixed rules
     unfolding testedRules
     tested-refused why e = first-refuses (testedLength fixed rules) _ why (sym is ∙ e)
 
-    module _ (passed : t ≡ Checked.Passed) (bad : ℕ) (first : bad ≡ firstBadRule fixed rules) where
-      pub tested-field : bad < length rules / 8 → Checked.Refused (Field bad) ≡ testedRules fixed rules
+    module _ (passed : t ≡ Tested.Passed) (bad : ℕ) (first : bad ≡ firstBadRule fixed rules) where
+      pub tested-field : bad < length rules / 8 → Tested.Refused (Field bad) ≡ testedRules fixed rules
       unfolding testedRules
       tested-field h = rw (first, ← is, passed, lt-ltb (firstBadRule fixed rules) (length rules / 8) (rw first at h))
 
-      pub tested-passed : length rules / 8 ≤ bad → Checked.Passed ≡ testedRules fixed rules
+      pub tested-passed : length rules / 8 ≤ bad → Tested.Passed ≡ testedRules fixed rules
       unfolding testedRules
       tested-passed h = rw (← is, passed, le-ltb (firstBadRule fixed rules) (length rules / 8) (rw first at h))
 
 -- ---- a record that is read
 
-module _ (rules : List ℕ) (r : ℕ) (t : Checked) (is : t ≡ testedLength true rules) where
-  pub read-refused : (why : Refusal) → t ≡ Checked.Refused why → Read.Refused why ≡ readRule rules r
+module _ (rules : List ℕ) (r : ℕ) (t : Tested) (is : t ≡ testedLength true rules) where
+  pub read-refused : (why : Refusal) → t ≡ Tested.Refused why → Read.Refused why ≡ readRule rules r
   unfolding readRule
   read-refused why e = rw (← is, e)
 
-  module _ (passed : t ≡ Checked.Passed) where
+  module _ (passed : t ≡ Tested.Passed) where
     pub read-none : length rules / 8 ≤ r → Read.Refused (Field r) ≡ readRule rules r
     unfolding readRule
     read-none h = rw (← is, passed, le-ltb r (length rules / 8) h)
@@ -82,28 +82,28 @@ module _ (q : Rule) (old : List ℕ) (k l : ℕ) (ek : k ≡ kindOf (q .on)) (el
   is-sound : (x : Bool) → (sound k l && not (eqb (q .id) 0)) ≡ x → soundRule q ≡ x
   is-sound x h = subst (λ (m : ℕ). (sound m (letterOf (q .on)) && not (eqb (q .id) 0)) ≡ x) ek (subst (λ (m : ℕ). (sound k m && not (eqb (q .id) 0)) ≡ x) el h)
 
-  pub rule-bad : (sound k l && not (eqb (q .id) 0)) ≡ false → outcome (Checked.Refused (Field 0)) (old ∷ []) ≡ writeRuleOutcome q old
+  pub rule-bad : (sound k l && not (eqb (q .id) 0)) ≡ false → outcome (Tested.Refused (Field 0)) (old ∷ []) ≡ writeRuleOutcome q old
   unfolding writeRuleOutcome
   rule-bad h = rw (is-sound false h)
 
   module _ (h : (sound k l && not (eqb (q .id) 0)) ≡ true) where
-    pub rule-full : length old < 8 → outcome (Checked.Refused Room) (old ∷ []) ≡ writeRuleOutcome q old
+    pub rule-full : length old < 8 → outcome (Tested.Refused Room) (old ∷ []) ≡ writeRuleOutcome q old
     unfolding writeRuleOutcome
     rule-full g =
         let f = full-one 8 (ruleBytes q) old refl (omega arith) g in
         let e = kept-one 8 (ruleBytes q) old refl (omega arith) g in
-        ap (λ (x : List ℕ). outcome (Checked.Refused Room) (x ∷ [])) e ∙ rw (is-sound true h, f)
+        ap (λ (x : List ℕ). outcome (Tested.Refused Room) (x ∷ [])) e ∙ rw (is-sound true h, f)
 
-    pub rule-stored : 8 ≤ length old → (out : List ℕ) → out ≡ sets old 0 (k ∷ l ∷ q .id ∷ 0 ∷ le 4 (q .limit)) → outcome Checked.Passed (out ∷ []) ≡ writeRuleOutcome q old
+    pub rule-stored : 8 ≤ length old → (out : List ℕ) → out ≡ sets old 0 (k ∷ l ∷ q .id ∷ 0 ∷ le 4 (q .limit)) → outcome Tested.Passed (out ∷ []) ≡ writeRuleOutcome q old
     unfolding writeRuleOutcome
     rule-stored g out e =
         let f = fits-one 8 (ruleBytes q) old refl (omega arith) g in
         let s = stored-one 8 (ruleBytes q) old refl (omega arith) g in
         let b : sets old 0 (k ∷ l ∷ q .id ∷ 0 ∷ le 4 (q .limit)) ≡ sets old 0 (ruleBytes q) = rw (ek, el) in
-        ap (λ (x : List ℕ). outcome Checked.Passed (x ∷ [])) (e ∙ b ∙ s) ∙ rw (is-sound true h, f)
+        ap (λ (x : List ℕ). outcome Tested.Passed (x ∷ [])) (e ∙ b ∙ s) ∙ rw (is-sound true h, f)
 
 -- no second answer, and no second contents, meets what `write_rule` ensures
-pub write-rule-only : (q : Rule) (old : List ℕ) (a b : Checked) (k l : List (List ℕ)) → outcome a k ≡ writeRuleOutcome q old → outcome b l ≡ writeRuleOutcome q old → (a ≡ b) × (k ≡ l)
+pub write-rule-only : (q : Rule) (old : List ℕ) (a b : Tested) (k l : List (List ℕ)) → outcome a k ≡ writeRuleOutcome q old → outcome b l ≡ writeRuleOutcome q old → (a ≡ b) × (k ≡ l)
 write-rule-only q old a b k l = only a b k l (writeRuleOutcome q old)
 
 -- ---- writing, then reading
@@ -117,7 +117,7 @@ kind-letter (ProteinC b) = refl
 
 -- a sound rule that was written is read back, in whole records of which there are not too many
 pub write-then-read : (q : Rule) (rest : List ℕ) → soundRule q ≡ true → q .limit < 256 ^ 4
-    → testedLength true (ruleBytes q ++ rest) ≡ Checked.Passed → readRule (ruleBytes q ++ rest) 0 ≡ Read.Rule q
+    → testedLength true (ruleBytes q ++ rest) ≡ Tested.Passed → readRule (ruleBytes q ++ rest) 0 ≡ Read.Rule q
 unfolding readRule goodRule numberAt
 write-then-read q rest h g t =
     let x = both (sound (kindOf (q .on)) (letterOf (q .on))) (not (eqb (q .id) 0)) h in

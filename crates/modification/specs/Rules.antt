@@ -6,7 +6,7 @@ use mathlib.Core.List.{List, [], _∷_}
 use lib.ListN.{length, getD}
 use lib.Dec.{ltb, eqb}
 use Rattle.records.specs.declared.refusal.Refusal.the-variants.{Size, Length, Field, Room}
-use Rattle.records.specs.declared.refusal.Checked.{Checked}
+use Rattle.records.specs.declared.refusal.Tested.{Tested}
 use Rattle.records.specs.Le.{le, numberAt}
 use Rattle.records.specs.Tested.{andThen}
 use Rattle.records.specs.Search.{seek}
@@ -49,20 +49,20 @@ abbrev pub mostRules : Bool → ℕ
 mostRules fixed = cond fixed 32 16
 
 -- 1: more than 16 variable rules or 32 fixed ones; 8: no whole records
-abbrev pub testedLength : Bool → List ℕ → Checked
+abbrev pub testedLength : Bool → List ℕ → Tested
 testedLength fixed rules =
-    cond (ltb (mostRules fixed) (length rules / 8)) (Checked.Refused Size)
-    (cond (eqb (length rules % 8) 0) Checked.Passed (Checked.Refused Length))
+    cond (ltb (mostRules fixed) (length rules / 8)) (Tested.Refused Size)
+    (cond (eqb (length rules % 8) 0) Tested.Passed (Tested.Refused Length))
 
 -- then 9: the first that is no rule
-unfoldable pub testedRules : Bool → List ℕ → Checked
+unfoldable pub testedRules : Bool → List ℕ → Tested
 testedRules fixed rules =
     andThen (testedLength fixed rules)
-    (cond (ltb (firstBadRule fixed rules) (length rules / 8)) (Checked.Refused (Field (firstBadRule fixed rules))) Checked.Passed)
+    (cond (ltb (firstBadRule fixed rules) (length rules / 8)) (Tested.Refused (Field (firstBadRule fixed rules))) Tested.Passed)
 
-abbrev pub readOr : Checked → Read → Read
-readOr Checked.Passed found = found
-readOr (Checked.Refused why) found = Read.Refused why
+abbrev pub readOr : Tested → Read → Read
+readOr Tested.Passed found = found
+readOr (Tested.Refused why) found = Read.Refused why
 
 -- record r of a list of either kind, so of at most 32: 1, 8, then 9: it is no rule, or there is no such record
 unfoldable pub readRule : List ℕ → ℕ → Read
@@ -78,8 +78,8 @@ abbrev pub ruleBytes : Rule → List ℕ
 ruleBytes q = kindOf (q .on) ∷ letterOf (q .on) ∷ q .id ∷ 0 ∷ le 4 (q .limit)
 
 -- one record in a lent buffer: 9, then 11
-unfoldable pub writeRuleOutcome : Rule → List ℕ → Outcome Checked
+unfoldable pub writeRuleOutcome : Rule → List ℕ → Outcome Tested
 writeRuleOutcome q old =
     cond (soundRule q)
-    (outcome (cond (fits 8 1 old (ruleBytes q ∷ [])) Checked.Passed (Checked.Refused Room)) (fitted 8 1 old (ruleBytes q ∷ []) ∷ []))
-    (outcome (Checked.Refused (Field 0)) (old ∷ []))
+    (outcome (cond (fits 8 1 old (ruleBytes q ∷ [])) Tested.Passed (Tested.Refused Room)) (fitted 8 1 old (ruleBytes q ∷ []) ∷ []))
+    (outcome (Tested.Refused (Field 0)) (old ∷ []))

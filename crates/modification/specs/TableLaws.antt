@@ -14,7 +14,7 @@ use mathlib.Core.Logic.{⊎-elim}
 use Rattle.records.specs.Tests.{below?}
 use Rattle.records.specs.declared.refusal.Refusal.{Refusal}
 use Rattle.records.specs.declared.refusal.Refusal.the-variants.{Size, TableFull, Length, Room}
-use Rattle.records.specs.declared.refusal.Checked.{Checked}
+use Rattle.records.specs.declared.refusal.Tested.{Tested}
 use Rattle.records.specs.Outcome.{outcome, only}
 use Rattle.modification.specs.declared.table.Entered.{Entered}
 use Rattle.modification.specs.Tables.{sameMass, firstEqual, testedTable, entryBytes, enteredOutcome, insertOutcome}
@@ -52,26 +52,26 @@ same-zero = refl
 -- ---- the tests, one after the other
 
 module _ (table : List ℕ) (count : ℕ) where
-  pub tested-size : 255 < count → Checked.Refused Size ≡ testedTable table count
+  pub tested-size : 255 < count → Tested.Refused Size ≡ testedTable table count
   unfolding testedTable
   tested-size h = rw (lt-ltb 255 count h)
 
   module _ (few : count ≤ 255) where
-    pub tested-length : length table / 8 < count → Checked.Refused Length ≡ testedTable table count
+    pub tested-length : length table / 8 < count → Tested.Refused Length ≡ testedTable table count
     unfolding testedTable
     tested-length h = rw (le-ltb 255 count few, lt-ltb (length table / 8) count h)
 
-    pub tested-passed : count ≤ length table / 8 → Checked.Passed ≡ testedTable table count
+    pub tested-passed : count ≤ length table / 8 → Tested.Passed ≡ testedTable table count
     unfolding testedTable
     tested-passed h = rw (le-ltb 255 count few, le-ltb (length table / 8) count h)
 
   -- a table that passed its tests is small
-  pub passed-few : Checked.Passed ≡ testedTable table count → count ≤ 255
+  pub passed-few : Tested.Passed ≡ testedTable table count → count ≤ 255
   passed-few e = ⊎-elim large (λ (h : count ≤ 255). h) (below? 255 count)
     where
       large : 255 < count → count ≤ 255
       large h =
-          let f : Checked.Passed ≡ Checked.Refused Size = e ∙ sym (tested-size h) in
+          let f : Tested.Passed ≡ Tested.Refused Size = e ∙ sym (tested-size h) in
           let z : _≡_ {A = ℕ} 0 1 = cc in
           absurd (omega arith)
 
@@ -102,11 +102,11 @@ module _ (table : List ℕ) (count mass name at : ℕ) (first : at ≡ firstEqua
 -- ---- the whole
 
 module _ (table : List ℕ) (count mass name : ℕ) where
-  pub insert-refused : (r : Refusal) → Checked.Refused r ≡ testedTable table count → outcome (Entered.Refused r) (table ∷ []) ≡ insertOutcome table count mass name
+  pub insert-refused : (r : Refusal) → Tested.Refused r ≡ testedTable table count → outcome (Entered.Refused r) (table ∷ []) ≡ insertOutcome table count mass name
   unfolding insertOutcome
   insert-refused r e = rw (← e)
 
-  pub insert-passed : Checked.Passed ≡ testedTable table count → enteredOutcome table count mass name ≡ insertOutcome table count mass name
+  pub insert-passed : Tested.Passed ≡ testedTable table count → enteredOutcome table count mass name ≡ insertOutcome table count mass name
   unfolding insertOutcome
   insert-passed e = rw (← e)
 

@@ -8,8 +8,8 @@ use lib.Seq.{sets}
 use lib.Dec.{leb, ltb, eqb}
 use lib.Ieee.{binary32, ofBits, eq}
 use Rattle.records.specs.declared.refusal.Refusal.the-variants.{Size, TableFull, Length, Room}
-use Rattle.records.specs.declared.refusal.Checked.{Checked}
-use Rattle.records.specs.declared.refusal.Checked.the-variants.{Passed, Refused}
+use Rattle.records.specs.declared.refusal.Tested.{Tested}
+use Rattle.records.specs.declared.refusal.Tested.the-variants.{Passed, Refused}
 use Rattle.records.specs.Le.{le, numberAt}
 use Rattle.records.specs.Search.{seek}
 use Rattle.records.specs.Outcome.{Outcome, outcome, unlessRefused}
@@ -35,7 +35,7 @@ unfolding seek
 firstEqual table mass name count = seek (equalEntry table mass name) 0 count
 
 -- 1: more than 255; 8: fewer records than stated. A name number may be any number
-unfoldable pub testedTable : List ℕ → ℕ → Checked
+unfoldable pub testedTable : List ℕ → ℕ → Tested
 testedTable table count = cond (ltb 255 count) (Refused Size) (cond (ltb (length table / 8) count) (Refused Length) Passed)
 
 abbrev pub entryBytes : ℕ → ℕ → List ℕ

@@ -1,8 +1,8 @@
 // Rule records of 8 bytes: kind, letter, id, zero, limit.
 use crate::specificity;
 use crate::specificity::Specificity;
-use records::Checked;
 use records::Refusal;
+use records::Tested;
 ghost use mathlib.Core.Path.{_≡_};
 ghost use mathlib.Core.List.{List, [], _∷_};
 ghost use Prim.Native.Nat.{_+_, _*_, _/_, _≤_, _<_};
@@ -62,38 +62,38 @@ fn most_rules(fixed: bool) -> usize
 }
 
 // Whether a list has at most as many rules as it may, in whole records.
-fn test_length(rules: &[u8], fixed: bool) -> Checked
+fn test_length(rules: &[u8], fixed: bool) -> Tested
     ensures { λ r. ⌜ r ≡ testedLength fixed (now (rules .entry)) ⌝ }
 {
     if most_rules(fixed) < rules.len() / 8 {
-        return Checked::Refused(Refusal::Size);
+        return Tested::Refused(Refusal::Size);
     }
     if rules.len() % 8 == 0 {
-        Checked::Passed
+        Tested::Passed
     } else {
-        Checked::Refused(Refusal::Length)
+        Tested::Refused(Refusal::Length)
     }
 }
 
 // Tests a list of variable rules, at most 16, or of fixed ones, at most 32.
-pub fn test_rules(rules: &[u8], fixed: bool) -> Checked
+pub fn test_rules(rules: &[u8], fixed: bool) -> Tested
     ensures { λ r. ⌜ r ≡ testedRules fixed (now (rules .entry)) ⌝ }
 {
-    if let Checked::Refused(why) = test_length(rules, fixed) {
-        return Checked::Refused(why);
+    if let Tested::Refused(why) = test_length(rules, fixed) {
+        return Tested::Refused(why);
     }
     let bad = first_bad_rule(rules, fixed);
     if bad < rules.len() / 8 {
-        return Checked::Refused(Refusal::Field(bad));
+        return Tested::Refused(Refusal::Field(bad));
     }
-    Checked::Passed
+    Tested::Passed
 }
 
 // Reads record r of a list of variable or of fixed rules.
 pub fn read_rule(rules: &[u8], r: usize) -> Read
     ensures { λ q. ⌜ q ≡ readRule (now (rules .entry)) r ⌝ }
 {
-    if let Checked::Refused(why) = test_length(rules, true) {
+    if let Tested::Refused(why) = test_length(rules, true) {
         return Read::Refused(why);
     }
     if r < rules.len() / 8 {
@@ -132,7 +132,7 @@ fn put_rule(out: &mut [u8], kind: u8, letter: u8, id: u8, limit: u32)
 }
 
 // Writes a rule as a record.
-pub fn write_rule(rule: Rule, out: &mut [u8]) -> Checked
+pub fn write_rule(rule: Rule, out: &mut [u8]) -> Tested
     ensures { λ r. ⌜ outcome r (now (out .exit) ∷ []) ≡ writeRuleOutcome rule (now (out .entry)) ⌝ }
 {
     let on = rule.on;
@@ -141,10 +141,10 @@ pub fn write_rule(rule: Rule, out: &mut [u8]) -> Checked
     let id = rule.id;
     if specificity::is_sound(kind, letter) & !(id == 0) {
         if out.len() < 8 {
-            return Checked::Refused(Refusal::Room);
+            return Tested::Refused(Refusal::Room);
         }
         put_rule(out, kind, letter, id, rule.limit);
-        return Checked::Passed;
+        return Tested::Passed;
     }
-    Checked::Refused(Refusal::Field(0))
+    Tested::Refused(Refusal::Field(0))
 }

@@ -1,6 +1,6 @@
 // The table of modifications: records of 8 bytes, a mass's bit pattern and a name's number.
-use records::Checked;
 use records::Refusal;
+use records::Tested;
 ghost use mathlib.Core.Path.{_≡_};
 ghost use mathlib.Core.List.{List, [], _∷_};
 ghost use Prim.Native.Nat.{_+_, _*_, _/_, _≤_, _<_};
@@ -52,17 +52,17 @@ fn first_equal(table: &[u8], mass: u32, name: u32, count: usize) -> usize
 }
 
 // The tests before the table is searched.
-fn test_table(table: &[u8], count: u32) -> Checked
+fn test_table(table: &[u8], count: u32) -> Tested
     ensures { λ r. ⌜ r ≡ testedTable (now (table .entry)) count ⌝ }
 {
     if 255 < count {
-        return Checked::Refused(Refusal::Size);
+        return Tested::Refused(Refusal::Size);
     }
     let n = count as usize;
     if table.len() / 8 < n {
-        Checked::Refused(Refusal::Length)
+        Tested::Refused(Refusal::Length)
     } else {
-        Checked::Passed
+        Tested::Passed
     }
 }
 
@@ -100,7 +100,7 @@ fn enter(table: &mut [u8], count: u32, mass: u32, name: u32) -> Entered
 pub fn insert(table: &mut [u8], count: u32, mass: u32, name: u32) -> Entered
     ensures { λ r. ⌜ outcome r (now (table .exit) ∷ []) ≡ insertOutcome (now (table .entry)) count mass name ⌝ }
 {
-    if let Checked::Refused(why) = test_table(table, count) {
+    if let Tested::Refused(why) = test_table(table, count) {
         return Entered::Refused(why);
     }
     enter(table, count, mass, name)

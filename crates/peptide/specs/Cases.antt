@@ -9,17 +9,17 @@ use lib.ListN.{take, replicate}
 use Rattle.records.specs.Le.{numberAt}
 use Rattle.records.specs.Cases.{Case, Hold, refused}
 use Rattle.records.specs.Refusals.{numberOf, placeOf}
-use Rattle.records.specs.declared.refusal.Checked.{Checked}
+use Rattle.records.specs.declared.refusal.Tested.{Tested}
 use Rattle.records.specs.Search.{seek}
 use Rattle.letters.specs.Letters.{isLetter, firstBad}
-use Rattle.choice_parts.specs.Choices.{choicesOf, bySize, keep}
-use Rattle.peptide_parts.specs.Sites.{ifHit, hitFrom, placesOf, slotsOf, sitesFrom, allSites}
-use Rattle.peptide_parts.specs.Filling.{apply}
-use Rattle.peptide_parts.specs.Mirror.{allZero}
-use Rattle.forms_parts.specs.Passing.{free, uses, slotsOnce, inLimits, passes}
-use Rattle.forms_parts.specs.Enumeration.{noCap, accepted, choices, chosen, formOf}
-use Rattle.peptide.specs.declared.peptide.Peptide.{Peptide}
-use Rattle.peptide.specs.declared.peptide.Made.{Made}
+use Rattle.peptide_choices.specs.Choices.{choicesOf, bySize, keep}
+use Rattle.peptide_slots.specs.Sites.{ifHit, hitFrom, placesOf, slotsOf, sitesFrom, allSites}
+use Rattle.peptide_slots.specs.Filling.{apply}
+use Rattle.peptide_slots.specs.Mirror.{allZero}
+use Rattle.peptide_forms.specs.Passing.{free, uses, slotsOnce, inLimits, passes}
+use Rattle.peptide_forms.specs.Enumeration.{noCap, accepted, choices, chosen, formOf}
+use Rattle.peptide.specs.declared.making.Peptide.{Peptide}
+use Rattle.peptide.specs.declared.making.Made.{Made}
 use Rattle.peptide.specs.Peptides.{clear, testedContents, testedForm, given, madeOfForm}
 use Rattle.peptide.specs.Forms.{formsOf}
 
@@ -42,11 +42,11 @@ forming position variable fixed limit cap want = record { got = map (take 5) (fo
 
 -- refusal 0 is none, and then come the length and the first five slots
 abbrev told : Made → List ℕ
-told made = go (made .checked) (made .peptide)
+told made = go (made .tested) (made .peptide)
   where
-    go : Checked → Peptide → List ℕ
-    go Checked.Passed p = 0 ∷ 0 ∷ p .len ∷ p .nterm ∷ p .cterm ∷ take 3 (p .ids)
-    go (Checked.Refused why) p = refused (numberOf why) (placeOf why)
+    go : Tested → Peptide → List ℕ
+    go Tested.Passed p = 0 ∷ 0 ∷ p .len ∷ p .nterm ∷ p .cterm ∷ take 3 (p .ids)
+    go (Tested.Refused why) p = refused (numberOf why) (placeOf why)
 
 -- letters with a form and a position
 abbrev making : List ℕ → List ℕ → ℕ → List ℕ → Case

@@ -12,26 +12,26 @@ use native.Mathlib.Nat.{min-le-right}
 use borrow.Author.Tests.{leb-true, lt-ltb, le-ltb, ltb-false, eqb-true, not-false}
 use Rattle.records.specs.declared.refusal.Refusal.{Refusal}
 use Rattle.records.specs.declared.refusal.Refusal.the-variants.{Size, Length, Field, Room}
-use Rattle.records.specs.declared.refusal.Checked.{Checked}
+use Rattle.records.specs.declared.refusal.Tested.{Tested}
 use Rattle.records.specs.Outcome.{outcome, only}
 use Rattle.records.specs.Room.{roomOf, fits}
 use Rattle.records.specs.RoomLaws.{Sized, Standing, standing-none, standing-more, standing-full}
 use Rattle.records.specs.Tests.{both, neither}
 use Rattle.modification.specs.Rules.{firstBadRule}
-use Rattle.choice_parts.specs.Choices.{keep, bySize}
-use Rattle.choice_parts.specs.ListingLaws.{Complete, complete}
-use Rattle.peptide_parts.specs.Filling.{apply}
-use Rattle.peptide_parts.specs.Used.{used}
-use Rattle.peptide_parts.specs.FillLaws.{length-apply, filled-stays}
-use Rattle.peptide_parts.specs.Overlays.{overlay}
-use Rattle.peptide_parts.specs.OverlayLaws.{fixed-by-table}
-use Rattle.forms_parts.specs.declared.listing.Listed.{Listed}
-use Rattle.forms_parts.specs.Passing.{passes}
-use Rattle.forms_parts.specs.Enumeration.{mostForms, noCap, choices, chosen, formOf}
-use Rattle.forms_parts.specs.CapLaws.{accepted-all}
-use Rattle.forms_parts.specs.UsedLaws.{choices-used}
-use Rattle.forms_parts.specs.RunLaws.{todo, quick, length-quick, Finished}
-use Rattle.peptide.specs.declared.peptide.Peptide.{Peptide}
+use Rattle.peptide_choices.specs.Choices.{keep, bySize}
+use Rattle.peptide_choices.specs.ListingLaws.{Complete, complete}
+use Rattle.peptide_slots.specs.Filling.{apply}
+use Rattle.peptide_slots.specs.Used.{used}
+use Rattle.peptide_slots.specs.FillLaws.{length-apply, filled-stays}
+use Rattle.peptide_slots.specs.Overlays.{overlay}
+use Rattle.peptide_slots.specs.OverlayLaws.{fixed-by-table}
+use Rattle.peptide_forms.specs.declared.listing.Listed.{Listed}
+use Rattle.peptide_forms.specs.Passing.{passes}
+use Rattle.peptide_forms.specs.Enumeration.{mostForms, noCap, choices, chosen, formOf}
+use Rattle.peptide_forms.specs.CapLaws.{accepted-all}
+use Rattle.peptide_forms.specs.UsedLaws.{choices-used}
+use Rattle.peptide_forms.specs.RunLaws.{todo, quick, length-quick, Finished}
+use Rattle.peptide.specs.declared.making.Peptide.{Peptide}
 use Rattle.records.specs.declared.refusal.Counted.{Counted}
 use Rattle.records.specs.Tested.{andThen}
 use Rattle.peptide.specs.Peptides.{wrongSize, testedContents}
@@ -41,23 +41,23 @@ use Rattle.peptide.specs.Forms.{tooLarge, notWhole, testedLists, testedF
 -- ---- the records of both lists
 
 module _ (variable fixed : List ℕ) (v : ℕ) (first : v ≡ firstBadRule false variable) where
-  pub lists-variable : v < length variable / 8 → Checked.Refused (Field v) ≡ testedLists variable fixed
+  pub lists-variable : v < length variable / 8 → Tested.Refused (Field v) ≡ testedLists variable fixed
   unfolding testedLists
   lists-variable h = rw (first, lt-ltb (firstBadRule false variable) (length variable / 8) (subst (λ (x : ℕ). x < length variable / 8) first h))
 
   module _ (on : length variable / 8 ≤ v) (f : ℕ) (next : f ≡ firstBadRule true fixed) where
-    pub lists-fixed : f < length fixed / 8 → Checked.Refused (Field f) ≡ testedLists variable fixed
+    pub lists-fixed : f < length fixed / 8 → Tested.Refused (Field f) ≡ testedLists variable fixed
     unfolding testedLists
     lists-fixed h = rw (le-ltb (firstBadRule false variable) (length variable / 8) (subst (λ (x : ℕ). length variable / 8 ≤ x) first on), next, lt-ltb (firstBadRule true fixed) (length fixed / 8) (subst (λ (x : ℕ). x < length fixed / 8) next h))
 
-    pub lists-passed : length fixed / 8 ≤ f → Checked.Passed ≡ testedLists variable fixed
+    pub lists-passed : length fixed / 8 ≤ f → Tested.Passed ≡ testedLists variable fixed
     unfolding testedLists
     lists-passed h = rw (le-ltb (firstBadRule false variable) (length variable / 8) (subst (λ (x : ℕ). length variable / 8 ≤ x) first on), le-ltb (firstBadRule true fixed) (length fixed / 8) (subst (λ (x : ℕ). length fixed / 8 ≤ x) next h))
 
 -- ---- all tests
 
 module _ (p : Peptide) (variable fixed : List ℕ) (limit : ℕ) where
-  pub tested-large : tooLarge (p .len) variable fixed limit ≡ true → Checked.Refused Size ≡ testedForms p variable fixed limit
+  pub tested-large : tooLarge (p .len) variable fixed limit ≡ true → Tested.Refused Size ≡ testedForms p variable fixed limit
   unfolding testedForms
   tested-large e = rw e
 
@@ -69,16 +69,16 @@ module _ (p : Peptide) (variable fixed : List ℕ) (limit : ℕ) where
         let c = neither (wrongSize (p .len)) (ltb 16 (length variable / 8)) (b .0) in
         size-fits (p .len) (c .0)
 
-    pub tested-whole : notWhole variable fixed ≡ true → Checked.Refused Length ≡ testedForms p variable fixed limit
+    pub tested-whole : notWhole variable fixed ≡ true → Tested.Refused Length ≡ testedForms p variable fixed limit
     unfolding testedForms
     tested-whole e = rw (sized, e)
 
     module _ (whole : notWhole variable fixed ≡ false) where
-      pub tested-contents : (why : Refusal) → Checked.Refused why ≡ testedContents p → Checked.Refused why ≡ testedForms p variable fixed limit
+      pub tested-contents : (why : Refusal) → Tested.Refused why ≡ testedContents p → Tested.Refused why ≡ testedForms p variable fixed limit
       unfolding testedForms
       tested-contents why e = rw (sized, whole, ← e)
 
-      pub tested-lists : (r : Checked) → Checked.Passed ≡ testedContents p → r ≡ testedLists variable fixed → r ≡ testedForms p variable fixed limit
+      pub tested-lists : (r : Tested) → Tested.Passed ≡ testedContents p → r ≡ testedLists variable fixed → r ≡ testedForms p variable fixed limit
       unfolding testedForms
       tested-lists r e f = rw (sized, whole, ← e) f
 
@@ -94,23 +94,23 @@ module _ (p : Peptide) (variable fixed : List ℕ) (limit : ℕ) where
           (size-fits (p .len) (c .0), omega arith, omega arith, ltb-false 8 limit (a .1))
 
   -- what is known once they passed
-  pub passed-fit : testedForms p variable fixed limit ≡ Checked.Passed → (p .len ≤ 64) × (length variable ≤ 256) × (length fixed ≤ 256) × (limit ≤ 8)
+  pub passed-fit : testedForms p variable fixed limit ≡ Tested.Passed → (p .len ≤ 64) × (length variable ≤ 256) × (length fixed ≤ 256) × (limit ≤ 8)
   unfolding testedForms
   passed-fit h = go (tooLarge (p .len) variable fixed limit) refl (notWhole variable fixed) refl h
     where
       go : (x : Bool) → tooLarge (p .len) variable fixed limit ≡ x → (y : Bool) → notWhole variable fixed ≡ y
-          → cond x (Checked.Refused Size) (cond y (Checked.Refused Length) (andThen (testedContents p) (testedLists variable fixed))) ≡ Checked.Passed
+          → cond x (Tested.Refused Size) (cond y (Tested.Refused Length) (andThen (testedContents p) (testedLists variable fixed))) ≡ Tested.Passed
           → (p .len ≤ 64) × (length variable ≤ 256) × (length fixed ≤ 256) × (limit ≤ 8)
       go true e y f q = absurd (not-passed Size q)
       go false e true f q = absurd (not-passed Length q)
       go false e false f q = all-fit e f
 
   module _ (cap : ℕ) (old : List ℕ) where
-    pub forms-refused : (why : Refusal) → Checked.Refused why ≡ testedForms p variable fixed limit → outcome (Counted.Refused why) (old ∷ []) ≡ formsOutcome p variable fixed limit cap old
+    pub forms-refused : (why : Refusal) → Tested.Refused why ≡ testedForms p variable fixed limit → outcome (Counted.Refused why) (old ∷ []) ≡ formsOutcome p variable fixed limit cap old
     unfolding formsOutcome
     forms-refused why e = rw (← e)
 
-    pub forms-passed : Checked.Passed ≡ testedForms p variable fixed limit → listed old (formsOf p variable fixed limit cap) ≡ formsOutcome p variable fixed limit cap old
+    pub forms-passed : Tested.Passed ≡ testedForms p variable fixed limit → listed old (formsOf p variable fixed limit cap) ≡ formsOutcome p variable fixed limit cap old
     unfolding formsOutcome
     forms-passed e = rw (← e)
 

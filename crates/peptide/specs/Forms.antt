@@ -6,13 +6,13 @@ use mathlib.Core.List.{List, [], _∷_, map}
 use lib.ListN.{length}
 use lib.Dec.{ltb, eqb}
 use Rattle.records.specs.declared.refusal.Refusal.the-variants.{Size, Length, Field, Room}
-use Rattle.records.specs.declared.refusal.Checked.{Checked}
+use Rattle.records.specs.declared.refusal.Tested.{Tested}
 use Rattle.records.specs.Outcome.{Outcome, outcome, unlessRefused}
 use Rattle.records.specs.Room.{fits, fitted}
 use Rattle.modification.specs.Rules.{firstBadRule, mostRules}
-use Rattle.peptide_parts.specs.Sites.{allSites}
-use Rattle.forms_parts.specs.Enumeration.{mostForms, choices, formOf}
-use Rattle.peptide.specs.declared.peptide.Peptide.{Peptide}
+use Rattle.peptide_slots.specs.Sites.{allSites}
+use Rattle.peptide_forms.specs.Enumeration.{mostForms, choices, formOf}
+use Rattle.peptide.specs.declared.making.Peptide.{Peptide}
 use Rattle.records.specs.declared.refusal.Counted.{Counted}
 use Rattle.records.specs.Tested.{andThen}
 use Rattle.peptide.specs.Peptides.{wrongSize, testedContents}
@@ -28,17 +28,17 @@ abbrev pub notWhole : List ℕ → List ℕ → Bool
 notWhole variable fixed = not (eqb (length variable % 8) 0 && eqb (length fixed % 8) 0)
 
 -- 9: the first record that is no rule
-unfoldable pub testedLists : List ℕ → List ℕ → Checked
+unfoldable pub testedLists : List ℕ → List ℕ → Tested
 testedLists variable fixed =
-    cond (ltb (firstBadRule false variable) (length variable / 8)) (Checked.Refused (Field (firstBadRule false variable)))
-    (cond (ltb (firstBadRule true fixed) (length fixed / 8)) (Checked.Refused (Field (firstBadRule true fixed)))
-    Checked.Passed)
+    cond (ltb (firstBadRule false variable) (length variable / 8)) (Tested.Refused (Field (firstBadRule false variable)))
+    (cond (ltb (firstBadRule true fixed) (length fixed / 8)) (Tested.Refused (Field (firstBadRule true fixed)))
+    Tested.Passed)
 
-unfoldable pub testedForms : Peptide → List ℕ → List ℕ → ℕ → Checked
+unfoldable pub testedForms : Peptide → List ℕ → List ℕ → ℕ → Tested
 unfolding testedContents testedLists
 testedForms p variable fixed limit =
-    cond (tooLarge (p .len) variable fixed limit) (Checked.Refused Size)
-    (cond (notWhole variable fixed) (Checked.Refused Length)
+    cond (tooLarge (p .len) variable fixed limit) (Tested.Refused Size)
+    (cond (notWhole variable fixed) (Tested.Refused Length)
     (andThen (testedContents p) (testedLists variable fixed)))
 
 -- ---- the forms

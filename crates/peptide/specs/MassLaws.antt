@@ -13,7 +13,7 @@ use lib.Ieee.{Float, fin, binary32, add, eq}
 use borrow.Author.Tests.{le-leb, lt-leb, lt-ltb, le-ltb, ltb-false, eqb-true, eq-eqb, ne-eqb, not-false}
 use Rattle.records.specs.declared.refusal.Refusal.{Refusal}
 use Rattle.records.specs.declared.refusal.Refusal.the-variants.{Size, Letter, Length, Field}
-use Rattle.records.specs.declared.refusal.Checked.{Checked}
+use Rattle.records.specs.declared.refusal.Tested.{Tested}
 use Rattle.records.specs.SearchLaws.{seek-before}
 use Rattle.records.specs.Tests.{neither}
 use Rattle.letters.specs.Letters.{isLetter}
@@ -42,21 +42,21 @@ noMassAt masses letters i = noMass masses (getD letters i 0)
 -- ---- the tests, one after the other
 
 module _ (letters : List ℕ) (masses : List Float) where
-  pub letters-size : wrongSize (length letters) ≡ true → Checked.Refused Size ≡ testedLetters letters masses
+  pub letters-size : wrongSize (length letters) ≡ true → Tested.Refused Size ≡ testedLetters letters masses
   unfolding testedLetters
   letters-size e = rw e
 
   module _ (sized : wrongSize (length letters) ≡ false) where
-    pub letters-length : (length masses ≡ 26 → ⊥) → Checked.Refused Length ≡ testedLetters letters masses
+    pub letters-length : (length masses ≡ 26 → ⊥) → Tested.Refused Length ≡ testedLetters letters masses
     unfolding testedLetters
     letters-length h = rw (sized, ne-eqb (length masses) 26 h)
 
     module _ (whole : length masses ≡ 26) (bad : ℕ) (first : bad ≡ firstNoMass masses letters) where
-      pub letters-letter : bad < length letters → Checked.Refused (Letter bad) ≡ testedLetters letters masses
+      pub letters-letter : bad < length letters → Tested.Refused (Letter bad) ≡ testedLetters letters masses
       unfolding testedLetters
       letters-letter h = rw (sized, eq-eqb (length masses) 26 whole, first, lt-ltb (firstNoMass masses letters) (length letters) (subst (λ (x : ℕ). x < length letters) first h))
 
-      pub letters-passed : length letters ≤ bad → Checked.Passed ≡ testedLetters letters masses
+      pub letters-passed : length letters ≤ bad → Tested.Passed ≡ testedLetters letters masses
       unfolding testedLetters
       letters-passed h = rw (sized, eq-eqb (length masses) 26 whole, le-ltb (firstNoMass masses letters) (length letters) (subst (λ (x : ℕ). length letters ≤ x) first h))
 
@@ -66,7 +66,7 @@ module _ (letters : List ℕ) (masses : List Float) where
     pub whole : length masses ≡ 26
     pub good : (i : ℕ) → i < length letters → (65 ≤ getD letters i 0) × (getD letters i 0 ≤ 90)
 
-  pub passed-weighable : testedLetters letters masses ≡ Checked.Passed → Weighable
+  pub passed-weighable : testedLetters letters masses ≡ Tested.Passed → Weighable
   unfolding testedLetters firstNoMass
   passed-weighable h = go (wrongSize (length letters)) refl (eqb (length masses) 26) refl (ltb (firstNoMass masses letters) (length letters)) refl h
     where
@@ -76,7 +76,7 @@ module _ (letters : List ℕ) (masses : List Float) where
           (letter-from (getD letters i 0) e, letter-to (getD letters i 0) e)
 
       go : (x : Bool) → wrongSize (length letters) ≡ x → (y : Bool) → eqb (length masses) 26 ≡ y → (z : Bool) → ltb (firstNoMass masses letters) (length letters) ≡ z
-          → cond x (Checked.Refused Size) (cond (not y) (Checked.Refused Length) (cond z (Checked.Refused (Letter (firstNoMass masses letters))) Checked.Passed)) ≡ Checked.Passed → Weighable
+          → cond x (Tested.Refused Size) (cond (not y) (Tested.Refused Length) (cond z (Tested.Refused (Letter (firstNoMass masses letters))) Tested.Passed)) ≡ Tested.Passed → Weighable
       go true e y f z g q = absurd (not-passed Size q)
       go false e false f z g q = absurd (not-passed Length q)
       go false e true f true g q = absurd (not-passed (Letter (firstNoMass masses letters)) q)
@@ -86,24 +86,24 @@ module _ (letters : List ℕ) (masses : List Float) where
 
 module _ (letters : List ℕ) (masses : List Float) where
   module _ (position : ℕ) where
-    pub part-letters : (why : Refusal) → Checked.Refused why ≡ testedLetters letters masses → Checked.Refused why ≡ testedPart letters masses position
+    pub part-letters : (why : Refusal) → Tested.Refused why ≡ testedLetters letters masses → Tested.Refused why ≡ testedPart letters masses position
     unfolding testedPart
     part-letters why e = rw (← e)
 
-    pub part-passed : Checked.Passed ≡ testedLetters letters masses → position ≤ 3 → Checked.Passed ≡ testedPart letters masses position
+    pub part-passed : Tested.Passed ≡ testedLetters letters masses → position ≤ 3 → Tested.Passed ≡ testedPart letters masses position
     unfolding testedPart
     part-passed e h = rw (← e, le-leb position 3 h)
 
-    pub part-field : Checked.Passed ≡ testedLetters letters masses → 3 < position → Checked.Refused (Field 0) ≡ testedPart letters masses position
+    pub part-field : Tested.Passed ≡ testedLetters letters masses → 3 < position → Tested.Refused (Field 0) ≡ testedPart letters masses position
     unfolding testedPart
     part-field e h = rw (← e, lt-leb position 3 h)
 
   module _ (water : Float) where
-    pub weighed-refused : (why : Refusal) → Checked.Refused why ≡ testedLetters letters masses → Weighed.Refused why ≡ weighed letters masses water
+    pub weighed-refused : (why : Refusal) → Tested.Refused why ≡ testedLetters letters masses → Weighed.Refused why ≡ weighed letters masses water
     unfolding weighed
     weighed-refused why e = rw (← e)
 
-    pub weighed-passed : Checked.Passed ≡ testedLetters letters masses → Weighed.Mass (addAll masses water letters) ≡ weighed letters masses water
+    pub weighed-passed : Tested.Passed ≡ testedLetters letters masses → Weighed.Mass (addAll masses water letters) ≡ weighed letters masses water
     unfolding weighed
     weighed-passed e = rw (← e)
 

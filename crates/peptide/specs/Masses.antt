@@ -8,7 +8,7 @@ use lib.Dec.{leb, ltb, eqb}
 use lib.IntN.{pos}
 use lib.Ieee.{Float, nan, fin, binary32, add, eq}
 use Rattle.records.specs.declared.refusal.Refusal.the-variants.{Size, Letter, Length, Field}
-use Rattle.records.specs.declared.refusal.Checked.{Checked}
+use Rattle.records.specs.declared.refusal.Tested.{Tested}
 use Rattle.records.specs.Search.{seek}
 use Rattle.letters.specs.Letters.{isLetter}
 use Rattle.peptide.specs.declared.mass.Weighed.{Weighed}
@@ -37,24 +37,24 @@ unfolding seek noMass
 firstNoMass masses letters = seek (λ (i : ℕ). noMass masses (getD letters i 0)) 0 (length letters)
 
 -- 1, 8: the masses are not 26, 2
-unfoldable pub testedLetters : List ℕ → List Float → Checked
+unfoldable pub testedLetters : List ℕ → List Float → Tested
 unfolding firstNoMass
 testedLetters letters masses =
-    cond (wrongSize (length letters)) (Checked.Refused Size)
-    (cond (not (eqb (length masses) 26)) (Checked.Refused Length)
-    (cond (ltb (firstNoMass masses letters) (length letters)) (Checked.Refused (Letter (firstNoMass masses letters)))
-    Checked.Passed))
+    cond (wrongSize (length letters)) (Tested.Refused Size)
+    (cond (not (eqb (length masses) 26)) (Tested.Refused Length)
+    (cond (ltb (firstNoMass masses letters) (length letters)) (Tested.Refused (Letter (firstNoMass masses letters)))
+    Tested.Passed))
 
 -- and 9: the position is none of the four
-unfoldable pub testedPart : List ℕ → List Float → ℕ → Checked
+unfoldable pub testedPart : List ℕ → List Float → ℕ → Tested
 unfolding testedLetters
-testedPart letters masses position = andThen (testedLetters letters masses) (cond (leb position 3) Checked.Passed (Checked.Refused (Field 0)))
+testedPart letters masses position = andThen (testedLetters letters masses) (cond (leb position 3) Tested.Passed (Tested.Refused (Field 0)))
 
 -- ---- the answer
 
-abbrev pub weighedOr : Checked → Float → Weighed
-weighedOr Checked.Passed mass = Weighed.Mass mass
-weighedOr (Checked.Refused why) mass = Weighed.Refused why
+abbrev pub weighedOr : Tested → Float → Weighed
+weighedOr Tested.Passed mass = Weighed.Mass mass
+weighedOr (Tested.Refused why) mass = Weighed.Refused why
 
 unfoldable pub weighed : List ℕ → List Float → Float → Weighed
 unfolding testedLetters addAll

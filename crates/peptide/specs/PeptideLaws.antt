@@ -9,84 +9,84 @@ use lib.Dec.{ltb, eqb}
 use borrow.Author.Tests.{lt-ltb, le-ltb, ltb-false, eq-eqb, ne-eqb}
 use Rattle.records.specs.declared.refusal.Refusal.{Refusal}
 use Rattle.records.specs.declared.refusal.Refusal.the-variants.{Size, Letter, Length, Field}
-use Rattle.records.specs.declared.refusal.Checked.{Checked}
+use Rattle.records.specs.declared.refusal.Tested.{Tested}
 use Rattle.records.specs.Tests.{neither}
 use Rattle.records.specs.Tested.{passed-first, passed-second}
 use Rattle.letters.specs.Letters.{firstBad}
-use Rattle.peptide_parts.specs.Mirror.{mirror}
-use Rattle.peptide_parts.specs.MirrorLaws.{mirror-mirror}
-use Rattle.peptide.specs.declared.peptide.Peptide.{Peptide}
+use Rattle.peptide_slots.specs.Mirror.{mirror}
+use Rattle.peptide_slots.specs.MirrorLaws.{mirror-mirror}
+use Rattle.peptide.specs.declared.making.Peptide.{Peptide}
 use Rattle.peptide.specs.Peptides.{wrongSize, lettersOf, clear, testedContents, testedPeptide, testedForm, given, none, madeOr, madeOfForm, reversed}
 
 pub size-fits : (n : ℕ) → wrongSize n ≡ false → n ≤ 64
 size-fits n h = ltb-false 64 n (neither (eqb n 0) (ltb 64 n) h .1)
 
 -- a test that refuses is no test that passes
-pub not-passed : (why : Refusal) → Checked.Refused why ≡ Checked.Passed → ⊥
+pub not-passed : (why : Refusal) → Tested.Refused why ≡ Tested.Passed → ⊥
 not-passed why e = true≢false (sym (ap refuses e))
   where
-    refuses : Checked → Bool
-    refuses Checked.Passed = true
-    refuses (Checked.Refused why) = false
+    refuses : Tested → Bool
+    refuses Tested.Passed = true
+    refuses (Tested.Refused why) = false
 
 module _ (p : Peptide) where
   module _ (bad : ℕ) (first : bad ≡ firstBad (lettersOf p)) where
-    pub contents-letter : bad < p .len → Checked.Refused (Letter bad) ≡ testedContents p
+    pub contents-letter : bad < p .len → Tested.Refused (Letter bad) ≡ testedContents p
     unfolding testedContents
     contents-letter h = rw (first, lt-ltb (firstBad (lettersOf p)) (p .len) (subst (λ (x : ℕ). x < p .len) first h))
 
-    pub contents-clear : p .len ≤ bad → clear p ≡ true → Checked.Passed ≡ testedContents p
+    pub contents-clear : p .len ≤ bad → clear p ≡ true → Tested.Passed ≡ testedContents p
     unfolding testedContents
     contents-clear h e = rw (le-ltb (firstBad (lettersOf p)) (p .len) (subst (λ (x : ℕ). p .len ≤ x) first h), e)
 
-    pub contents-field : p .len ≤ bad → clear p ≡ false → Checked.Refused (Field 0) ≡ testedContents p
+    pub contents-field : p .len ≤ bad → clear p ≡ false → Tested.Refused (Field 0) ≡ testedContents p
     unfolding testedContents
     contents-field h e = rw (le-ltb (firstBad (lettersOf p)) (p .len) (subst (λ (x : ℕ). p .len ≤ x) first h), e)
 
-  pub tested-size : wrongSize (p .len) ≡ true → Checked.Refused Size ≡ testedPeptide p
+  pub tested-size : wrongSize (p .len) ≡ true → Tested.Refused Size ≡ testedPeptide p
   unfolding testedPeptide
   tested-size e = rw e
 
-  pub tested-on : (r : Checked) → wrongSize (p .len) ≡ false → r ≡ testedContents p → r ≡ testedPeptide p
+  pub tested-on : (r : Tested) → wrongSize (p .len) ≡ false → r ≡ testedContents p → r ≡ testedPeptide p
   unfolding testedPeptide
   tested-on r e f = f ∙ rw e
 
-  pub passed-fits : testedPeptide p ≡ Checked.Passed → p .len ≤ 64
+  pub passed-fits : testedPeptide p ≡ Tested.Passed → p .len ≤ 64
   unfolding testedPeptide
   passed-fits h = go (wrongSize (p .len)) refl h
     where
-      go : (b : Bool) → wrongSize (p .len) ≡ b → cond b (Checked.Refused Size) (testedContents p) ≡ Checked.Passed → p .len ≤ 64
+      go : (b : Bool) → wrongSize (p .len) ≡ b → cond b (Tested.Refused Size) (testedContents p) ≡ Tested.Passed → p .len ≤ 64
       go true e f = absurd (not-passed Size f)
       go false e f = size-fits (p .len) e
 
 -- ---- a peptide and its form
 
 module _ (form : List ℕ) (p : Peptide) where
-  pub form-size : wrongSize (p .len) ≡ true → Checked.Refused Size ≡ testedForm form p
+  pub form-size : wrongSize (p .len) ≡ true → Tested.Refused Size ≡ testedForm form p
   unfolding testedForm
   form-size e = rw e
 
   module _ (fits : wrongSize (p .len) ≡ false) where
-    pub form-length : (length form ≡ 66 → ⊥) → Checked.Refused Length ≡ testedForm form p
+    pub form-length : (length form ≡ 66 → ⊥) → Tested.Refused Length ≡ testedForm form p
     unfolding testedForm
     form-length h = rw (fits, ne-eqb (length form) 66 h)
 
-    pub form-contents : length form ≡ 66 → (r : Checked) → r ≡ testedContents p → r ≡ testedForm form p
+    pub form-contents : length form ≡ 66 → (r : Tested) → r ≡ testedContents p → r ≡ testedForm form p
     unfolding testedForm
     form-contents h r e = e ∙ rw (fits, eq-eqb (length form) 66 h)
 
   -- a peptide that passes with its form passes alone: the other entries take what is made of a form
-  pub form-passes : testedForm form p ≡ Checked.Passed → testedPeptide p ≡ Checked.Passed
+  pub form-passes : testedForm form p ≡ Tested.Passed → testedPeptide p ≡ Tested.Passed
   unfolding testedForm testedPeptide
   form-passes h =
-      let a = passed-first (wrongSize (p .len)) Size (cond (eqb (length form) 66) (testedContents p) (Checked.Refused Length)) h in
+      let a = passed-first (wrongSize (p .len)) Size (cond (eqb (length form) 66) (testedContents p) (Tested.Refused Length)) h in
       rw (a .0) (passed-second (eqb (length form) 66) Length (testedContents p) (a .1) .1)
 
 -- what the tests of a form answer decides which peptide is handed out
-pub made-of-form : (letters form : List ℕ) (position : ℕ) (decoy : Bool) (t : Checked) (p q : Peptide)
+pub made-of-form : (letters form : List ℕ) (position : ℕ) (decoy : Bool) (t : Tested) (p q : Peptide)
     → t ≡ testedForm form p → p ≡ given letters form position decoy → q ≡ none → madeOr t p q ≡ madeOfForm letters form position decoy
 made-of-form letters form position decoy t p q e f g =
-    ap (λ (x : Checked). madeOr x p q) e ∙ ap₂ (λ (x y : Peptide). madeOr (testedForm form x) x y) f g
+    ap (λ (x : Tested). madeOr x p q) e ∙ ap₂ (λ (x y : Peptide). madeOr (testedForm form x) x y) f g
 
 -- ---- reversal
 

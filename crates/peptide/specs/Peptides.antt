@@ -7,12 +7,12 @@ use mathlib.Core.List.{List, []}
 use lib.ListN.{length, getD, take, drop}
 use lib.Dec.{leb, ltb, eqb}
 use Rattle.records.specs.declared.refusal.Refusal.the-variants.{Size, Letter, Length, Field}
-use Rattle.records.specs.declared.refusal.Checked.{Checked}
+use Rattle.records.specs.declared.refusal.Tested.{Tested}
 use Rattle.letters.specs.Letters.{firstBad}
-use Rattle.peptide_parts.specs.Mirror.{mirror, allZero}
-use Rattle.peptide_parts.specs.Windows.{window}
-use Rattle.peptide.specs.declared.peptide.Peptide.{Peptide}
-use Rattle.peptide.specs.declared.peptide.Made.{Made}
+use Rattle.peptide_slots.specs.Mirror.{mirror, allZero}
+use Rattle.peptide_slots.specs.Windows.{window}
+use Rattle.peptide.specs.declared.making.Peptide.{Peptide}
+use Rattle.peptide.specs.declared.making.Made.{Made}
 
 -- ---- the tests
 
@@ -30,27 +30,27 @@ unfolding allZero
 clear p = allZero (drop (p .len) (p .letters)) && allZero (drop (p .len) (p .ids)) && leb (p .position) 3
 
 -- 2: a byte that is no letter, its index; 9: what does not lie clear
-unfoldable pub testedContents : Peptide → Checked
+unfoldable pub testedContents : Peptide → Tested
 unfolding firstBad clear
 testedContents p =
-    cond (ltb (firstBad (lettersOf p)) (p .len)) (Checked.Refused (Letter (firstBad (lettersOf p))))
-    (cond (clear p) Checked.Passed (Checked.Refused (Field 0)))
+    cond (ltb (firstBad (lettersOf p)) (p .len)) (Tested.Refused (Letter (firstBad (lettersOf p))))
+    (cond (clear p) Tested.Passed (Tested.Refused (Field 0)))
 
-unfoldable pub testedPeptide : Peptide → Checked
+unfoldable pub testedPeptide : Peptide → Tested
 unfolding testedContents
-testedPeptide p = cond (wrongSize (p .len)) (Checked.Refused Size) (testedContents p)
+testedPeptide p = cond (wrongSize (p .len)) (Tested.Refused Size) (testedContents p)
 
 -- a peptide and the form that its ids came from: 1, 8: the form is not one record, 2, 9
-unfoldable pub testedForm : List ℕ → Peptide → Checked
+unfoldable pub testedForm : List ℕ → Peptide → Tested
 unfolding testedContents
 testedForm form p =
-    cond (wrongSize (p .len)) (Checked.Refused Size)
-    (cond (eqb (length form) 66) (testedContents p) (Checked.Refused Length))
+    cond (wrongSize (p .len)) (Tested.Refused Size)
+    (cond (eqb (length form) 66) (testedContents p) (Tested.Refused Length))
 
 -- the new peptide where the tests passed, else the other
-abbrev pub madeOr : Checked → Peptide → Peptide → Made
-madeOr Checked.Passed new other = record { checked = Checked.Passed; peptide = new }
-madeOr (Checked.Refused why) new other = record { checked = Checked.Refused why; peptide = other }
+abbrev pub madeOr : Tested → Peptide → Peptide → Made
+madeOr Tested.Passed new other = record { tested = Tested.Passed; peptide = new }
+madeOr (Tested.Refused why) new other = record { tested = Tested.Refused why; peptide = other }
 
 -- ---- peptides
 

@@ -1,19 +1,19 @@
 // The forms of a peptide.
-use crate::peptide::Peptide;
+use crate::making::Peptide;
 use crate::tests;
-use peptide_parts::Form;
-use records::Checked;
+use peptide_slots::Form;
 use records::Counted;
 use records::Refusal;
+use records::Tested;
 ghost use mathlib.Core.Path.{_≡_};
 ghost use mathlib.Core.List.{List, [], _∷_, map};
 ghost use Prim.Native.Nat.{_≤_};
 ghost use lib.ListN.{length, replicate};
 ghost use Rattle.records.specs.Outcome.{outcome};
-ghost use Rattle.peptide_parts.specs.Sites.{allSites};
-ghost use Rattle.peptide_parts.specs.Filling.{apply};
-ghost use Rattle.forms_parts.specs.Enumeration.{choices};
-ghost use Rattle.forms_parts.specs.RunLaws.{quick};
+ghost use Rattle.peptide_slots.specs.Sites.{allSites};
+ghost use Rattle.peptide_slots.specs.Filling.{apply};
+ghost use Rattle.peptide_forms.specs.Enumeration.{choices};
+ghost use Rattle.peptide_forms.specs.RunLaws.{quick};
 ghost use Rattle.peptide.specs.Forms.{formsOf, listed, formsOutcome};
 
 // What the fixed rules put into an empty form.
@@ -22,9 +22,9 @@ fn fixed_table(letters: [u8; 64], n: usize, position: u8, fixed: &[u8]) -> Form
     ensures { λ r. ⌜ r .slots ≡ apply (now (fixed .entry)) (replicate 66 0) (allSites letters n position (now (fixed .entry))) ⌝ }
 {
     let mut sites = [0u16; 2112];
-    let m = peptide_parts::collect(letters, n, position, fixed, &mut sites);
-    let empty = peptide_parts::empty();
-    peptide_parts::with_all(empty, &sites[0..m], fixed)
+    let m = peptide_slots::collect(letters, n, position, fixed, &mut sites);
+    let empty = peptide_slots::empty();
+    peptide_slots::with_all(empty, &sites[0..m], fixed)
 }
 
 // All forms, the unchanged one first: it is written whatever the cap.
@@ -45,9 +45,9 @@ fn list_all(
     if room == 0 {
         return Counted::Refused(Refusal::Room);
     }
-    let first = peptide_parts::overlaid(table, bare);
-    peptide_parts::put_form(first, out, 0);
-    let r = forms_parts::list_forms(bare, table, sites, rules, limit, most, room, out);
+    let first = peptide_slots::overlaid(table, bare);
+    peptide_slots::put_form(first, out, 0);
+    let r = peptide_forms::list_forms(bare, table, sites, rules, limit, most, room, out);
     if r.fits {
         let count = r.count as u32;
         return Counted::Count(count);
@@ -65,9 +65,9 @@ fn run(p: Peptide, variable: &[u8], fixed: &[u8], limit: u32, cap: u32, out: &mu
     let ids = p.ids;
     let position = p.position;
     let table = fixed_table(letters, n, position, fixed);
-    let bare = peptide_parts::bare(p.nterm, p.cterm, ids);
+    let bare = peptide_slots::bare(p.nterm, p.cterm, ids);
     let mut sites = [0u16; 2112];
-    let m = peptide_parts::collect_used(letters, n, position, variable, &mut sites);
+    let m = peptide_slots::collect_used(letters, n, position, variable, &mut sites);
     let most = limit as usize;
     list_all(bare, table, &sites[0..m], variable, most, cap, out)
 }
@@ -85,7 +85,7 @@ impl Peptide {
     ) -> Counted
         ensures { λ r. ⌜ outcome r (now (out .exit) ∷ []) ≡ formsOutcome self (now (variable .entry)) (now (fixed .entry)) limit cap (now (out .entry)) ⌝ }
     {
-        if let Checked::Refused(why) = tests::test_forms(self, variable, fixed, limit) {
+        if let Tested::Refused(why) = tests::test_forms(self, variable, fixed, limit) {
             return Counted::Refused(why);
         }
         run(self, variable, fixed, limit, cap, out)

@@ -1,6 +1,6 @@
 // The base mass.
-use records::Checked;
 use records::Refusal;
+use records::Tested;
 ghost use mathlib.Core.Path.{_≡_};
 ghost use Prim.Native.Nat.{ℕ, _≤_, _<_};
 ghost use lib.ListN.{length, getD};
@@ -40,34 +40,34 @@ fn first_no_mass(letters: &[u8], masses: &[f32]) -> usize
 }
 
 // The tests of letters that are weighed.
-fn test_letters(letters: &[u8], masses: &[f32]) -> Checked
+fn test_letters(letters: &[u8], masses: &[f32]) -> Tested
     ensures { λ r. ⌜ r ≡ testedLetters (now (letters .entry)) (now (masses .entry)) ⌝ }
 {
     let n = letters.len();
     if (n == 0) | (64 < n) {
-        return Checked::Refused(Refusal::Size);
+        return Tested::Refused(Refusal::Size);
     }
     if masses.len() != 26 {
-        return Checked::Refused(Refusal::Length);
+        return Tested::Refused(Refusal::Length);
     }
     let bad = first_no_mass(letters, masses);
     if bad < n {
-        return Checked::Refused(Refusal::Letter(bad));
+        return Tested::Refused(Refusal::Letter(bad));
     }
-    Checked::Passed
+    Tested::Passed
 }
 
 // The tests of a part of a protein that becomes a peptide.
-pub(crate) fn test_part(part: &[u8], masses: &[f32], position: u8) -> Checked
+pub(crate) fn test_part(part: &[u8], masses: &[f32], position: u8) -> Tested
     ensures { λ r. ⌜ r ≡ testedPart (now (part .entry)) (now (masses .entry)) position ⌝ }
 {
-    if let Checked::Refused(why) = test_letters(part, masses) {
-        return Checked::Refused(why);
+    if let Tested::Refused(why) = test_letters(part, masses) {
+        return Tested::Refused(why);
     }
     if position <= 3 {
-        Checked::Passed
+        Tested::Passed
     } else {
-        Checked::Refused(Refusal::Field(0))
+        Tested::Refused(Refusal::Field(0))
     }
 }
 
@@ -91,7 +91,7 @@ fn sum(letters: &[u8], masses: &[f32], water: f32) -> f32
 pub fn base_mass(letters: &[u8], masses: &[f32], water: f32) -> Weighed
     ensures { λ r. ⌜ r ≡ weighed (now (letters .entry)) (now (masses .entry)) water ⌝ }
 {
-    if let Checked::Refused(why) = test_letters(letters, masses) {
+    if let Tested::Refused(why) = test_letters(letters, masses) {
         return Weighed::Refused(why);
     }
     Weighed::Mass(sum(letters, masses, water))

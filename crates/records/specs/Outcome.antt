@@ -3,7 +3,7 @@ use mathlib.Core.Path.{_≡_, sym, ap, _∙_}
 use mathlib.Core.List.{List}
 use Prim.Native.Nat.{ℕ}
 use Rattle.records.specs.declared.refusal.Refusal.{Refusal}
-use Rattle.records.specs.declared.refusal.Checked.{Checked}
+use Rattle.records.specs.declared.refusal.Tested.{Tested}
 
 pub record Outcome (A : Type 0) : Type 0 where
   pub answer : A
@@ -13,9 +13,9 @@ abbrev pub outcome : {A : Type 0} → A → List (List ℕ) → Outcome A
 outcome r lent = record { answer = r; lent = lent }
 
 -- what tests refuse is said in the answer and leaves what was lent as it was; what passes them is done
-abbrev pub unlessRefused : {A : Type 0} → Checked → (Refusal → A) → List (List ℕ) → Outcome A → Outcome A
-unlessRefused Checked.Passed say old done = done
-unlessRefused (Checked.Refused why) say old done = outcome (say why) old
+abbrev pub unlessRefused : {A : Type 0} → Tested → (Refusal → A) → List (List ℕ) → Outcome A → Outcome A
+unlessRefused Tested.Passed say old done = done
+unlessRefused (Tested.Refused why) say old done = outcome (say why) old
 
 -- a contract that equals an outcome admits no second answer and no second contents
 pub only : {A : Type 0} (r q : A) (k l : List (List ℕ)) (o : Outcome A) → outcome r k ≡ o → outcome q l ≡ o → (r ≡ q) × (k ≡ l)

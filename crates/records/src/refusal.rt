@@ -1,6 +1,7 @@
 // What a call says no with.
 ghost use mathlib.Core.Path.{_≡_};
 ghost use Rattle.records.specs.Refusals.{numberOf, placeOf};
+ghost use Rattle.records.specs.Tested.{fieldTested};
 
 // One case for each number of document 01's table, its place where that is not always 0.
 pub enum Refusal {
@@ -83,7 +84,18 @@ pub enum Counted {
 }
 
 // What the tests of an entry find: the first refusal, or none.
-pub enum Checked {
+pub enum Tested {
     Passed,
     Refused(Refusal),
+}
+
+// What the first bad field of so many says: its place, or nothing where it is the count.
+pub fn field_tested(bad: usize, count: usize) -> Tested
+    ensures { λ r. ⌜ r ≡ fieldTested bad count ⌝ }
+{
+    if bad < count {
+        Tested::Refused(Refusal::Field(bad))
+    } else {
+        Tested::Passed
+    }
 }

@@ -6,18 +6,18 @@ use enzyme::Kind;
 use enzyme::Settings;
 use enzyme::Side;
 use letters::LetterSet;
-use lines_parts::Tally;
-use lines_parts::behind;
-use lines_parts::decimal;
-use lines_parts::field;
-use lines_parts::hex;
-use lines_parts::letter_count;
-use lines_parts::line_end;
-use lines_parts::more;
-use lines_parts::small;
 use records::Counted;
 use records::byte_at;
 use records::u32_at;
+use text_lines::Tally;
+use text_lines::behind;
+use text_lines::decimal;
+use text_lines::field;
+use text_lines::hex;
+use text_lines::letter_count;
+use text_lines::line_end;
+use text_lines::more;
+use text_lines::small;
 
 fn set_at(line: &[u8], k: usize) -> LetterSet {
     let mask = hex(line, field(line, k));

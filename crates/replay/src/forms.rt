@@ -1,20 +1,20 @@
 // Forms. A line is the letters, their ids in hexadecimal, the ids of the ends, the position, the variable and the fixed
 // rules in hexadecimal or `-` for none, the limit, the cap, the number of the Rust's forms, and these in hexadecimal: the
 // ids of the ends, then of the letters.
-use lines_parts::Tally;
-use lines_parts::behind;
-use lines_parts::decimal;
-use lines_parts::field;
-use lines_parts::from_hex;
-use lines_parts::letter_count;
-use lines_parts::line_end;
-use lines_parts::more;
-use lines_parts::small;
-use lines_parts::unhex;
 use peptide::Peptide;
 use records::Counted;
 use records::byte_at;
 use records::put_byte;
+use text_lines::Tally;
+use text_lines::behind;
+use text_lines::decimal;
+use text_lines::field;
+use text_lines::from_hex;
+use text_lines::letter_count;
+use text_lines::line_end;
+use text_lines::more;
+use text_lines::small;
+use text_lines::unhex;
 ghost use mathlib.Core.Path.{_≡_};
 ghost use Prim.Native.Nat.{_≤_, _<_};
 ghost use lib.ListN.{length};

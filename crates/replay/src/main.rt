@@ -7,7 +7,7 @@ mod masses;
 mod rules;
 mod table;
 
-use lines_parts::load;
+use text_lines::load;
 
 fn replay_rules(buffer: &mut [u8]) {
     let n = load(b"rules.txt", buffer);

@@ -1,11 +1,11 @@
 // Base masses. A line is the letters, and the bits of the mass that the Rust gives them, in hexadecimal.
-use lines_parts::Tally;
-use lines_parts::field;
-use lines_parts::hex;
-use lines_parts::letter_count;
-use lines_parts::line_end;
-use lines_parts::more;
 use peptide::Weighed;
+use text_lines::Tally;
+use text_lines::field;
+use text_lines::hex;
+use text_lines::letter_count;
+use text_lines::line_end;
+use text_lines::more;
 
 // The Rust's masses of A to Z, and of water.
 const MASSES: [f32; 26] = [

@@ -1,13 +1,13 @@
 // Rule texts. A line is the text in hexadecimal or `-` for an empty one, then the number, the place, the kind and the letter
 // that the Rust's answer comes to.
 use letters::LetterSet;
-use lines_parts::Tally;
-use lines_parts::decimal;
-use lines_parts::field;
-use lines_parts::line_end;
-use lines_parts::more;
-use lines_parts::unhex;
 use modification::Parsed;
+use text_lines::Tally;
+use text_lines::decimal;
+use text_lines::field;
+use text_lines::line_end;
+use text_lines::more;
+use text_lines::unhex;
 
 // The letters that the Rust takes: all but B, J, X and Z.
 const ALPHABET: LetterSet = LetterSet { mask: 0x017f_fdfd };

@@ -1,12 +1,12 @@
 // Tables of modifications. A line `N` begins an empty table; `I mass name id` is an insertion: the mass's bits and the name's
 // number in hexadecimal, and the id that the Rust gave, or 0 where it refused a 256th.
-use lines_parts::Tally;
-use lines_parts::decimal;
-use lines_parts::field;
-use lines_parts::hex;
-use lines_parts::line_end;
-use lines_parts::more;
 use modification::Entered;
+use text_lines::Tally;
+use text_lines::decimal;
+use text_lines::field;
+use text_lines::hex;
+use text_lines::line_end;
+use text_lines::more;
 
 // The id that the library gives, or 0.
 fn id_of(entered: Entered) -> u32 {

@@ -1,16 +1,16 @@
 // Covers. A line is the number of groups, that of meta-peptides, the edges as `group.meta`, divided by `;`, and the marks as
 // digits; `-` stands for none.
-use fields_parts::are_marks;
-use fields_parts::group_count;
-use fields_parts::is_held;
-use fields_parts::is_zero;
-use fields_parts::meta_count;
-use fields_parts::records_at;
-use fields_parts::too_large;
-use lines_parts::Tally;
-use lines_parts::line_end;
-use lines_parts::more;
 use records::Counted;
+use text_fields::are_marks;
+use text_fields::group_count;
+use text_fields::is_held;
+use text_fields::is_zero;
+use text_fields::meta_count;
+use text_fields::records_at;
+use text_fields::too_large;
+use text_lines::Tally;
+use text_lines::line_end;
+use text_lines::more;
 
 // Whether the library covers as the Rust did: 3,136 numbers of work memory are enough for 200 groups and 200
 // meta-peptides with 256 edges.

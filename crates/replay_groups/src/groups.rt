@@ -2,22 +2,22 @@
 // letters, the digest records in hexadecimal, the number of the Rust's groups, these as `reference.first.count`, divided by
 // `;`, where the reference is its number in the list of digests, and the numbers of their proteins. Buffers have room for one
 // record more than they hold, so that one too many is seen.
-use fields_parts::bytes_at;
-use fields_parts::is_zero;
-use fields_parts::names_at;
-use fields_parts::same_numbers;
-use fields_parts::too_large;
-use lines_parts::Tally;
-use lines_parts::content;
-use lines_parts::decimal;
-use lines_parts::field;
-use lines_parts::field_end;
-use lines_parts::line_end;
-use lines_parts::more;
-use lines_parts::numbers_at;
 use records::Counted;
 use records::u32_at;
-use sorting_parts::number_at;
+use sorting_merge::number_at;
+use text_fields::bytes_at;
+use text_fields::is_zero;
+use text_fields::names_at;
+use text_fields::same_numbers;
+use text_fields::too_large;
+use text_lines::Tally;
+use text_lines::content;
+use text_lines::decimal;
+use text_lines::field;
+use text_lines::field_end;
+use text_lines::line_end;
+use text_lines::more;
+use text_lines::numbers_at;
 
 // Whether record k begins with the 16 bytes of a digest.
 fn has_reference(digests: &[u8], reference: u32, groups: &[u8], k: u32) -> bool {
@@ -68,7 +68,7 @@ fn is_grouped(line: &[u8], names: &[u8], bounds: &[u32], letters: &[u8], digests
     let mut work = [1u32; 136];
     let mut groups = [0u8; 504];
     let mut proteins = [9u32; 21];
-    let answer = gathering::group_digests(
+    let answer = digest_groups::group_digests(
         names,
         bounds,
         letters,

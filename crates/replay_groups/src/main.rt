@@ -4,7 +4,7 @@ mod covers;
 mod groups;
 mod updates;
 
-use lines_parts::load;
+use text_lines::load;
 
 fn replay_groups(buffer: &mut [u8]) {
     let n = load(b"groups.txt", buffer);

@@ -1,17 +1,17 @@
 // Updates. A line is the number of groups, that of meta-peptides, the old and the new edges as `group.meta`, divided by `;`,
 // the marks given and those of the answer as digits; `-` stands for none.
-use fields_parts::are_marks;
-use fields_parts::group_count;
-use fields_parts::is_held;
-use fields_parts::is_zero;
-use fields_parts::marks_at;
-use fields_parts::meta_count;
-use fields_parts::records_at;
-use fields_parts::too_large;
-use lines_parts::Tally;
-use lines_parts::line_end;
-use lines_parts::more;
 use records::Counted;
+use text_fields::are_marks;
+use text_fields::group_count;
+use text_fields::is_held;
+use text_fields::is_zero;
+use text_fields::marks_at;
+use text_fields::meta_count;
+use text_fields::records_at;
+use text_fields::too_large;
+use text_lines::Tally;
+use text_lines::line_end;
+use text_lines::more;
 
 // The library's update: 4,672 numbers of work memory are enough for 200 groups and 200 meta-peptides with 512 edges.
 fn update(line: &[u8], old: &[u8], new: &[u8], work: &mut [u32], marks: &mut [u8]) -> Counted {

@@ -5,7 +5,7 @@ mod passes;
 mod proteins;
 mod reports;
 
-use lines_parts::load;
+use text_lines::load;
 
 fn replay_proteins(buffer: &mut [u8]) {
     let n = load(b"proteins.txt", buffer);

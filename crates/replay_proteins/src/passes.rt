@@ -1,24 +1,24 @@
 // Whole passes: groups of proteins, their cover, and the report lines of all peptides. A line is the names in hexadecimal, divided by
 // `;`, the flags of the peptides as digits, the pairs as `peptide.protein`, divided by `;`, the tag in hexadecimal, whether decoys
 // are generated, and the Rust's texts in hexadecimal, divided by `;`; `-` stands for none.
-use fields_parts::bytes_at;
-use fields_parts::count_of;
-use fields_parts::is_text;
-use fields_parts::marks_at;
-use fields_parts::names_at;
-use fields_parts::records_at;
-use fields_parts::too_large;
-use grouping::Grouped;
-use grouping::Sizes;
-use lines_parts::Tally;
-use lines_parts::decimal;
-use lines_parts::field;
-use lines_parts::item_end;
-use lines_parts::line_end;
-use lines_parts::more;
+use protein_groups::Grouped;
+use protein_groups::Sizes;
 use records::Counted;
 use records::u32_at;
-use reporting::Reported;
+use report_lines::Reported;
+use text_fields::bytes_at;
+use text_fields::count_of;
+use text_fields::is_text;
+use text_fields::marks_at;
+use text_fields::names_at;
+use text_fields::records_at;
+use text_fields::too_large;
+use text_lines::Tally;
+use text_lines::decimal;
+use text_lines::field;
+use text_lines::item_end;
+use text_lines::line_end;
+use text_lines::more;
 ghost use Prim.Native.Nat.{_+_, _≤_};
 ghost use lib.ListN.{length};
 ghost use Rattle.io.specs.Counts.{Counts};
@@ -63,7 +63,7 @@ fn is_written(
     let mut out = [7u8; 256];
     let t = bytes_at(line, 3, &mut tag);
     let generated = decimal(line, field(line, 4)) == 1;
-    let answer = reporting::report_line(
+    let answer = report_lines::report_line(
         names,
         members,
         marks,
@@ -215,7 +215,7 @@ fn is_passed(line: &[u8], names: &[u8], flags: &[u8], pairs: &[u8]) -> bool {
     let mut members = [0u8; 1560];
     let peptides = count_of(flags.len());
     let proteins = count_of(names.len() / 64);
-    let answer = grouping::group_proteins(
+    let answer = protein_groups::group_proteins(
         pairs,
         flags,
         peptides,

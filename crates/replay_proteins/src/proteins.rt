@@ -1,18 +1,18 @@
 // Groups of proteins. A line is the flags of the peptides as digits, the number of proteins, the pairs as `peptide.protein`, divided
 // by `;`, the numbers of the Rust's groups and meta-peptides, its edges as `group.meta` and its members as
 // `group.protein.decoy`, divided by `;`; `-` stands for none.
-use fields_parts::count_of;
-use fields_parts::is_zero;
-use fields_parts::marks_at;
-use fields_parts::records_at;
-use fields_parts::same_bytes;
-use fields_parts::too_large;
-use grouping::Grouped;
-use lines_parts::Tally;
-use lines_parts::decimal;
-use lines_parts::field;
-use lines_parts::line_end;
-use lines_parts::more;
+use protein_groups::Grouped;
+use text_fields::count_of;
+use text_fields::is_zero;
+use text_fields::marks_at;
+use text_fields::records_at;
+use text_fields::same_bytes;
+use text_fields::too_large;
+use text_lines::Tally;
+use text_lines::decimal;
+use text_lines::field;
+use text_lines::line_end;
+use text_lines::more;
 
 fn protein_count(line: &[u8]) -> u32 {
     decimal(line, field(line, 1))
@@ -37,7 +37,7 @@ fn is_grouped(line: &[u8], flags: &[u8], pairs: &[u8]) -> bool {
     let mut members = [7u8; 1560];
     let peptides = count_of(flags.len());
     let proteins = protein_count(line);
-    let answer = grouping::group_proteins(
+    let answer = protein_groups::group_proteins(
         pairs,
         flags,
         peptides,

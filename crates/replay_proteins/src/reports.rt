@@ -1,19 +1,19 @@
 // Report lines. A line is the names in hexadecimal, divided by `;`, the members as `group.protein.decoy`, divided by `;`, the marks as
 // digits, the peptide's proteins, divided by `.`, its flag, the tag in hexadecimal, whether decoys are generated, the number of the
 // Rust's groups and its text in hexadecimal; `-` stands for none.
-use fields_parts::bytes_at;
-use fields_parts::is_text;
-use fields_parts::marks_at;
-use fields_parts::names_at;
-use fields_parts::records_at;
-use fields_parts::too_large;
-use lines_parts::Tally;
-use lines_parts::decimal;
-use lines_parts::field;
-use lines_parts::line_end;
-use lines_parts::more;
-use lines_parts::numbers_at;
-use reporting::Reported;
+use report_lines::Reported;
+use text_fields::bytes_at;
+use text_fields::is_text;
+use text_fields::marks_at;
+use text_fields::names_at;
+use text_fields::records_at;
+use text_fields::too_large;
+use text_lines::Tally;
+use text_lines::decimal;
+use text_lines::field;
+use text_lines::line_end;
+use text_lines::more;
+use text_lines::numbers_at;
 
 // Whether field k is 1.
 fn is_set(line: &[u8], k: usize) -> bool {
@@ -33,7 +33,7 @@ fn is_written(line: &[u8], names: &[u8], members: &[u8], marks: &[u8], list: &[u
     let t = bytes_at(line, 5, &mut tag);
     let decoy = is_set(line, 4);
     let generated = is_set(line, 6);
-    let answer = reporting::report_line(
+    let answer = report_lines::report_line(
         names,
         members,
         marks,

@@ -9,18 +9,18 @@ use Rattle.records.specs.Cases.{Case, Hold, joined}
 use Rattle.records.specs.Search.{seek}
 use Rattle.catalogue.specs.Names.{nameLength, zerosTo, namesTested}
 use Rattle.sorting.specs.Distinct.{keep}
-use Rattle.cover_rules.specs.Cover.{count, keep as keepEdges, markForced, coverMarked, stays, pass, passes, greatest, mark, choose, turn, turns, cover, listed, coverList}
-use Rattle.members_parts.specs.Members.{Member}
-use Rattle.grouping_rules.specs.Groups.{Pair, Groups, proteins, metas, groupsOf, grouping}
+use Rattle.cover_spec.specs.Cover.{count, keep as keepEdges, markForced, coverMarked, stays, pass, passes, greatest, mark, choose, turn, turns, cover, listed, coverList}
+use Rattle.protein_groups_members.specs.Members.{Member}
+use Rattle.protein_groups_spec.specs.ProteinGroups.{Pair, Groups, proteins, metas, groupsOf, grouping}
 use Rattle.modification.specs.Cases.{table as rules, cases as rules-hold}
 use Rattle.enzyme.specs.Cases.{table as digests, cases as digests-hold}
 use Rattle.peptide.specs.Cases.{table as forms, cases as forms-hold}
-use Rattle.gathering.specs.Cases.{table as gathered, cases as gathered-hold}
-use Rattle.grouping_rules.specs.Cases.{table as groups, cases as groups-hold}
-use Rattle.grouping.specs.Cases.{table as grouped, cases as grouped-hold}
+use Rattle.digest_groups.specs.Cases.{table as gathered, cases as gathered-hold}
+use Rattle.protein_groups_spec.specs.Cases.{table as groups, cases as groups-hold}
+use Rattle.protein_groups.specs.Cases.{table as grouped, cases as grouped-hold}
 use Rattle.cover.specs.Cases.{table as covers, cases as covers-hold}
-use Rattle.report_rules.specs.Cases.{table as lines, cases as lines-hold}
-use Rattle.reporting.specs.Cases.{table as reports, cases as reports-hold}
+use Rattle.report_lines_spec.specs.Cases.{table as lines, cases as lines-hold}
+use Rattle.report_lines.specs.Cases.{table as reports, cases as reports-hold}
 use Rattle.sendumaal.specs.NameCalls.{namesCall}
 
 -- P10: of pairs (peptide, protein) the proteins of each group, then those of the groups that the cover of its edges marks

@@ -3,10 +3,10 @@ use Prim.Native.Nat.{ℕ}
 use mathlib.Core.Path.{_≡_}
 use mathlib.Core.List.{List}
 use Rattle.records.specs.Outcome.{Outcome, outcome, only}
-use Rattle.gathering.specs.Grouping.{groupOutcome}
+use Rattle.digest_groups.specs.DigestGrouping.{groupOutcome}
 use Rattle.cover.specs.Covering.{coverOutcome}
 use Rattle.cover.specs.Updating.{updateOutcome}
-use Rattle.calls_parts.specs.Calls.{countedCall}
+use Rattle.sendumaal_calls.specs.Calls.{countedCall}
 
 abbrev pub groupCall : List ℕ → List ℕ → List ℕ → List ℕ → List ℕ → List ℕ → List ℕ → ℕ → Outcome ℕ
 groupCall names bounds letters digests work groups proteins count = countedCall (groupOutcome names bounds letters digests work groups proteins) count

@@ -1,4 +1,4 @@
--- What a reader has to believe: GroupCalls, NameCalls and ProteinCalls, beside those of calls_parts. Cases has document 01's examples.
+-- What a reader has to believe: GroupCalls, NameCalls and ProteinCalls, beside those of sendumaal_calls. Cases has document 01's examples.
 pub mod GroupCalls
 pub mod NameCalls
 pub mod ProteinCalls

@@ -4,7 +4,7 @@ use mathlib.Core.Path.{_≡_}
 use mathlib.Core.List.{List}
 use Rattle.records.specs.Outcome.{Outcome, outcome, only}
 use Rattle.catalogue.specs.Names.{catalogueTested}
-use Rattle.calls_parts.specs.Calls.{testCall}
+use Rattle.sendumaal_calls.specs.Calls.{testCall}
 
 abbrev pub namesCall : List ℕ → Outcome ℕ
 namesCall names = testCall (catalogueTested names)

@@ -7,15 +7,15 @@ use mathlib.Core.List.{List, [], _∷_}
 use lib.Dec.{leb, eqb}
 use Rattle.records.specs.declared.refusal.Refusal.{Refusal}
 use Rattle.records.specs.Outcome.{Outcome, outcome, only}
-use Rattle.grouping.specs.declared.grouping.Sizes.{Sizes}
-use Rattle.grouping.specs.declared.grouping.Grouped.{Grouped}
-use Rattle.grouping.specs.declared.grouping.Grouped.the-variants.{Made, Refused as No}
-use Rattle.grouping.specs.Grouping.{groupOutcome}
-use Rattle.reporting.specs.declared.reporting.Reported.{Reported}
-use Rattle.reporting.specs.declared.reporting.Reported.the-variants.{Line, Refused as Not}
-use Rattle.reporting.specs.Reporting.{tested, lineOutcome}
-use Rattle.calls_parts.specs.Calls.{accepted, refused, withLent}
-use Rattle.calls_parts.specs.DigestCalls.{fieldCall}
+use Rattle.protein_groups.specs.declared.grouping.Sizes.{Sizes}
+use Rattle.protein_groups.specs.declared.grouping.Grouped.{Grouped}
+use Rattle.protein_groups.specs.declared.grouping.Grouped.the-variants.{Made, Refused as No}
+use Rattle.protein_groups.specs.ProteinGrouping.{groupOutcome}
+use Rattle.report_lines.specs.declared.reporting.Reported.{Reported}
+use Rattle.report_lines.specs.declared.reporting.Reported.the-variants.{Line, Refused as Not}
+use Rattle.report_lines.specs.Reporting.{tested, lineOutcome}
+use Rattle.sendumaal_calls.specs.Calls.{accepted, refused, withLent}
+use Rattle.sendumaal_calls.specs.DigestCalls.{fieldCall}
 
 -- how many groups, meta-peptides, edges and members were made
 abbrev pub sizesCall : Grouped → ℕ → ℕ → ℕ → ℕ → Outcome ℕ

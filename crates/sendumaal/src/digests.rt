@@ -1,21 +1,21 @@
 // Digestion and reversal.
-use calls_parts::counted;
-use calls_parts::enzyme_numbered;
-use calls_parts::is_enzyme;
-use calls_parts::told;
-use calls_parts::told_field;
 use enzyme::Settings;
 use letters::LetterSet;
+use sendumaal_calls::counted;
+use sendumaal_calls::enzyme_numbered;
+use sendumaal_calls::is_enzyme;
+use sendumaal_calls::told;
+use sendumaal_calls::told_field;
 ghost use mathlib.Core.Path.{_≡_};
 ghost use mathlib.Core.List.{List, [], _∷_};
 ghost use Rattle.records.specs.Outcome.{outcome};
 ghost use Rattle.enzyme.specs.Reversal.{reverseOutcome, reverseRecordOutcome, lettersOutcome};
-ghost use Rattle.calls_parts.specs.Calls.{checkedCall, countedCall};
-ghost use Rattle.calls_parts.specs.DigestCalls.{digestCall};
+ghost use Rattle.sendumaal_calls.specs.Calls.{testedCall, countedCall};
+ghost use Rattle.sendumaal_calls.specs.DigestCalls.{digestCall};
 
 #[no_mangle]
 pub extern "C" fn sendumaal_letters_reverse(letters: &mut [u8], place: &mut usize) -> u32
-    ensures { λ r. ⌜ outcome r ((now (place .exit) ∷ []) ∷ now (letters .exit) ∷ []) ≡ checkedCall (reverseOutcome (now (letters .entry))) ⌝ }
+    ensures { λ r. ⌜ outcome r ((now (place .exit) ∷ []) ∷ now (letters .exit) ∷ []) ≡ testedCall (reverseOutcome (now (letters .entry))) ⌝ }
 {
     let answer = enzyme::reverse_letters(letters);
     told(answer, place)
@@ -23,7 +23,7 @@ pub extern "C" fn sendumaal_letters_reverse(letters: &mut [u8], place: &mut usiz
 
 #[no_mangle]
 pub extern "C" fn sendumaal_digest_reverse(bytes: &mut [u8], place: &mut usize) -> u32
-    ensures { λ r. ⌜ outcome r ((now (place .exit) ∷ []) ∷ now (bytes .exit) ∷ []) ≡ checkedCall (reverseRecordOutcome (now (bytes .entry))) ⌝ }
+    ensures { λ r. ⌜ outcome r ((now (place .exit) ∷ []) ∷ now (bytes .exit) ∷ []) ≡ testedCall (reverseRecordOutcome (now (bytes .entry))) ⌝ }
 {
     let answer = enzyme::reverse_record(bytes);
     told(answer, place)
@@ -77,5 +77,5 @@ pub extern "C" fn sendumaal_digest(
         let answer = enzyme::digest(letters, set, cutter, settings, protein, out);
         return counted(answer, count, place);
     }
-    told_field(enzyme::checked(letters, set, cutter, settings), place)
+    told_field(enzyme::tested(letters, set, cutter, settings), place)
 }

@@ -1,5 +1,5 @@
 // Groups of digests, the cover of groups, and its update.
-use calls_parts::counted;
+use sendumaal_calls::counted;
 ghost use mathlib.Core.Path.{_≡_};
 ghost use mathlib.Core.List.{List, [], _∷_};
 ghost use Rattle.records.specs.Outcome.{outcome};
@@ -19,7 +19,15 @@ pub extern "C" fn sendumaal_group_digests(
 ) -> u32
     ensures { λ r. ⌜ outcome r ((now (place .exit) ∷ []) ∷ (now (count .exit) ∷ []) ∷ now (work .exit) ∷ now (groups .exit) ∷ now (proteins .exit) ∷ []) ≡ groupCall (now (names .entry)) (now (bounds .entry)) (now (letters .entry)) (now (digests .entry)) (now (work .entry)) (now (groups .entry)) (now (proteins .entry)) (now (count .entry)) ⌝ }
 {
-    let answer = gathering::group_digests(names, bounds, letters, digests, work, groups, proteins);
+    let answer = digest_groups::group_digests(
+        names,
+        bounds,
+        letters,
+        digests,
+        work,
+        groups,
+        proteins,
+    );
     counted(answer, count, place)
 }
 

@@ -1,5 +1,5 @@
 // A catalogue of names alone, to be tested before anything else takes it.
-use calls_parts::told;
+use sendumaal_calls::told;
 ghost use mathlib.Core.Path.{_≡_};
 ghost use mathlib.Core.List.{List, [], _∷_};
 ghost use Rattle.records.specs.Outcome.{outcome};
@@ -9,5 +9,5 @@ ghost use Rattle.sendumaal.specs.NameCalls.{namesCall};
 pub extern "C" fn sendumaal_names_test(names: &[u8], place: &mut usize) -> u32
     ensures { λ r. ⌜ outcome r ((now (place .exit) ∷ []) ∷ []) ≡ namesCall (now (names .entry)) ⌝ }
 {
-    told(catalogue::names_checked(names), place)
+    told(catalogue::names_tested(names), place)
 }

@@ -1,20 +1,20 @@
 // Peptides, which pass as letters and ids.
-use calls_parts::counted;
-use calls_parts::flipped;
-use calls_parts::peptide_of;
-use calls_parts::test_reverse;
-use calls_parts::told;
-use calls_parts::too_large;
-use calls_parts::turn;
 use peptide::Peptide;
 use peptide::Weighed;
-use records::Checked;
+use records::Tested;
+use sendumaal_calls::counted;
+use sendumaal_calls::flipped;
+use sendumaal_calls::peptide_of;
+use sendumaal_calls::test_reverse;
+use sendumaal_calls::told;
+use sendumaal_calls::too_large;
+use sendumaal_calls::turn;
 ghost use mathlib.Core.Path.{_≡_};
 ghost use mathlib.Core.List.{List, [], _∷_};
 ghost use Rattle.records.specs.Outcome.{outcome};
 ghost use Rattle.peptide.specs.Masses.{testedPart, weighed};
-ghost use Rattle.calls_parts.specs.Calls.{testCall};
-ghost use Rattle.calls_parts.specs.PeptideCalls.{weight, weightCall, formsCall, reverseCall};
+ghost use Rattle.sendumaal_calls.specs.Calls.{testCall};
+ghost use Rattle.sendumaal_calls.specs.PeptideCalls.{weight, weightCall, formsCall, reverseCall};
 
 #[no_mangle]
 pub extern "C" fn sendumaal_base_mass(
@@ -50,7 +50,7 @@ pub extern "C" fn sendumaal_peptide_test(
     ensures { λ r. ⌜ outcome r ((now (place .exit) ∷ []) ∷ []) ≡ testCall (testedPart (now (letters .entry)) (now (masses .entry)) position) ⌝ }
 {
     let made = Peptide::of_part(letters, masses, position, false);
-    let found = made.checked;
+    let found = made.tested;
     told(found, place)
 }
 
@@ -97,11 +97,11 @@ pub extern "C" fn sendumaal_peptide_reverse(
     let p = peptide_of(letters, ids, 0, 0, 0, flag == 1);
     let found = test_reverse(letters, ids, p, flag);
     match found {
-        Checked::Refused(why) => {
+        Tested::Refused(why) => {
             *place = why.place();
             why.number()
         }
-        Checked::Passed => {
+        Tested::Passed => {
             turn(letters, ids, p);
             *decoy = flipped(flag);
             *place = 0;

@@ -1,7 +1,7 @@
 // Groups of proteins, and the report line of a peptide.
-use calls_parts::told_field;
-use grouping::Grouped;
-use reporting::Reported;
+use protein_groups::Grouped;
+use report_lines::Reported;
+use sendumaal_calls::told_field;
 ghost use mathlib.Core.Path.{_≡_};
 ghost use mathlib.Core.List.{List, [], _∷_};
 ghost use Rattle.records.specs.Outcome.{outcome};
@@ -24,7 +24,15 @@ pub extern "C" fn sendumaal_group_proteins(
 ) -> u32
     ensures { λ r. ⌜ outcome r ((now (place .exit) ∷ []) ∷ (now (groups .exit) ∷ []) ∷ (now (metas .exit) ∷ []) ∷ (now (links .exit) ∷ []) ∷ (now (held .exit) ∷ []) ∷ now (work .exit) ∷ now (edges .exit) ∷ now (members .exit) ∷ []) ≡ proteinsCall (now (pairs .entry)) (now (flags .entry)) peptides proteins (now (work .entry)) (now (edges .entry)) (now (members .entry)) (now (groups .entry)) (now (metas .entry)) (now (links .entry)) (now (held .entry)) ⌝ }
 {
-    let answer = grouping::group_proteins(pairs, flags, peptides, proteins, work, edges, members);
+    let answer = protein_groups::group_proteins(
+        pairs,
+        flags,
+        peptides,
+        proteins,
+        work,
+        edges,
+        members,
+    );
     match answer {
         Grouped::Made(sizes) => {
             *groups = sizes.groups;
@@ -83,7 +91,7 @@ pub extern "C" fn sendumaal_report_line(
     ensures { λ r. ⌜ outcome r ((now (place .exit) ∷ []) ∷ (now (bytes .exit) ∷ []) ∷ (now (groups .exit) ∷ []) ∷ now (line .exit) ∷ []) ≡ lineCall (now (names .entry)) (now (members .entry)) (now (marks .entry)) (now (proteins .entry)) decoy (now (tag .entry)) generated (now (line .entry)) (now (bytes .entry)) (now (groups .entry)) ⌝ }
 {
     if are_flags(decoy, generated) {
-        let answer = reporting::report_line(
+        let answer = report_lines::report_line(
             names,
             members,
             marks,
@@ -96,7 +104,7 @@ pub extern "C" fn sendumaal_report_line(
         return reported(answer, bytes, groups, place);
     }
     told_field(
-        reporting::checked(names, members, marks, proteins, tag),
+        report_lines::tested(names, members, marks, proteins, tag),
         place,
     )
 }

@@ -1,18 +1,18 @@
 // Rule texts and rule records.
-use calls_parts::counted;
-use calls_parts::is_rule;
-use calls_parts::told;
 use letters::LetterSet;
 use modification::Parsed;
 use modification::Read;
 use modification::Rule;
+use sendumaal_calls::counted;
+use sendumaal_calls::is_rule;
+use sendumaal_calls::told;
 ghost use mathlib.Core.Path.{_≡_};
 ghost use mathlib.Core.List.{List, [], _∷_};
 ghost use mathlib.Core.Bool.{true, false};
 ghost use Rattle.modification.specs.Texts.{parsed};
 ghost use Rattle.modification.specs.Rules.{testedRules, readRule};
 ghost use Rattle.records.specs.Outcome.{outcome};
-ghost use Rattle.calls_parts.specs.Calls.{setOf, parseCall, writeCall, testCall, readCall, recordCall};
+ghost use Rattle.sendumaal_calls.specs.Calls.{setOf, parseCall, writeCall, testCall, readCall, recordCall};
 
 #[no_mangle]
 pub extern "C" fn sendumaal_rule_parse(

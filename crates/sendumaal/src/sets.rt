@@ -6,7 +6,7 @@ ghost use mathlib.Core.List.{List, [], _∷_};
 ghost use mathlib.Core.Bool.{cond};
 ghost use Rattle.letters.specs.Letters.{has, inserted};
 ghost use Rattle.records.specs.Outcome.{outcome};
-ghost use Rattle.calls_parts.specs.Calls.{setOf, lettersCall};
+ghost use Rattle.sendumaal_calls.specs.Calls.{setOf, lettersCall};
 
 #[no_mangle]
 pub extern "C" fn sendumaal_set_insert(set: u32, letter: u8) -> u32

@@ -4,7 +4,7 @@ ghost use mathlib.Core.Path.{_≡_};
 ghost use mathlib.Core.List.{List, [], _∷_};
 ghost use Rattle.modification.specs.Tables.{insertOutcome};
 ghost use Rattle.records.specs.Outcome.{outcome};
-ghost use Rattle.calls_parts.specs.Calls.{insertCall};
+ghost use Rattle.sendumaal_calls.specs.Calls.{insertCall};
 
 #[no_mangle]
 pub extern "C" fn sendumaal_modification_id(

@@ -11,7 +11,7 @@ use borrow.Author.Tests.{leb-true, leb-false}
 use lib.Dec.{leb}
 use lib.ListN.{length, getD, take, set}
 use lib.Seq.{take-suc-set}
-use Rattle.sorting_parts.specs.SortLaws.{In}
+use Rattle.sorting_merge.specs.SortLaws.{In}
 use Rattle.sorting.specs.Counting.{upFrom}
 
 pub length-up : (a k : ℕ) → length (upFrom a k) ≡ k

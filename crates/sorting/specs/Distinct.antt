@@ -3,8 +3,8 @@ use Prim.Native.Nat.{ℕ}
 use mathlib.Core.Bool.{Bool, true, false, cond, _&&_}
 use mathlib.Core.List.{List, [], _∷_}
 use lib.Dec.{eqb}
-use Rattle.sorting_parts.specs.Sort.{sorted}
-use Rattle.sorting_parts.specs.Lex.{lexLe}
+use Rattle.sorting_merge.specs.Sort.{sorted}
+use Rattle.sorting_merge.specs.Lex.{lexLe}
 
 -- the elements that pass a test, in their order
 abbrev pub keep : {A : Type 0} → (A → Bool) → List A → List A

@@ -7,10 +7,10 @@ use Prim.Native.Nat.{ℕ}
 use borrow.Author.Tests.{eqb-true, eq-eqb}
 use lib.Dec.{eqb}
 use lib.ListN.{length, length-map}
-use Rattle.sorting_parts.specs.Sort.{insert, sorted}
-use Rattle.sorting_parts.specs.SortLaws.{Orders, Ordered, sorted-ordered, sorted-map, clash}
-use Rattle.sorting_parts.specs.Lex.{lexLe}
-use Rattle.sorting_parts.specs.LexLaws.{lex-antisym, lex-refl, by-list}
+use Rattle.sorting_merge.specs.Sort.{insert, sorted}
+use Rattle.sorting_merge.specs.SortLaws.{Orders, Ordered, sorted-ordered, sorted-map, clash}
+use Rattle.sorting_merge.specs.Lex.{lexLe}
+use Rattle.sorting_merge.specs.LexLaws.{lex-antisym, lex-refl, by-list}
 use Rattle.sorting.specs.Runs.{joined, runsOf}
 use Rattle.sorting.specs.Distinct.{keep, same, once, onceAfter, distinct}
 

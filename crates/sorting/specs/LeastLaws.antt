@@ -16,12 +16,12 @@ use Rattle.records.specs.Search.{seek}
 use Rattle.records.specs.SearchLaws.{seek-to, seek-passes, seek-before}
 use Rattle.records.specs.Outcome.{outcome, only}
 use Rattle.records.specs.Tests.{below?, both}
-use Rattle.sorting_parts.specs.declared.text.By.the-variants.{Name}
-use Rattle.sorting_parts.specs.Sort.{sorted}
-use Rattle.sorting_parts.specs.SortLaws.{Orders, clash}
-use Rattle.sorting_parts.specs.Lex.{lexLe}
-use Rattle.sorting_parts.specs.LexLaws.{lex-antisym, lex-refl, by-list}
-use Rattle.sorting_parts.specs.Text.{leBy, nameOf}
+use Rattle.sorting_merge.specs.declared.text.By.the-variants.{Name}
+use Rattle.sorting_merge.specs.Sort.{sorted}
+use Rattle.sorting_merge.specs.SortLaws.{Orders, clash}
+use Rattle.sorting_merge.specs.Lex.{lexLe}
+use Rattle.sorting_merge.specs.LexLaws.{lex-antisym, lex-refl, by-list}
+use Rattle.sorting_merge.specs.Text.{leBy, nameOf}
 use Rattle.sorting.specs.Distinct.{same}
 use Rattle.sorting.specs.DistinctLaws.{same-refl, same-eq}
 use Rattle.sorting.specs.Counting.{upFrom}
@@ -29,9 +29,9 @@ use Rattle.sorting.specs.CountingLaws.{in-up, up-in}
 use Rattle.sorting.specs.declared.repeats.Repeated.{Repeated}
 use Rattle.sorting.specs.declared.repeats.Repeated.the-variants.{At, Never, Unfit}
 use Rattle.sorting.specs.Repeats.{repeats, firstRepeat, roomy, repeatOutcome}
-use Rattle.sorting_parts.specs.PartLaws.{drop-same, at-drop}
+use Rattle.sorting_merge.specs.PartLaws.{drop-same, at-drop}
 use Rattle.sorting.specs.RepeatLaws.{After, Second, Later, sound, complete}
-use Rattle.sorting_parts.specs.RangeLaws.{Ranged}
+use Rattle.sorting_merge.specs.RangeLaws.{Ranged}
 
 module _ (le : ℕ → ℕ → Bool) where
   -- the least so far, after x behind p

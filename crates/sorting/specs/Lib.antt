@@ -1,4 +1,4 @@
--- What a reader has to believe: Sorting, Runs, Distinct, Counting, Repeats, Each, and what `sorting_parts` says of sorting, words and
+-- What a reader has to believe: Sorting, Runs, Distinct, Counting, Repeats, Each, and what `sorting_merge` says of sorting, words and
 -- texts. The files named Laws say what follows from them.
 pub mod Sorting
 pub mod SortingLaws

@@ -14,13 +14,13 @@ use Rattle.records.specs.Tests.{both}
 use Rattle.sorting.specs.Runs.{equalsAfter, runsOf, joined, next, numbersFrom, runNumbers}
 use Rattle.sorting.specs.RunLaws.{run-behind}
 use Rattle.records.specs.Outcome.{outcome, only}
-use Rattle.sorting_parts.specs.declared.text.By.{By}
+use Rattle.sorting_merge.specs.declared.text.By.{By}
 use Rattle.sorting.specs.declared.runs.Numbered.{Numbered}
 use Rattle.sorting.specs.declared.runs.Numbered.the-variants.{Runs, Unfit}
-use Rattle.sorting_parts.specs.Text.{leBy}
+use Rattle.sorting_merge.specs.Text.{leBy}
 use Rattle.sorting.specs.Sorting.{fitting, numberable, numbered, numbersOutcome}
 use Rattle.sorting.specs.SortingLaws.{fitting-order}
-use Rattle.sorting_parts.specs.PartLaws.{slice-set, drop-same, at-drop, at-take}
+use Rattle.sorting_merge.specs.PartLaws.{slice-set, drop-same, at-drop, at-take}
 
 module _ (le : ℕ → ℕ → Bool) where
   -- how many runs there are where p is of run g

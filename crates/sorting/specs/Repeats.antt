@@ -8,7 +8,7 @@ use Rattle.records.specs.Outcome.{Outcome, outcome}
 use Rattle.records.specs.Search.{seek}
 use Rattle.sorting.specs.declared.repeats.Repeated.{Repeated}
 use Rattle.sorting.specs.declared.repeats.Repeated.the-variants.{At, Never, Unfit}
-use Rattle.sorting_parts.specs.Text.{nameOf}
+use Rattle.sorting_merge.specs.Text.{nameOf}
 use Rattle.sorting.specs.Distinct.{same}
 
 -- whether one before i has i's text

@@ -11,7 +11,7 @@ use lib.Dec.{leb}
 use lib.ListN.{length, getD, take, drop}
 use lib.Seq.{slice, slice-cons, slice-empty, length-slice, length-take-le, take-take, take-add, drop-drop, drop-at}
 use Rattle.records.specs.Tests.{both}
-use Rattle.sorting_parts.specs.SortLaws.{In}
+use Rattle.sorting_merge.specs.SortLaws.{In}
 use Rattle.sorting.specs.Runs.{equalsAfter, runLength, joined, runsOf}
 
 module _ {A : Type 0} (le : A → A → Bool) where

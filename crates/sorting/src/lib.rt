@@ -1,7 +1,7 @@
 // One stable sort inside one lent slice of numbers, and what is read off a sorted stretch.
 mod repeats;
 mod runs;
-mod sorting;
+mod slices;
 mod stretches;
 
 pub use repeats::Repeated;
@@ -9,6 +9,6 @@ pub use repeats::first_repeated;
 pub use runs::Numbered;
 pub use runs::number_runs;
 pub use runs::run_end;
-pub use sorting::sort;
-pub use sorting_parts::By;
+pub use slices::sort;
+pub use sorting_merge::By;
 pub use stretches::sort_each;

@@ -1,13 +1,13 @@
 // The first name that stands twice.
 use crate::sorting;
-use sorting_parts::By;
+use sorting_merge::By;
 ghost use mathlib.Core.Path.{_≡_};
 ghost use mathlib.Core.List.{[], _∷_, _++_};
 ghost use Prim.Native.Nat.{_+_, _≤_};
 ghost use lib.ListN.{length, take, drop, replicate};
 ghost use lib.Seq.{slice};
 ghost use Rattle.records.specs.Outcome.{outcome};
-ghost use Rattle.sorting_parts.specs.Text.{leBy, nameOf};
+ghost use Rattle.sorting_merge.specs.Text.{leBy, nameOf};
 ghost use Rattle.sorting.specs.Counting.{upFrom};
 ghost use Rattle.sorting.specs.Repeats.{firstRepeat, repeatOutcome};
 ghost use Rattle.sorting.specs.LeastLaws.{lesser, least};
@@ -23,7 +23,7 @@ pub enum Repeated {
 fn lesser_of(by: By, letters: &[u8], keys: &[u32], b: u32, p: u32, x: u32) -> u32
     ensures { λ r. ⌜ r ≡ lesser (leBy by (now (letters .entry)) (now (keys .entry))) b p x ⌝ }
 {
-    if sorting_parts::le(by, letters, keys, x, p) {
+    if sorting_merge::le(by, letters, keys, x, p) {
         if b <= x { b } else { x }
     } else {
         b
@@ -70,9 +70,9 @@ fn repeat_among(names: &[u8], w: &mut [u32], n: u32) -> u32
     let k = n as usize;
     let e = k + k;
     count_up(w, n);
-    sorting_parts::sort_range(By::Name, names, w, 0, k, k, e);
+    sorting_merge::sort_range(By::Name, names, w, 0, k, k, e);
     let r = least_repeat(By::Name, names, w, k, e, n);
-    sorting::clear(w, 0, e);
+    slices::clear(w, 0, e);
     r
 }
 

@@ -1,7 +1,7 @@
 -- `cover_in` meets its contract. Assumes nothing.
 use mathlib.Core.Path.{ap, _∙_}
 use lib.ListN.{length, take}
-use Rattle.cover_rules.specs.ListedLaws.{length-cover}
+use Rattle.cover_spec.specs.ListedLaws.{length-cover}
 use Rattle.cover.specs.HandingLaws.{mid-front}
 use borrow.Author.Needs.{needs}
 use Rattle.cover.proofs.handing.cover_in.Statement.{statement}

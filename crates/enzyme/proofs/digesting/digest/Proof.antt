@@ -1,13 +1,13 @@
 -- `digest` meets its contract: a refusal, or the digests. Assumes nothing.
 use mathlib.Core.Path.{sym, _∙_}
 use denote.Ref.{now}
-use Rattle.enzyme.specs.CheckLaws.{passed-sizes}
+use Rattle.enzyme.specs.TestLaws.{passed-sizes}
 use borrow.Author.Needs.{needs}
 use Rattle.enzyme.proofs.digesting.digest.Statement.{statement}
 use Rattle.enzyme.proofs.digesting.digest.Tie as tie
 
-checked-requires : tie.Need-checked-requires
-checked-requires c κs = search needs
+tested-requires : tie.Need-tested-requires
+tested-requires c κs = search needs
 
 enum-known-found : tie.Need-enum-known-found
 enum-known-found c = search needs
@@ -16,22 +16,22 @@ enum-told : tie.Need-enum-told
 enum-told c = search needs
 
 digest-passed-requires : tie.Need-digest-passed-requires
-digest-passed-requires c κs = let a = c .before .before .before .before .before .before .args in passed-sizes (now (a .letters)) (a .alphabet) (a .enzyme) (a .settings) (sym (c .before .before .before .checked .ensures) ∙ c .before .enum-told .given .1)
+digest-passed-requires c κs = let a = c .before .before .before .before .before .before .args in passed-sizes (now (a .letters)) (a .alphabet) (a .enzyme) (a .settings) (sym (c .before .before .before .tested .ensures) ∙ c .before .enum-told .given .1)
 
 returns : tie.Need-returns
-returns c = rw (sym (c .before .before .before .checked .ensures) ∙ c .before .found .given .1)
+returns c = rw (sym (c .before .before .before .tested .ensures) ∙ c .before .found .given .1)
 
 same-length : tie.Need-same-length
 same-length c = search needs
 
 returns-2 : tie.Need-returns-2
-returns-2 c = rw (sym (c .before .before .before .before .before .before .checked .ensures) ∙ c .before .before .before .before .enum-told .given .1) (c .before .before .digest-passed .ensures)
+returns-2 c = rw (sym (c .before .before .before .before .before .before .tested .ensures) ∙ c .before .before .before .before .enum-told .given .1) (c .before .before .digest-passed .ensures)
 
 pub digest-spec : {M : Type 1} → statement M
 digest-spec =
     tie.close
     (tie.spec
-    checked-requires
+    tested-requires
     enum-known-found
     enum-told
     digest-passed-requires

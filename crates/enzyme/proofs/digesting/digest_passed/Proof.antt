@@ -2,7 +2,7 @@
 use native.Mathlib.Omega.{arith}
 use mathlib.Core.Path.{ap, _∙_}
 use denote.Ref.{now}
-use Rattle.offering_parts.specs.StepLaws.{offers-capped}
+use Rattle.enzyme_keep.specs.StepLaws.{offers-capped}
 use Rattle.enzyme_ways.specs.Ways.{way}
 use Rattle.enzyme.specs.RunLaws.{ended, run-all}
 use borrow.Author.Needs.{needs}

@@ -13,11 +13,11 @@ use Rattle.enzyme.proofs.spelling.digest_letters.Tie as tie
 -- the range that was read lies within the letters
 range : (c : tie.After-byte-at) → (c .before .before .u32-at .result ≤ c .before .u32-at2 .result) × (c .before .u32-at2 .result ≤ length (now (c .before .before .before .before .before .before .before .before .before .args .letters)))
 range c =
-    let p = spelling-passed (now (c .before .before .before .before .before .before .before .before .before .args .letters)) (now (c .before .before .before .before .before .before .before .before .before .args .bytes)) (sym (c .before .before .before .before .before .spelling-checked .ensures) ∙ c .before .before .before .enum-told .given .1) in
+    let p = spelling-passed (now (c .before .before .before .before .before .before .before .before .before .args .letters)) (now (c .before .before .before .before .before .before .before .before .before .args .bytes)) (sym (c .before .before .before .before .before .spelling-tested .ensures) ∙ c .before .before .before .enum-told .given .1) in
     rw (c .before .before .u32-at .ensures, c .before .u32-at2 .ensures) (p .1, p .2)
 
-spelling-checked-requires : tie.Need-spelling-checked-requires
-spelling-checked-requires c κs = search needs
+spelling-tested-requires : tie.Need-spelling-tested-requires
+spelling-tested-requires c κs = search needs
 
 enum-known-found : tie.Need-enum-known-found
 enum-known-found c = search needs
@@ -50,24 +50,24 @@ part-spell-end : tie.Need-part-spell-end
 part-spell-end c = range c .1
 
 spell-requires : tie.Need-spell-requires
-spell-requires c κs = let s = spelling-passed (now (c .before .before .before .before .before .before .before .before .before .before .before .args .letters)) (now (c .before .before .before .before .before .before .before .before .before .before .before .args .bytes)) (sym (c .before .before .before .before .before .before .before .spelling-checked .ensures) ∙ c .before .before .before .before .before .enum-told .given .1) in
+spell-requires c κs = let s = spelling-passed (now (c .before .before .before .before .before .before .before .before .before .before .before .args .letters)) (now (c .before .before .before .before .before .before .before .before .before .before .before .args .bytes)) (sym (c .before .before .before .before .before .before .before .spelling-tested .ensures) ∙ c .before .before .before .before .before .enum-told .given .1) in
     let r = range (c .before .before) in
     omega (arith, s .0, length-take (c .before .before .before .u32-at2 .result - c .before .before .before .before .u32-at .result) (drop (c .before .before .before .before .u32-at .result) (now (c .before .before .before .before .before .before .before .before .before .before .before .args .letters))), min-le-left (c .before .before .before .u32-at2 .result - c .before .before .before .before .u32-at .result) (length (drop (c .before .before .before .before .u32-at .result) (now (c .before .before .before .before .before .before .before .before .before .before .before .args .letters)))), r .0, r .1)
 
 returns : tie.Need-returns
-returns c = rw (sym (c .before .before .before .spelling-checked .ensures) ∙ c .before .found .given .1)
+returns c = rw (sym (c .before .before .before .spelling-tested .ensures) ∙ c .before .found .given .1)
 
 same-length : tie.Need-same-length
 same-length c = search needs
 
 returns-2 : tie.Need-returns-2
-returns-2 c = rw (sym (c .before .before .before .before .before .before .before .before .before .before .spelling-checked .ensures) ∙ c .before .before .before .before .before .before .before .before .enum-told .given .1) (rw (c .before .before .before .before .before .before .before .u32-at .ensures, c .before .before .before .before .before .before .u32-at2 .ensures, c .before .before .before .before .before .byte-at .ensures) at (c .before .before .spell .ensures))
+returns-2 c = rw (sym (c .before .before .before .before .before .before .before .before .before .before .spelling-tested .ensures) ∙ c .before .before .before .before .before .before .before .before .enum-told .given .1) (rw (c .before .before .before .before .before .before .before .u32-at .ensures, c .before .before .before .before .before .before .u32-at2 .ensures, c .before .before .before .before .before .byte-at .ensures) at (c .before .before .spell .ensures))
 
 pub digest-letters-spec : {M : Type 1} → statement M
 digest-letters-spec =
     tie.close
     (tie.spec
-    spelling-checked-requires
+    spelling-tested-requires
     enum-known-found
     enum-told
     u32-at-requires

@@ -3,7 +3,7 @@ use borrow.Author.Needs.{needs}
 use Prim.Native.Nat.{_≤_}
 use lib.ListN.{length}
 use denote.Ref.{now}
-use Rattle.offering_parts.specs.BufferLaws.{read-inside}
+use Rattle.enzyme_keep.specs.BufferLaws.{read-inside}
 use Rattle.enzyme_list.specs.ChainLaws.{range-read}
 use Rattle.enzyme_list.proofs.order.order_at.Statement.{statement}
 use Rattle.enzyme_list.proofs.order.order_at.Tie as tie

@@ -3,8 +3,8 @@ use native.Mathlib.Omega.{arith}
 use borrow.Author.Needs.{needs}
 use mathlib.Core.Path.{sym, _∙_}
 use denote.Ref.{now}
-use Rattle.offering_parts.specs.Buffer.{linksIn}
-use Rattle.offering_parts.specs.BufferLaws.{link-read}
+use Rattle.enzyme_keep.specs.Buffer.{linksIn}
+use Rattle.enzyme_keep.specs.BufferLaws.{link-read}
 use Rattle.enzyme_list.specs.ChainLaws.{next-first, next-link}
 use Rattle.enzyme_list.proofs.walk.behind.Statement.{statement}
 use Rattle.enzyme_list.proofs.walk.behind.Tie as tie

@@ -4,9 +4,9 @@ use Prim.Native.Nat.{_-_, _<_}
 use mathlib.Core.Path.{_≡_, sym, _∙_}
 use lib.ListN.{getD}
 use denote.Ref.{now}
-use Rattle.cutting_parts.specs.Cutting.{site, part}
-use Rattle.offering_parts.specs.Buffer.{rangesIn, linksIn}
-use Rattle.offering_parts.specs.BufferLaws.{length-links}
+use Rattle.enzyme_cuts.specs.Cutting.{site, part}
+use Rattle.enzyme_keep.specs.Buffer.{rangesIn, linksIn}
+use Rattle.enzyme_keep.specs.BufferLaws.{length-links}
 use Rattle.enzyme_list.specs.declared.walk.Place.{Place}
 use Rattle.enzyme_list.specs.declared.walk.Place.the-variants.{Same, Behind}
 use Rattle.enzyme_order.specs.OrderLaws.{order-else}

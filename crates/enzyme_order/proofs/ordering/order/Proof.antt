@@ -5,7 +5,7 @@ use Prim.Native.Nat.{_-_}
 use mathlib.Core.Path.{_≡_, sym, _∙_}
 use lib.ListN.{length}
 use denote.Ref.{now}
-use Rattle.cutting_parts.specs.SameLaws.{Alike, alike-on}
+use Rattle.enzyme_cuts.specs.SameLaws.{Alike, alike-on}
 use Rattle.enzyme_order.specs.OrderLaws.{order-short, order-long, order-alike, order-all}
 use Rattle.enzyme_order.proofs.ordering.order.Statement.{statement}
 use Rattle.enzyme_order.proofs.ordering.order.Tie as tie

@@ -1,7 +1,7 @@
 -- `offer_range` meets its contract. Assumes nothing.
 use mathlib.Core.Path.{sym, _∙_}
 use denote.Ref.{now}
-use Rattle.cutting_parts.specs.Cutting.{range}
+use Rattle.enzyme_cuts.specs.Cutting.{range}
 use Rattle.enzyme_samples.specs.RangeLaws.{unfit-left}
 use borrow.Author.Needs.{needs}
 use Rattle.enzyme_samples.proofs.offering.offer_range.Statement.{statement}

@@ -1,6 +1,6 @@
 -- `write_range` meets its contract. Assumes nothing.
 use denote.Ref.{now}
-use Rattle.cutting_parts.specs.Cutting.{range}
+use Rattle.enzyme_cuts.specs.Cutting.{range}
 use Rattle.enzyme_samples.specs.RangeLaws.{written-new, written-full, written-left}
 use borrow.Author.Needs.{needs}
 use Rattle.enzyme_samples.proofs.offering.write_range.Statement.{statement}

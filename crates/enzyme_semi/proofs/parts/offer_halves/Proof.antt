@@ -6,7 +6,7 @@ use native.Mathlib.Omega.{arith}
 use native.Mathlib.Numerals.{add-one}
 use borrow.Author.Needs.{needs}
 use denote.Ref.{now}
-use Rattle.cutting_parts.specs.Cutting.{range, halves}
+use Rattle.enzyme_cuts.specs.Cutting.{range, halves}
 use Rattle.enzyme_semi.specs.Going.{Going}
 use Rattle.enzyme_semi.specs.GoingLaws.{going-start, going-end, one-first, one-on, one-full}
 use Rattle.enzyme_semi.specs.PassLaws.{halves-pass}

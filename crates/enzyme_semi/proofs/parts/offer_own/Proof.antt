@@ -1,7 +1,7 @@
 -- `offer_own` meets its contract. Assumes nothing.
 use Prim.Native.Nat.{suc, _-_}
 use borrow.Author.Needs.{needs}
-use Rattle.cutting_parts.specs.Cutting.{site}
+use Rattle.enzyme_cuts.specs.Cutting.{site}
 use Rattle.enzyme_once.specs.Once.{endings, openings}
 use Rattle.enzyme_samples.specs.ReadyLaws.{ready-first, offers-then, offers-full}
 use Rattle.enzyme_semi.specs.WalkLaws.{own-site, own-more}

@@ -1,6 +1,6 @@
 -- `offer_both` meets its contract. Assumes nothing.
 use Prim.Native.Nat.{suc}
-use Rattle.cutting_parts.specs.Cutting.{windowsFrom}
+use Rattle.enzyme_cuts.specs.Cutting.{windowsFrom}
 use Rattle.enzyme_fresh.specs.Fresh.{freshFrom}
 use Rattle.enzyme_samples.specs.ReadyLaws.{ready-first, offers-then, offers-full}
 use Rattle.enzyme_semi.specs.Walk.{sitesIn, sharedIn}

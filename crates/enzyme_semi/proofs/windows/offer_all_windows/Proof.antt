@@ -4,7 +4,7 @@ use mathlib.Core.Path.{_≡_}
 use native.Mathlib.Omega.{arith}
 use native.Mathlib.Numerals.{add-one}
 use borrow.Author.Needs.{needs}
-use Rattle.cutting_parts.specs.Cutting.{windows, windowsFrom}
+use Rattle.enzyme_cuts.specs.Cutting.{windows, windowsFrom}
 use Rattle.enzyme_semi.specs.Walk.{sitesIn}
 use Rattle.enzyme_semi.specs.WalkLaws.{sizes-on, sizes-end}
 use Rattle.enzyme_semi.specs.Going.{Going}

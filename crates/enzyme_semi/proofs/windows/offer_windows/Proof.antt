@@ -2,7 +2,7 @@
 use native.Mathlib.Omega.{arith}
 use borrow.Author.Needs.{needs}
 use Prim.Native.Nat.{_-_, _≤_}
-use Rattle.cutting_parts.specs.Cutting.{windows}
+use Rattle.enzyme_cuts.specs.Cutting.{windows}
 use Rattle.enzyme_once.specs.SpotLaws.{spans}
 use Rattle.enzyme_semi.specs.Walk.{placeIn, sitesIn}
 use Rattle.enzyme_semi.specs.WalkLaws.{spans-on, spans-end, windows-start}

@@ -3,7 +3,7 @@ use native.Mathlib.Omega.{arith}
 use mathlib.Core.Path.{_≡_, ap}
 use borrow.Author.Tests.{eq-eqb, ne-eqb}
 use borrow.Author.Needs.{needs}
-use Rattle.cutting_parts.specs.declared.enzyme.Kind.the-variants.{None, End, Set}
+use Rattle.enzyme_cuts.specs.declared.kinds.Kind.the-variants.{None, End, Set}
 use Rattle.enzyme_ways.specs.Ways.{turns}
 use Prim.Native.Nat.{ℕ, _<_}
 use borrow.Fn.Kinds.{In}

@@ -6,9 +6,9 @@ use denote.Ref.{now}
 use mathlib.Core.List.{List}
 use native.Mathlib.Nat.{sub-zero}
 use lib.ListN.{take, replicate, length-replicate}
-use Rattle.peptide_parts.specs.Filling.{apply}
-use Rattle.peptide_parts.specs.SiteLaws.{all-few}
-use Rattle.peptide_parts.specs.WroteLaws.{wrote-length, wrote-taken}
+use Rattle.peptide_slots.specs.Filling.{apply}
+use Rattle.peptide_slots.specs.SiteLaws.{all-few}
+use Rattle.peptide_slots.specs.WroteLaws.{wrote-length, wrote-taken}
 use borrow.Author.Needs.{needs}
 use Rattle.peptide.proofs.listing.fixed_table.Statement.{statement}
 use Rattle.peptide.proofs.listing.fixed_table.Tie as tie

@@ -6,9 +6,9 @@ use denote.Ref.{now}
 use mathlib.Core.List.{List, map}
 use native.Mathlib.Nat.{sub-zero}
 use lib.ListN.{length, take, length-replicate}
-use Rattle.peptide_parts.specs.Used.{used}
-use Rattle.forms_parts.specs.Enumeration.{choices}
-use Rattle.forms_parts.specs.RunLaws.{quick}
+use Rattle.peptide_slots.specs.Used.{used}
+use Rattle.peptide_forms.specs.Enumeration.{choices}
+use Rattle.peptide_forms.specs.RunLaws.{quick}
 use Rattle.peptide.specs.Forms.{listed, sitesOf}
 use Rattle.peptide.specs.FormLaws.{by-table}
 use borrow.Author.Needs.{needs}

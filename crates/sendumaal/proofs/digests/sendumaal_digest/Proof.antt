@@ -1,8 +1,8 @@
 -- `sendumaal_digest` meets its contract. Assumes nothing.
 use mathlib.Core.Path.{sym, ap, _∙_}
 use denote.Ref.{now}
-use Rattle.calls_parts.specs.DigestCalls.{fieldCall}
-use Rattle.calls_parts.specs.DigestCallLaws.{digest-size, digest-done, digest-field}
+use Rattle.sendumaal_calls.specs.DigestCalls.{fieldCall}
+use Rattle.sendumaal_calls.specs.DigestCallLaws.{digest-size, digest-done, digest-field}
 use borrow.Author.Needs.{needs}
 use Rattle.sendumaal.proofs.digests.sendumaal_digest.Statement.{statement}
 use Rattle.sendumaal.proofs.digests.sendumaal_digest.Tie as tie
@@ -38,8 +38,8 @@ returns-2 c =
     digest-done (now (a .letters)) (a .alphabet) (a .kind) (a .cleave) (a .skip) (a .side) (a .semi) (a .missed) (a .minimum) (a .maximum) (a .protein) (now (a .out)) (now (a .count)) (c .before .before .before .before .before .before .before .before .before .before .if1 .left) (e .result) (e .ensures)
     (c .counted .result) (c .counted .last .1 .1 .0) (sym (c .before .before .before .before .before .before .before .before .is-enzyme .ensures) ∙ c .before .before .before .before .before .before .before .if2 .taken) (c .counted .last .1 .0) (d .result) (d .last .1 .1 .1 .1 .1 .0) (c .counted .ensures) (d .ensures)
 
-checked-requires : tie.Need-checked-requires
-checked-requires c κs = search needs
+tested-requires : tie.Need-tested-requires
+tested-requires c κs = search needs
 
 told-field-requires : tie.Need-told-field-requires
 told-field-requires c κs = search needs
@@ -49,7 +49,7 @@ returns-3 c =
     let a = c .before .before .before .before .before .before .before .before .before .args in
     let e = c .before .before .before .before .before .enzyme-numbered in
     digest-field (now (a .letters)) (a .alphabet) (a .kind) (a .cleave) (a .skip) (a .side) (a .semi) (a .missed) (a .minimum) (a .maximum) (a .protein) (now (a .out)) (now (a .count)) (c .before .before .before .before .before .before .if1 .left) (e .result) (e .ensures)
-    (c .told-field .result) (c .told-field .last .1 .0) (sym (c .before .before .before .before .is-enzyme .ensures) ∙ c .before .before .before .if2 .left) (c .told-field .ensures ∙ ap fieldCall (c .before .before .checked .ensures))
+    (c .told-field .result) (c .told-field .last .1 .0) (sym (c .before .before .before .before .is-enzyme .ensures) ∙ c .before .before .before .if2 .left) (c .told-field .ensures ∙ ap fieldCall (c .before .before .tested .ensures))
 
 pub sendumaal-digest-spec : {M : Type 1} → statement M
 sendumaal-digest-spec =
@@ -63,6 +63,6 @@ sendumaal-digest-spec =
     counted-requires
     same-length
     returns-2
-    checked-requires
+    tested-requires
     told-field-requires
     returns-3)

@@ -1,8 +1,8 @@
 -- `sendumaal_letters_reverse` meets its contract. Assumes nothing.
 use mathlib.Core.Path.{ap, _∙_}
 use mathlib.Core.List.{[], _∷_}
-use Rattle.calls_parts.specs.Calls.{checkedCall}
-use Rattle.calls_parts.specs.CallLaws.{check-said}
+use Rattle.sendumaal_calls.specs.Calls.{testedCall}
+use Rattle.sendumaal_calls.specs.CallLaws.{check-said}
 use borrow.Author.Needs.{needs}
 use Rattle.sendumaal.proofs.digests.sendumaal_letters_reverse.Statement.{statement}
 use Rattle.sendumaal.proofs.digests.sendumaal_letters_reverse.Tie as tie
@@ -19,7 +19,7 @@ same-length c = search needs
 returns : tie.Need-returns
 returns c =
     let w = c .before .before .before .before .reverse-letters in
-    check-said (w .result) (c .told .result) (c .told .last .1 .0) (c .told .ensures) (w .last .0 ∷ []) ∙ ap checkedCall (w .ensures)
+    check-said (w .result) (c .told .result) (c .told .last .1 .0) (c .told .ensures) (w .last .0 ∷ []) ∙ ap testedCall (w .ensures)
 
 pub sendumaal-letters-reverse-spec : {M : Type 1} → statement M
 sendumaal-letters-reverse-spec =

@@ -2,7 +2,7 @@
 use mathlib.Core.List.{[], _∷_}
 use denote.Ref.{now}
 use Rattle.cover.specs.Covering.{coverOutcome}
-use Rattle.calls_parts.specs.CallLaws.{count-said}
+use Rattle.sendumaal_calls.specs.CallLaws.{count-said}
 use borrow.Author.Needs.{needs}
 use Rattle.sendumaal.proofs.groups.sendumaal_cover.Statement.{statement}
 use Rattle.sendumaal.proofs.groups.sendumaal_cover.Tie as tie

@@ -1,8 +1,8 @@
 -- `sendumaal_group_digests` meets its contract. Assumes nothing.
 use mathlib.Core.List.{[], _∷_}
 use denote.Ref.{now}
-use Rattle.gathering.specs.Grouping.{groupOutcome}
-use Rattle.calls_parts.specs.CallLaws.{count-said}
+use Rattle.digest_groups.specs.DigestGrouping.{groupOutcome}
+use Rattle.sendumaal_calls.specs.CallLaws.{count-said}
 use borrow.Author.Needs.{needs}
 use Rattle.sendumaal.proofs.groups.sendumaal_group_digests.Statement.{statement}
 use Rattle.sendumaal.proofs.groups.sendumaal_group_digests.Tie as tie

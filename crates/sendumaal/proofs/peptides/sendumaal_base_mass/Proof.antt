@@ -2,8 +2,8 @@
 use mathlib.Core.Path.{sym, ap, _∙_}
 use denote.Ref.{now}
 use Rattle.peptide.specs.declared.mass.Weighed.{Weighed}
-use Rattle.calls_parts.specs.PeptideCalls.{weightCall}
-use Rattle.calls_parts.specs.PeptideCallLaws.{weight-said}
+use Rattle.sendumaal_calls.specs.PeptideCalls.{weightCall}
+use Rattle.sendumaal_calls.specs.PeptideCallLaws.{weight-said}
 use borrow.Author.Needs.{needs}
 use Rattle.sendumaal.proofs.peptides.sendumaal_base_mass.Statement.{statement}
 use Rattle.sendumaal.proofs.peptides.sendumaal_base_mass.Tie as tie

@@ -3,11 +3,11 @@ use mathlib.Core.Path.{sym, ap, _∙_}
 use mathlib.Core.List.{[], _∷_}
 use denote.Ref.{now}
 use mathlib.Core.Bool.{false}
-use Rattle.peptide.specs.declared.peptide.Peptide.{Peptide}
+use Rattle.peptide.specs.declared.making.Peptide.{Peptide}
 use Rattle.peptide.specs.Forms.{formsOutcome}
-use Rattle.calls_parts.specs.PeptideCalls.{peptideOf}
-use Rattle.calls_parts.specs.CallLaws.{count-said}
-use Rattle.calls_parts.specs.PeptideCallLaws.{forms-size, forms-length, forms-listed}
+use Rattle.sendumaal_calls.specs.PeptideCalls.{peptideOf}
+use Rattle.sendumaal_calls.specs.CallLaws.{count-said}
+use Rattle.sendumaal_calls.specs.PeptideCallLaws.{forms-size, forms-length, forms-listed}
 use borrow.Author.Needs.{needs}
 use Rattle.sendumaal.proofs.peptides.sendumaal_forms.Statement.{statement}
 use Rattle.sendumaal.proofs.peptides.sendumaal_forms.Tie as tie

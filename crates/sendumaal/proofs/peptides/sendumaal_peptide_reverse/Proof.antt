@@ -3,9 +3,9 @@ use mathlib.Core.Path.{sym, _∙_}
 use mathlib.Core.List.{[], _∷_}
 use denote.Ref.{now}
 use lib.Dec.{eqb}
-use Rattle.calls_parts.specs.PeptideCalls.{peptideOf}
-use Rattle.calls_parts.specs.CallLaws.{said}
-use Rattle.calls_parts.specs.PeptideCallLaws.{reverse-fits, reverse-peptide, reverse-no, reverse-yes}
+use Rattle.sendumaal_calls.specs.PeptideCalls.{peptideOf}
+use Rattle.sendumaal_calls.specs.CallLaws.{said}
+use Rattle.sendumaal_calls.specs.PeptideCallLaws.{reverse-fits, reverse-peptide, reverse-no, reverse-yes}
 use borrow.Author.Needs.{needs}
 use Rattle.sendumaal.proofs.peptides.sendumaal_peptide_reverse.Statement.{statement}
 use Rattle.sendumaal.proofs.peptides.sendumaal_peptide_reverse.Tie as tie

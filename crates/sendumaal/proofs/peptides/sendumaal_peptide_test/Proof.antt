@@ -5,9 +5,9 @@ use Rattle.peptide.specs.Peptides.{given}
 use Rattle.peptide.specs.Masses.{testedPart}
 use mathlib.Core.Path.{_≡_, ap, _∙_}
 use denote.Ref.{now}
-use Rattle.peptide.specs.declared.peptide.Made.{Made}
-use Rattle.calls_parts.specs.Calls.{testCall}
-use Rattle.calls_parts.specs.PeptideCallLaws.{checked-of}
+use Rattle.peptide.specs.declared.making.Made.{Made}
+use Rattle.sendumaal_calls.specs.Calls.{testCall}
+use Rattle.sendumaal_calls.specs.PeptideCallLaws.{tested-of}
 use borrow.Author.Needs.{needs}
 use Rattle.sendumaal.proofs.peptides.sendumaal_peptide_test.Statement.{statement}
 use Rattle.sendumaal.proofs.peptides.sendumaal_peptide_test.Tie as tie
@@ -21,9 +21,9 @@ told-requires c κs = search needs
 returns : tie.Need-returns
 returns c =
     let a = c .before .before .before .before .before .args in
-    let found : c .before .before .of-part .result .checked ≡ testedPart (now (a .letters)) (now (a .masses)) (a .position) =
-    ap (λ (m : Made). m .checked) (c .before .before .of-part .ensures)
-    ∙ checked-of (testedPart (now (a .letters)) (now (a .masses)) (a .position)) (given (now (a .letters)) [] (a .position) false) (given [] [] 0 false) in
+    let found : c .before .before .of-part .result .tested ≡ testedPart (now (a .letters)) (now (a .masses)) (a .position) =
+    ap (λ (m : Made). m .tested) (c .before .before .of-part .ensures)
+    ∙ tested-of (testedPart (now (a .letters)) (now (a .masses)) (a .position)) (given (now (a .letters)) [] (a .position) false) (given [] [] 0 false) in
     c .told .ensures ∙ ap testCall found
 
 pub sendumaal-peptide-test-spec : {M : Type 1} → statement M

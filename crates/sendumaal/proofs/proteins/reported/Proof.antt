@@ -2,8 +2,8 @@
 use mathlib.Core.Path.{sym, ap, _∙_}
 use mathlib.Core.List.{[], _∷_}
 use denote.Ref.{now}
-use Rattle.reporting.specs.declared.reporting.Reported.{Reported}
-use Rattle.calls_parts.specs.CallLaws.{said}
+use Rattle.report_lines.specs.declared.reporting.Reported.{Reported}
+use Rattle.sendumaal_calls.specs.CallLaws.{said}
 use Rattle.sendumaal.specs.ProteinCalls.{reportCall}
 use borrow.Author.Needs.{needs}
 use Rattle.sendumaal.proofs.proteins.reported.Statement.{statement}

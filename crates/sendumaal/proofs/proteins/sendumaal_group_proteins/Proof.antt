@@ -2,7 +2,7 @@
 use mathlib.Core.Path.{_∙_}
 use mathlib.Core.List.{[], _∷_}
 use denote.Ref.{now}
-use Rattle.calls_parts.specs.CallLaws.{said}
+use Rattle.sendumaal_calls.specs.CallLaws.{said}
 use Rattle.sendumaal.specs.ProteinCalls.{proteins-made, proteins-no}
 use borrow.Author.Needs.{needs}
 use Rattle.sendumaal.proofs.proteins.sendumaal_group_proteins.Statement.{statement}

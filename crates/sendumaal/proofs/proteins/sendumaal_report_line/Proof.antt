@@ -1,7 +1,7 @@
 -- `sendumaal_report_line` meets its contract. Assumes nothing.
 use mathlib.Core.Path.{sym, ap, _∙_}
 use denote.Ref.{now}
-use Rattle.calls_parts.specs.DigestCalls.{fieldCall}
+use Rattle.sendumaal_calls.specs.DigestCalls.{fieldCall}
 use Rattle.sendumaal.specs.ProteinCalls.{line-done, line-field}
 use borrow.Author.Needs.{needs}
 use Rattle.sendumaal.proofs.proteins.sendumaal_report_line.Statement.{statement}
@@ -27,8 +27,8 @@ returns c =
     line-done (now (a .names)) (now (a .members)) (now (a .marks)) (now (a .proteins)) (a .decoy) (now (a .tag)) (a .generated) (now (a .line)) (now (a .bytes)) (now (a .groups)) (t .result) (t .last .1 .1 .1 .0)
     (sym (c .before .before .before .before .before .before .before .before .before .are-flags .ensures) ∙ c .before .before .before .before .before .before .before .before .if1 .taken) (t .last .1 .0) (t .last .1 .1 .0) (l .result) (l .last .1 .1 .1 .1 .1 .1 .1 .0) (t .ensures) (l .ensures)
 
-checked-requires : tie.Need-checked-requires
-checked-requires c κs = search needs
+tested-requires : tie.Need-tested-requires
+tested-requires c κs = search needs
 
 told-field-requires : tie.Need-told-field-requires
 told-field-requires c κs = search needs
@@ -38,7 +38,7 @@ returns-2 c =
     let a = c .before .before .before .before .before .before .before .before .before .before .before .args in
     let t = c .told-field in
     line-field (now (a .names)) (now (a .members)) (now (a .marks)) (now (a .proteins)) (a .decoy) (now (a .tag)) (a .generated) (now (a .line)) (now (a .bytes)) (now (a .groups)) (t .result) (t .last .1 .0)
-    (sym (c .before .before .before .before .are-flags .ensures) ∙ c .before .before .before .if1 .left) (t .ensures ∙ ap fieldCall (c .before .before .checked .ensures))
+    (sym (c .before .before .before .before .are-flags .ensures) ∙ c .before .before .before .if1 .left) (t .ensures ∙ ap fieldCall (c .before .before .tested .ensures))
 
 pub sendumaal-report-line-spec : {M : Type 1} → statement M
 sendumaal-report-line-spec =
@@ -49,6 +49,6 @@ sendumaal-report-line-spec =
     reported-requires
     same-length
     returns
-    checked-requires
+    tested-requires
     told-field-requires
     returns-2)

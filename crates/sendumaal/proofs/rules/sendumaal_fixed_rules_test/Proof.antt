@@ -1,6 +1,6 @@
 -- `sendumaal_fixed_rules_test` meets its contract. Assumes nothing.
 use mathlib.Core.Path.{ap, _∙_}
-use Rattle.calls_parts.specs.Calls.{testCall}
+use Rattle.sendumaal_calls.specs.Calls.{testCall}
 use borrow.Author.Needs.{needs}
 use Rattle.sendumaal.proofs.rules.sendumaal_fixed_rules_test.Statement.{statement}
 use Rattle.sendumaal.proofs.rules.sendumaal_fixed_rules_test.Tie as tie

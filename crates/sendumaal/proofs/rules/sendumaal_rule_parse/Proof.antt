@@ -4,8 +4,8 @@ use mathlib.Core.List.{[], _∷_}
 use denote.Ref.{now}
 use Prim.Native.Nat.{ℕ}
 use Rattle.modification.specs.declared.text.Parsed.{Parsed}
-use Rattle.calls_parts.specs.Calls.{accepted, parseCall}
-use Rattle.calls_parts.specs.CallLaws.{said}
+use Rattle.sendumaal_calls.specs.Calls.{accepted, parseCall}
+use Rattle.sendumaal_calls.specs.CallLaws.{said}
 use borrow.Author.Needs.{needs}
 use Rattle.sendumaal.proofs.rules.sendumaal_rule_parse.Statement.{statement}
 use Rattle.sendumaal.proofs.rules.sendumaal_rule_parse.Tie as tie

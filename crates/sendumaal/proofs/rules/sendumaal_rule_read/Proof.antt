@@ -4,8 +4,8 @@ use mathlib.Core.List.{[], _∷_}
 use denote.Ref.{now}
 use Prim.Native.Nat.{ℕ}
 use Rattle.modification.specs.declared.rule.Read.{Read}
-use Rattle.calls_parts.specs.Calls.{accepted, readCall}
-use Rattle.calls_parts.specs.CallLaws.{said}
+use Rattle.sendumaal_calls.specs.Calls.{accepted, readCall}
+use Rattle.sendumaal_calls.specs.CallLaws.{said}
 use borrow.Author.Needs.{needs}
 use Rattle.sendumaal.proofs.rules.sendumaal_rule_read.Statement.{statement}
 use Rattle.sendumaal.proofs.rules.sendumaal_rule_read.Tie as tie

@@ -5,8 +5,8 @@ use denote.Ref.{now}
 use native.Mathlib.Omega.{arith}
 use Rattle.modification.specs.declared.specificity.Specificity.{Specificity}
 use Rattle.modification.specs.Rules.{writeRuleOutcome}
-use Rattle.calls_parts.specs.Calls.{checkedCall}
-use Rattle.calls_parts.specs.CallLaws.{rule-bytes, check-said, record-rule, record-none}
+use Rattle.sendumaal_calls.specs.Calls.{testedCall}
+use Rattle.sendumaal_calls.specs.CallLaws.{rule-bytes, check-said, record-rule, record-none}
 use borrow.Author.Needs.{needs}
 use Rattle.sendumaal.proofs.rules.sendumaal_rule_record.Statement.{statement}
 use Rattle.sendumaal.proofs.rules.sendumaal_rule_record.Tie as tie
@@ -46,7 +46,7 @@ returns c =
     let a = c .before .before .before .before .before .before .before .before .before .before .args in
     let w = c .before .before .before .before .write-rule in
     check-said (w .result) (c .told .result) (c .told .last .1 .0) (c .told .ensures) (w .last .1 .0 ∷ [])
-    ∙ ap checkedCall (w .ensures ∙ ap (λ (s : Specificity). writeRuleOutcome (record { on = s; id = a .id; limit = a .limit }) (now (a .out))) (c .before .before .before .before .before .before .specificity-of .ensures))
+    ∙ ap testedCall (w .ensures ∙ ap (λ (s : Specificity). writeRuleOutcome (record { on = s; id = a .id; limit = a .limit }) (now (a .out))) (c .before .before .before .before .before .before .specificity-of .ensures))
     ∙ record-rule (a .kind) (a .letter) (now (a .out)) (a .id) (a .limit) (sym (c .before .before .before .before .before .before .before .before .is-rule .ensures) ∙ c .before .before .before .before .before .before .before .if1 .taken)
 
 returns-2 : tie.Need-returns-2

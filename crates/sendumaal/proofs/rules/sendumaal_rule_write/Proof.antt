@@ -6,7 +6,7 @@ use native.Mathlib.Omega.{arith}
 use Rattle.modification.specs.declared.specificity.Specificity.{Specificity}
 use Rattle.modification.specs.Specificities.{specificity}
 use Rattle.modification.specs.Texts.{writeOutcome}
-use Rattle.calls_parts.specs.CallLaws.{rule-bytes, count-said, write-rule, write-none}
+use Rattle.sendumaal_calls.specs.CallLaws.{rule-bytes, count-said, write-rule, write-none}
 use borrow.Author.Needs.{needs}
 use Rattle.sendumaal.proofs.rules.sendumaal_rule_write.Statement.{statement}
 use Rattle.sendumaal.proofs.rules.sendumaal_rule_write.Tie as tie

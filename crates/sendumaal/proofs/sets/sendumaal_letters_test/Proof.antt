@@ -7,7 +7,7 @@ use Prim.Native.Nat.{_<_, _≤_}
 use borrow.Author.Tests.{lt-ltb, le-ltb}
 use Rattle.letters.specs.Letters.{firstBad}
 use Rattle.records.specs.declared.refusal.Refusal.the-variants.{Letter}
-use Rattle.calls_parts.specs.CallLaws.{said}
+use Rattle.sendumaal_calls.specs.CallLaws.{said}
 use borrow.Author.Needs.{needs}
 use Rattle.sendumaal.proofs.sets.sendumaal_letters_test.Statement.{statement}
 use Rattle.sendumaal.proofs.sets.sendumaal_letters_test.Tie as tie

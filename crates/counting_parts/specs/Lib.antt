@@ -1,6 +1,0 @@
--- What a reader has to believe: nothing; the files named Laws say what the functions leave in the lent slice, in the words of
--- grouping_rules, and why.
-pub mod PlacingLaws
-pub mod TallyLaws
-pub mod KnowingLaws
-pub mod SpreadLaws

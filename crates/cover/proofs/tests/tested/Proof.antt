@@ -1,0 +1,72 @@
+-- `tested` meets its contract, test by test. Assumes nothing.
+use Prim.Native.Nat.{_/_}
+use mathlib.Core.Path.{_≡_, sym, _∙_}
+use mathlib.Core.Bool.{true, false}
+use lib.ListN.{length}
+use lib.Dec.{ltb}
+use borrow.Author.Tests.{lt-ltb, le-ltb, eq-eqb, ne-eqb}
+use native.Mathlib.Omega.{arith}
+use borrow.Author.Needs.{needs}
+use Rattle.cover_spec.specs.Marks.{workNeeded}
+use Rattle.cover_edges.specs.Edges.{firstBadEdge}
+use Rattle.cover.specs.Covering.{tooLarge}
+use Rattle.cover.specs.CoveringLaws.{Small, small}
+use Rattle.cover.proofs.tests.tested.Statement.{statement}
+use Rattle.cover.proofs.tests.tested.Tie as tie
+
+too-large-requires : tie.Need-too-large-requires
+too-large-requires c κs = search needs
+
+returns : tie.Need-returns
+returns c = rw (sym (c .before .too-large .ensures) ∙ c .if1 .taken)
+
+-- the sizes are within their limits
+sizes : (c : tie.Else1) → tooLarge (length (c .before .before .before .args .edges .now) / 8) (c .before .before .before .args .groups) (c .before .before .before .args .metas) ≡ false
+sizes c = sym (c .before .too-large .ensures) ∙ c .if1 .left
+
+limits : (c : tie.Else1) → Small (length (c .before .before .before .args .edges .now) / 8) (c .before .before .before .args .groups) (c .before .before .before .args .metas)
+limits c = let a = c .before .before .before .args in small (length (a .edges .now) / 8) (a .groups) (a .metas) (sizes c)
+
+returns-2 : tie.Need-returns-2
+returns-2 c = rw (sizes (c .before), ne-eqb _ _ (c .if2 .taken))
+
+work-needed-requires : tie.Need-work-needed-requires
+work-needed-requires c κs = let s = limits (c .before) in (s .groups-max, s .metas-max, omega (arith, s .few))
+
+-- the work memory is enough, or not
+short : (c : tie.Then3) → ltb (c .before .before .before .before .before .before .args .words) (workNeeded (c .before .before .before .before .before .before .args .groups) (c .before .before .before .before .before .before .args .metas) (length (c .before .before .before .before .before .before .args .edges .now) / 8)) ≡ true
+short c = rw (c .before .work-needed .ensures) at (lt-ltb _ _ (c .if3 .taken))
+
+enough : (c : tie.Else3) → ltb (c .before .before .before .before .before .before .args .words) (workNeeded (c .before .before .before .before .before .before .args .groups) (c .before .before .before .before .before .before .args .metas) (length (c .before .before .before .before .before .before .args .edges .now) / 8)) ≡ false
+enough c = rw (c .before .work-needed .ensures) at (le-ltb _ _ (c .if3 .left))
+
+returns-3 : tie.Need-returns-3
+returns-3 c = rw (sizes (c .before .before .before), eq-eqb _ _ (c .before .before .if2 .left), short c)
+
+first-bad-edge-requires : tie.Need-first-bad-edge-requires
+first-bad-edge-requires c κs = limits (c .before .before .before) .few
+
+returns-4 : tie.Need-returns-4
+returns-4 c =
+    let a = c .before .before .before .before .before .before .before .before .args in
+    let g : ltb (firstBadEdge (a .edges .now) (a .groups) (a .metas) (length (a .edges .now) / 8)) (length (a .edges .now) / 8) ≡ true = rw (c .before .first-bad-edge .ensures) at (lt-ltb _ _ (c .if4 .taken)) in
+    rw (sizes (c .before .before .before .before .before), eq-eqb _ _ (c .before .before .before .before .if2 .left), enough (c .before .before), g, c .before .first-bad-edge .ensures)
+
+returns-5 : tie.Need-returns-5
+returns-5 c =
+    let a = c .before .before .before .before .before .before .before .before .args in
+    let g : ltb (firstBadEdge (a .edges .now) (a .groups) (a .metas) (length (a .edges .now) / 8)) (length (a .edges .now) / 8) ≡ false = rw (c .before .first-bad-edge .ensures) at (le-ltb _ _ (c .if4 .left)) in
+    rw (sizes (c .before .before .before .before .before), eq-eqb _ _ (c .before .before .before .before .if2 .left), enough (c .before .before), g)
+
+pub tested-spec : {M : Type 1} → statement M
+tested-spec =
+    tie.close
+    (tie.spec
+    too-large-requires
+    returns
+    returns-2
+    work-needed-requires
+    returns-3
+    first-bad-edge-requires
+    returns-4
+    returns-5)

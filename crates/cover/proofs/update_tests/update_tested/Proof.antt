@@ -1,0 +1,74 @@
+-- `update_tested` meets its contract. Assumes nothing.
+use Prim.Native.Nat.{_/_, _+_}
+use mathlib.Core.Path.{_≡_, sym, _∙_}
+use mathlib.Core.Bool.{true, false}
+use native.Mathlib.Omega.{arith}
+use lib.ListN.{length}
+use lib.Dec.{ltb}
+use borrow.Author.Tests.{lt-ltb, le-ltb}
+use Rattle.cover_spec.specs.Marks.{workNeeded}
+use Rattle.cover.specs.CoveringLaws.{Small}
+use Rattle.cover.specs.Updating.{eitherTooLarge, lengthsWrong}
+use Rattle.cover.specs.UpdatingLaws.{both-small}
+use borrow.Author.Needs.{needs}
+use Rattle.cover.proofs.update_tests.update_tested.Statement.{statement}
+use Rattle.cover.proofs.update_tests.update_tested.Tie as tie
+
+either-too-large-requires : tie.Need-either-too-large-requires
+either-too-large-requires c κs = search needs
+
+-- the sizes are within their limits
+sizes : (c : tie.Else1) → eitherTooLarge (length (c .before .before .before .before .before .args .old .now) / 8) (length (c .before .before .before .before .before .args .new .now) / 8) (c .before .before .before .before .before .args .groups) (c .before .before .before .before .before .args .metas) ≡ false
+sizes c = sym (c .before .either-too-large .ensures) ∙ c .if1 .left
+
+limits : (c : tie.Else1) → Small (length (c .before .before .before .before .before .args .old .now) / 8) (c .before .before .before .before .before .args .groups) (c .before .before .before .before .before .args .metas) × Small (length (c .before .before .before .before .before .args .new .now) / 8) (c .before .before .before .before .before .args .groups) (c .before .before .before .before .before .args .metas)
+limits c = let a = c .before .before .before .before .before .args in both-small (length (a .old .now) / 8) (length (a .new .now) / 8) (a .groups) (a .metas) (sizes c)
+
+-- the lists have whole records, and there is a mark for each group
+lengths : (c : tie.Else2) → lengthsWrong (c .before .before .before .before .before .before .before .args .old .now) (c .before .before .before .before .before .before .before .args .new .now) (c .before .before .before .before .before .before .before .args .groups) (c .before .before .before .before .before .before .before .args .given .now) ≡ false
+lengths c = sym (c .before .lengths-wrong .ensures) ∙ c .if2 .left
+
+-- the work memory is enough, or not
+short : (c : tie.Then3) → ltb (c .before .before .before .before .before .before .before .before .before .args .words) (workNeeded (c .before .before .before .before .before .before .before .before .before .args .groups) (c .before .before .before .before .before .before .before .before .before .args .metas) (length (c .before .before .before .before .before .before .before .before .before .args .old .now) / 8 + length (c .before .before .before .before .before .before .before .before .before .args .new .now) / 8)) ≡ true
+short c = rw (c .before .work-needed .ensures) at (lt-ltb _ _ (c .if3 .taken))
+
+enough : (c : tie.Else3) → ltb (c .before .before .before .before .before .before .before .before .before .args .words) (workNeeded (c .before .before .before .before .before .before .before .before .before .args .groups) (c .before .before .before .before .before .before .before .before .before .args .metas) (length (c .before .before .before .before .before .before .before .before .before .args .old .now) / 8 + length (c .before .before .before .before .before .before .before .before .before .args .new .now) / 8)) ≡ false
+enough c = rw (c .before .work-needed .ensures) at (le-ltb _ _ (c .if3 .left))
+
+returns : tie.Need-returns
+returns c = rw (sym (c .before .either-too-large .ensures) ∙ c .if1 .taken)
+
+lengths-wrong-requires : tie.Need-lengths-wrong-requires
+lengths-wrong-requires c κs = search needs
+
+returns-2 : tie.Need-returns-2
+returns-2 c = rw (sizes (c .before .before), sym (c .before .lengths-wrong .ensures) ∙ c .if2 .taken)
+
+add-work-needed : tie.Need-add-work-needed
+add-work-needed c = search needs
+
+work-needed-requires : tie.Need-work-needed-requires
+work-needed-requires c κs = let (s, t) = limits (c .before .before) in (s .groups-max, s .metas-max, omega (arith, s .few, t .few))
+
+returns-3 : tie.Need-returns-3
+returns-3 c = rw (sizes (c .before .before .before .before), lengths (c .before .before), short c)
+
+contents-requires : tie.Need-contents-requires
+contents-requires c κs = let (s, t) = limits (c .before .before .before .before) in (s .few, t .few)
+
+returns-4 : tie.Need-returns-4
+returns-4 c = rw (sizes (c .before .before .before .before .before), lengths (c .before .before .before), enough (c .before)) (c .contents .ensures)
+
+pub update-tested-spec : {M : Type 1} → statement M
+update-tested-spec =
+    tie.close
+    (tie.spec
+    either-too-large-requires
+    returns
+    lengths-wrong-requires
+    returns-2
+    add-work-needed
+    work-needed-requires
+    returns-3
+    contents-requires
+    returns-4)

@@ -1,0 +1,47 @@
+-- Document 01, "Sizes and records": an edge is 8 bytes, group u32 and meta-peptide u32, both below their counts; a mark is one byte,
+-- 0 or 1, and so is a decoy flag.
+use Prim.Native.Nat.{ℕ, zero, suc, _+_, _*_, _/_, _<_}
+use mathlib.Core.Bool.{Bool, _||_}
+use mathlib.Core.List.{List, [], _∷_, _++_}
+use lib.Dec.{leb, ltb}
+use lib.ListN.{length, getD}
+use Rattle.records.specs.Le.{le, numberAt}
+use Rattle.records.specs.Search.{seek}
+use Rattle.cover_spec.specs.Cover.{Edge, group, meta}
+
+-- record i: group, meta-peptide
+abbrev pub edgeAt : List ℕ → ℕ → Edge
+edgeAt bs i = (numberAt 4 bs (8 * i), numberAt 4 bs (8 * i + 4))
+
+-- the first n records
+unfoldable pub edgesTo : List ℕ → ℕ → List Edge
+edgesTo bs zero = []
+edgesTo bs (suc n) = edgesTo bs n ++ (edgeAt bs n ∷ [])
+
+-- all whole records
+abbrev pub edgesOf : List ℕ → List Edge
+edgesOf bs = edgesTo bs (length bs / 8)
+
+-- an edge as a record
+unfoldable pub edgeBytes : Edge → List ℕ
+edgeBytes e = le 4 (group e) ++ le 4 (meta e)
+
+-- a group or a meta-peptide that is not below its count
+abbrev pub badEdge : List ℕ → ℕ → ℕ → ℕ → Bool
+badEdge bs groups metas i = leb groups (numberAt 4 bs (8 * i)) || leb metas (numberAt 4 bs (8 * i + 4))
+
+-- the first such of n records, or n
+unfoldable pub firstBadEdge : List ℕ → ℕ → ℕ → ℕ → ℕ
+firstBadEdge bs groups metas n = seek (badEdge bs groups metas) 0 n
+
+-- the fields of n records are below their counts
+abbrev pub InRange : List ℕ → ℕ → ℕ → ℕ → Type 0
+InRange bs n groups metas = (i : ℕ) → i < n → (numberAt 4 bs (8 * i) < groups) × (numberAt 4 bs (8 * i + 4) < metas)
+
+-- a mark that is not 0 or 1
+abbrev pub badMark : List ℕ → ℕ → Bool
+badMark marks i = ltb 1 (getD marks i 0)
+
+-- the first such, or how many there are
+unfoldable pub firstBadMark : List ℕ → ℕ
+firstBadMark marks = seek (badMark marks) 0 (length marks)

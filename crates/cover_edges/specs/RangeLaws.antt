@@ -1,0 +1,25 @@
+-- Where no record is bad, all fields are below their counts. Assumes nothing.
+use Prim.Native.Nat.{ℕ, _+_, _*_, _≤_, _<_}
+use mathlib.Core.Path.{_≡_}
+use mathlib.Core.Bool.{false}
+use mathlib.Core.List.{List}
+use native.Mathlib.Omega.{arith}
+use lib.Dec.{leb}
+use lib.ListN.{length, getD}
+use borrow.Author.Tests.{leb-false, ltb-false}
+use Rattle.records.specs.Le.{numberAt}
+use Rattle.records.specs.SearchLaws.{seek-before}
+use Rattle.records.specs.Tests.{neither}
+use Rattle.cover_edges.specs.Edges.{badEdge, firstBadEdge, InRange, badMark, firstBadMark}
+
+pub in-range : (bs : List ℕ) (groups metas n : ℕ) → n ≤ firstBadEdge bs groups metas n → InRange bs n groups metas
+unfolding firstBadEdge
+in-range bs groups metas n h i l =
+    let e : badEdge bs groups metas i ≡ false = seek-before (badEdge bs groups metas) 0 n i (omega arith) (omega arith) in
+    let t = neither (leb groups (numberAt 4 bs (8 * i))) (leb metas (numberAt 4 bs (8 * i + 4))) e in
+    (leb-false groups (numberAt 4 bs (8 * i)) (t .0), leb-false metas (numberAt 4 bs (8 * i + 4)) (t .1))
+
+-- where no mark is bad, all are 0 or 1
+pub all-bits : (marks : List ℕ) → length marks ≤ firstBadMark marks → (i : ℕ) → i < length marks → getD marks i 0 ≤ 1
+unfolding firstBadMark
+all-bits marks h i l = ltb-false 1 (getD marks i 0) (seek-before (badMark marks) 0 (length marks) i (omega arith) (omega arith))

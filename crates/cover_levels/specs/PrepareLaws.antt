@@ -1,0 +1,556 @@
+-- The tables prepared: lists by group and by meta-peptide, the order, the first pass. Assumes nothing.
+use mathlib.Core.Path.{_≡_, refl, sym, ap, _∙_, subst}
+use mathlib.Core.Bool.{or-false, Bool, true, false, not, _&&_, _||_, cond, and-comm}
+use mathlib.Core.List.{List, [], _∷_}
+use Prim.Native.Nat.{ℕ, zero, suc, _+_, _-_, _*_, _≤_, _<_}
+use native.Mathlib.Omega.{arith}
+use native.Mathlib.Numerals.{add-one}
+use native.Mathlib.Nat.{add-zero, zero-add}
+use lib.Dec.{eqb}
+use lib.ListN.{length, getD, set, length-set}
+use lib.Seq.{getD-set-same, getD-set-other}
+use borrow.Author.Tests.{eqb-true, eqb-false}
+use Rattle.records.specs.Le.{numberAt}
+use Rattle.cover_spec.specs.Cover.{Edge, group, meta, bit, count, some, keep, ofGroup, ofMeta, pass, markForced, coverMarked, start, same}
+use Rattle.cover_spec.specs.CountLaws.{count-keep, count-le, count-append, some-app}
+use Rattle.cover_spec.specs.TestLaws.{eqb-sym}
+use Rattle.cover_spec.specs.TrimLaws.{iter}
+use Rattle.cover_spec.specs.LevelLaws.{Order, degree}
+use Rattle.cover_edges.specs.Edges.{edgeAt, edgesTo, InRange}
+use Rattle.cover_edges.specs.EdgeLaws.{edges-all, length-edges}
+use Rattle.cover_index.specs.PlaceLaws.{among, equals, belows, pairs, belows-ext, belows-next, belows-le, spot, spot-in, spot-ext, sorted-lists, sorted-order}
+use Rattle.cover_index.specs.SortLaws.{Regions, Indexed, from}
+use Rattle.cover_levels.specs.TableLaws.{Lists, Tables, tables-same}
+use Rattle.cover_levels.specs.StepLaws.{Stands, Levels, levels-start}
+
+-- ---- the fields of the records as keys and values
+
+abbrev pub groupAt : List ℕ → ℕ → ℕ
+groupAt bs i = numberAt 4 bs (8 * i)
+
+abbrev pub metaAt : List ℕ → ℕ → ℕ
+metaAt bs i = numberAt 4 bs (8 * i + 4)
+
+equals-group : (bs : List ℕ) (k x : ℕ) → equals (groupAt bs) k x ≡ ofGroup x (edgesTo bs k)
+unfolding equals edgesTo count
+equals-group bs zero x = refl
+equals-group bs (suc k) x = omega (arith, count-append (λ e. eqb (group e) x) (edgesTo bs k) (edgeAt bs k ∷ []), equals-group bs k x)
+
+equals-meta : (bs : List ℕ) (k x : ℕ) → equals (metaAt bs) k x ≡ ofMeta x (edgesTo bs k)
+unfolding equals edgesTo count
+equals-meta bs zero x = refl
+equals-meta bs (suc k) x = omega (arith, count-append (λ e. eqb (meta e) x) (edgesTo bs k) (edgeAt bs k ∷ []), equals-meta bs k x)
+
+pairs-group : (bs : List ℕ) (k x y : ℕ) → pairs (groupAt bs) (metaAt bs) k x y ≡ count (same (x, y)) (edgesTo bs k)
+unfolding pairs edgesTo count
+pairs-group bs zero x y = refl
+pairs-group bs (suc k) x y =
+    omega (
+      arith,
+      count-append (same (x, y)) (edgesTo bs k) (edgeAt bs k ∷ []),
+      pairs-group bs k x y,
+      ap (λ (b : Bool). bit (b && eqb (metaAt bs k) y)) (eqb-sym (groupAt bs k) x),
+      ap (λ (b : Bool). bit (eqb x (groupAt bs k) && b)) (eqb-sym (metaAt bs k) y),
+    )
+
+pairs-meta : (bs : List ℕ) (k x y : ℕ) → pairs (metaAt bs) (groupAt bs) k x y ≡ count (same (y, x)) (edgesTo bs k)
+unfolding pairs edgesTo count
+pairs-meta bs zero x y = refl
+pairs-meta bs (suc k) x y =
+    omega (
+      arith,
+      count-append (same (y, x)) (edgesTo bs k) (edgeAt bs k ∷ []),
+      pairs-meta bs k x y,
+      ap bit (and-comm (eqb (metaAt bs k) x) (eqb (groupAt bs k) y)),
+      ap (λ (b : Bool). bit (b && eqb (metaAt bs k) x)) (eqb-sym (groupAt bs k) y),
+      ap (λ (b : Bool). bit (eqb y (groupAt bs k) && b)) (eqb-sym (metaAt bs k) x),
+    )
+
+-- ---- lists by key
+
+pub record Sorted (key val : ℕ → ℕ) (k o n l : ℕ) (w : List ℕ) : Type 0 where
+  pub starts : (y : ℕ) → y ≤ n → getD w (o + y) 0 ≡ l + belows key k y
+  pub spots : (i : ℕ) → i < k → getD w (spot key k l i) 0 ≡ val i
+
+sorted-kept : (key val : ℕ → ℕ) (k o n l : ℕ) (w v : List ℕ) → ((x : ℕ) → o ≤ x → x ≤ o + n → getD v x 0 ≡ getD w x 0) → ((x : ℕ) → l ≤ x → x < l + k → getD v x 0 ≡ getD w x 0)
+    → Sorted key val k o n l w → Sorted key val k o n l v
+sorted-kept key val k o n l w v p q h = record {
+  starts = λ y b. p (o + y) (omega arith) (omega arith) ∙ h .starts y b;
+  spots = λ i b. q (spot key k l i) (spot-in key k l i b .0) (spot-in key k l i b .1) ∙ h .spots i b;
+}
+
+sorted-indexed : (key val : ℕ → ℕ) (K W k o n l : ℕ) (w v : List ℕ) → ((i : ℕ) → i < k → from w K i ≡ key i) → ((i : ℕ) → i < k → from w W i ≡ val i)
+    → Indexed K W k o n l w v → Sorted key val k o n l v
+sorted-indexed key val K W k o n l w v p q h = record {
+  starts = λ y b. h .starts y b ∙ ap (λ (x : ℕ). l + x) (belows-ext (from w K) key k y p);
+  spots = λ i b. ap (λ (x : ℕ). getD v x 0) (sym (spot-ext (from w K) key k l i p b)) ∙ h .spots i b ∙ q i b;
+}
+
+lists-sorted : (key val : ℕ → ℕ) (k o n l s : ℕ) (w : List ℕ) (sz : ℕ → ℕ) (c : ℕ → ℕ → ℕ) → ((x : ℕ) → equals key k x ≡ sz x) → ((x y : ℕ) → pairs key val k x y ≡ c x y)
+    → s ≤ o → o + n < l → l + k ≤ length w → Sorted key val k o n l w → Lists s o n sz c w
+lists-sorted key val k o n l s w sz c p q a b e h = record {
+  above = a;
+  fits = omega arith;
+  starts = λ x d. omega (arith, h .starts x (omega arith));
+  sizes = λ x d. ap (λ (z : ℕ). getD w z 0) (assoc x) ∙ h .starts (x + 1) (omega arith) ∙ omega (arith, h .starts x (omega arith), belows-next key k x, p x);
+  ends = λ x d. subst (λ (z : ℕ). getD w z 0 ≤ length w) (sym (assoc x)) (omega (arith, h .starts (x + 1) (omega arith), belows-le key k (x + 1)));
+  lists = λ x y d. subst (λ (z : ℕ). among w (getD w (o + x) 0) z y ≡ c x y) (p x)
+      (subst (λ (z : ℕ). among w z (equals key k x) y ≡ c x y) (sym (h .starts x (omega arith))) (sorted-lists key val k l w (h .spots) x y ∙ q x y));
+}
+  where
+    assoc : (x : ℕ) → o + x + 1 ≡ o + (x + 1)
+    assoc x = omega arith
+
+-- ---- where everything stands
+
+pub record Layout (n m k ge go mo gm mg od : ℕ) (w : List ℕ) : Type 0 where
+  pub edges-at : ge ≡ n + m + n
+  pub groups-at : go ≡ ge + k + k + 1
+  pub metas-at : mo ≡ go + n + 1
+  pub group-lists-at : gm ≡ mo + m + 1
+  pub meta-lists-at : mg ≡ gm + k
+  pub order-at : od ≡ mg + k
+  pub fits : od + n ≤ length w
+  pub room : od + n ≤ 4294967295
+  pub some : 0 < k
+  pub few : k ≤ 1048576
+
+module _ (n m ge go mo gm mg od : ℕ) (bs : List ℕ) (k : ℕ) (w : List ℕ) where
+  abbrev all : List Edge
+  all = edgesTo bs k
+
+  tables-from : Layout n m k ge go mo gm mg od w → InRange bs k n m → Sorted (groupAt bs) (metaAt bs) k go n gm w → Sorted (metaAt bs) (groupAt bs) k mo m mg w
+      → Order n (degree n all) (λ i. getD w (od + i) 0) → Tables n m go mo od all w
+  tables-from r i a b c = record {
+    bounds = edges-all bs k n m i;
+    byGroup = lists-sorted (groupAt bs) (metaAt bs) k go n gm (n + m + n) w (λ x. ofGroup x all) (λ x y. count (same (x, y)) all)
+        (equals-group bs k) (pairs-group bs k) (omega (arith, r .edges-at, r .groups-at)) (omega (arith, r .metas-at, r .group-lists-at))
+        (omega (arith, r .meta-lists-at, r .order-at, r .fits)) a;
+    byMeta = lists-sorted (metaAt bs) (groupAt bs) k mo m mg (n + m + n) w (λ x. ofMeta x all) (λ x y. count (same (y, x)) all)
+        (equals-meta bs k) (pairs-meta bs k) (omega (arith, r .edges-at, r .groups-at, r .metas-at)) (omega (arith, r .group-lists-at, r .meta-lists-at))
+        (omega (arith, r .order-at, r .fits)) b;
+    order = c;
+    order-above = omega (arith, r .edges-at, r .groups-at, r .metas-at, r .group-lists-at, r .meta-lists-at, r .order-at);
+    order-fits = r .fits;
+  }
+
+-- ---- clearing and copying
+
+-- the entries from a up to e of v are f 0, f 1, .., and the others those of w
+pub record Puts (f : ℕ → ℕ) (a e : ℕ) (w v : List ℕ) : Type 0 where
+  pub size : length v ≡ length w
+  pub put : (i : ℕ) → a + i < e → getD v (a + i) 0 ≡ f i
+  pub rest : (x : ℕ) → (a ≤ x → x < e → ⊥) → getD v x 0 ≡ getD w x 0
+
+pub puts-start : (f : ℕ → ℕ) (a : ℕ) (w : List ℕ) → Puts f a a w w
+puts-start f a w = record { size = refl; put = λ i b. absurd (omega arith); rest = λ x b. refl }
+
+pub puts-step : (f : ℕ → ℕ) (a i x : ℕ) (w v : List ℕ) → Puts f a (a + i) w v → a + i < length v → x ≡ f i → Puts f a (a + (i + 1)) w (set v (a + i) x)
+puts-step f a i x w v h b e = record {
+  size = simp length-set (h .size);
+  put = λ j c. one j c (eqb j i) refl;
+  rest = λ y c. getD-set-other v (a + i) y x 0 (λ q. c (omega arith) (omega arith)) ∙ h .rest y (λ p q. c p (omega arith));
+}
+  where
+    one : (j : ℕ) → a + j < a + (i + 1) → (t : Bool) → eqb j i ≡ t → getD (set v (a + i) x) (a + j) 0 ≡ f j
+    one j c true q = subst (λ (z : ℕ). getD (set v (a + i) x) (a + z) 0 ≡ f z) (sym (eqb-true j i q)) (getD-set-same v (a + i) x 0 b ∙ e)
+    one j c false q = getD-set-other v (a + i) (a + j) x 0 (λ z. eqb-false j i q (omega arith)) ∙ h .put j (omega (arith, eqb-false j i q))
+
+-- ---- flags: of k things those that are on flag the entry that they aim at
+
+unfoldable pub hits : (ℕ → ℕ) → (ℕ → Bool) → ℕ → ℕ → Bool
+hits aim on zero y = false
+hits aim on (suc k) y = (eqb (aim k) y && on k) || hits aim on k y
+
+hits-some : (p : Edge → Bool) (bs : List ℕ) (aim : ℕ → ℕ) (on : ℕ → Bool) (k y : ℕ) → ((i : ℕ) → i < k → (eqb (aim i) y && on i) ≡ p (edgeAt bs i)) → hits aim on k y ≡ some p (edgesTo bs k)
+unfolding hits edgesTo count
+hits-some p bs aim on zero y h = refl
+hits-some p bs aim on (suc k) y h =
+    rw (h k (omega arith), hits-some p bs aim on k y (λ i b. h i (omega arith)), some-app p (edgesTo bs k) (edgeAt bs k)) (swap (p (edgeAt bs k)) (some p (edgesTo bs k)))
+  where
+    swap : (a b : Bool) → (a || b) ≡ (b || a)
+    swap true true = refl
+    swap true false = refl
+    swap false b = sym (or-false b)
+
+module _ (base len : ℕ) (aim : ℕ → ℕ) (on : ℕ → Bool) (w₀ : List ℕ) where
+  pub record Flags (w : List ℕ) (i : ℕ) : Type 0 where
+    pub size : length w ≡ length w₀
+    pub flags : (y : ℕ) → y < len → eqb (getD w (base + y) 0) 1 ≡ hits aim on i y
+    pub rest : (x : ℕ) → (base ≤ x → x < base + len → ⊥) → getD w x 0 ≡ getD w₀ x 0
+
+  pub flags-start : ((y : ℕ) → y < len → getD w₀ (base + y) 0 ≡ 0) → Flags w₀ 0
+  unfolding hits
+  flags-start h = record { size = refl; flags = λ y b. rw (h y b); rest = λ x b. refl }
+
+  flags-step : (w : List ℕ) (i v : ℕ) → Flags w i → aim i < len → base + len ≤ length w → v ≡ cond (on i) 1 (getD w (base + aim i) 0) → Flags (set w (base + aim i) v) (i + 1)
+  unfolding hits
+  flags-step w i v h b c e = record {
+    size = simp length-set (h .size);
+    flags = λ y d. rw (add-one i) (one y d (eqb (aim i) y) refl);
+    rest = λ x d. getD-set-other w (base + aim i) x v 0 (λ q. d (omega arith) (omega arith)) ∙ h .rest x d;
+  }
+    where
+      val : (t : Bool) → on i ≡ t → v ≡ cond t 1 (getD w (base + aim i) 0)
+      val t q = e ∙ ap (λ (s : Bool). cond s 1 (getD w (base + aim i) 0)) q
+
+      at-aim : (t : Bool) → on i ≡ t → eqb v 1 ≡ (t || hits aim on i (aim i))
+      at-aim true q = ap (λ (z : ℕ). eqb z 1) (val true q)
+      at-aim false q = ap (λ (z : ℕ). eqb z 1) (val false q) ∙ h .flags (aim i) b
+
+      one : (y : ℕ) → y < len → (t : Bool) → eqb (aim i) y ≡ t → eqb (getD (set w (base + aim i) v) (base + y) 0) 1 ≡ ((t && on i) || hits aim on i y)
+      one y d true q =
+          subst (λ (z : ℕ). eqb (getD (set w (base + aim i) v) (base + z) 0) 1 ≡ (on i || hits aim on i z)) (eqb-true (aim i) y q)
+          (ap (λ (z : ℕ). eqb z 1) (getD-set-same w (base + aim i) v 0 (omega arith)) ∙ at-aim (on i) refl)
+      one y d false q =
+          ap (λ (z : ℕ). eqb z 1) (getD-set-other w (base + aim i) (base + y) v 0 (λ z. eqb-false (aim i) y q (omega arith))) ∙ h .flags y d
+
+-- ---- counts: of k things those that are on raise the entry that they aim at
+
+unfoldable pub sumOf : (ℕ → ℕ) → (ℕ → Bool) → ℕ → ℕ → ℕ
+sumOf aim on zero y = 0
+sumOf aim on (suc k) y = bit (eqb (aim k) y && on k) + sumOf aim on k y
+
+sumOf-le : (aim : ℕ → ℕ) (on : ℕ → Bool) (k y : ℕ) → sumOf aim on k y ≤ k
+unfolding sumOf
+sumOf-le aim on zero y = omega arith
+sumOf-le aim on (suc k) y = go (eqb (aim k) y && on k) (sumOf-le aim on k y)
+  where
+    go : (b : Bool) → sumOf aim on k y ≤ k → bit b + sumOf aim on k y ≤ suc k
+    go true h = omega arith
+    go false h = omega arith
+
+sumOf-count : (p : Edge → Bool) (bs : List ℕ) (aim : ℕ → ℕ) (on : ℕ → Bool) (k y : ℕ) → ((i : ℕ) → i < k → (eqb (aim i) y && on i) ≡ p (edgeAt bs i)) → sumOf aim on k y ≡ count p (edgesTo bs k)
+unfolding sumOf edgesTo count
+sumOf-count p bs aim on zero y h = refl
+sumOf-count p bs aim on (suc k) y h =
+    omega (arith, ap bit (h k (omega arith)), sumOf-count p bs aim on k y (λ i b. h i (omega arith)), count-append p (edgesTo bs k) (edgeAt bs k ∷ []))
+
+module _ (len : ℕ) (aim : ℕ → ℕ) (on : ℕ → Bool) (w₀ : List ℕ) where
+  pub record Counting (w : List ℕ) (i : ℕ) : Type 0 where
+    pub size : length w ≡ length w₀
+    pub counts : (y : ℕ) → y < len → getD w y 0 ≡ sumOf aim on i y
+    pub rest : (x : ℕ) → len ≤ x → getD w x 0 ≡ getD w₀ x 0
+
+  pub counting-start : ((y : ℕ) → y < len → getD w₀ y 0 ≡ 0) → Counting w₀ 0
+  unfolding sumOf
+  counting-start h = record { size = refl; counts = h; rest = λ x b. refl }
+
+  counting-room : (w : List ℕ) (i : ℕ) → Counting w i → aim i < len → getD w (aim i) 0 ≤ i
+  counting-room w i h b = omega (arith, h .counts (aim i) b, sumOf-le aim on i (aim i))
+
+  counting-step : (w : List ℕ) (i v : ℕ) → Counting w i → aim i < len → len ≤ length w → v ≡ bit (on i) → Counting (set w (aim i) (getD w (aim i) 0 + v)) (i + 1)
+  unfolding sumOf
+  counting-step w i v h b c e = record {
+    size = simp length-set (h .size);
+    counts = λ y d. rw (add-one i) (one y d (eqb (aim i) y) refl);
+    rest = λ x d. getD-set-other w (aim i) x (getD w (aim i) 0 + v) 0 (λ q. omega arith) ∙ h .rest x d;
+  }
+    where
+      one : (y : ℕ) → y < len → (t : Bool) → eqb (aim i) y ≡ t → getD (set w (aim i) (getD w (aim i) 0 + v)) y 0 ≡ bit (t && on i) + sumOf aim on i y
+      one y d true q =
+          subst (λ (z : ℕ). getD (set w (aim i) (getD w (aim i) 0 + v)) z 0 ≡ bit (on i) + sumOf aim on i z) (eqb-true (aim i) y q)
+          (omega (arith, getD-set-same w (aim i) (getD w (aim i) 0 + v) 0 (omega arith), h .counts (aim i) b))
+      one y d false q = omega (arith, getD-set-other w (aim i) y (getD w (aim i) 0 + v) 0 (λ z. eqb-false (aim i) y q (sym z)), h .counts y d)
+
+-- ---- the first pass
+
+-- edge i is the only one of its meta-peptide; its group is marked; its meta-peptide is not covered
+abbrev pub onlyEdge : ℕ → List ℕ → List ℕ → ℕ → Bool
+onlyEdge mo bs w i = eqb (getD w (mo + metaAt bs i + 1) 0 - getD w (mo + metaAt bs i) 0) 1
+
+abbrev pub inMarked : ℕ → ℕ → List ℕ → List ℕ → ℕ → Bool
+inMarked n m bs w i = eqb (getD w (n + m + groupAt bs i) 0) 1
+
+abbrev pub isOpen : ℕ → List ℕ → List ℕ → ℕ → Bool
+isOpen n bs w i = not (eqb (getD w (n + metaAt bs i) 0) 1)
+
+-- after the first i edges: the groups of only edges are marked; the meta-peptides of marked groups are covered; the edges of uncovered
+-- meta-peptides are counted
+abbrev pub Forced : ℕ → ℕ → ℕ → List ℕ → List ℕ → List ℕ → ℕ → Type 0
+Forced n m mo bs w v i = Flags (n + m) n (groupAt bs) (onlyEdge mo bs w) w v i
+
+abbrev pub Covered : ℕ → ℕ → List ℕ → List ℕ → List ℕ → ℕ → Type 0
+Covered n m bs w v i = Flags n m (metaAt bs) (inMarked n m bs w) w v i
+
+abbrev pub Counted : ℕ → List ℕ → List ℕ → List ℕ → ℕ → Type 0
+Counted n bs w v i = Counting n (groupAt bs) (isOpen n bs w) w v i
+
+module _ (n m go mo od : ℕ) (bs : List ℕ) (k : ℕ) where
+  abbrev edges : List Edge
+  edges = edgesTo bs k
+
+  module _ (w w₁ w₂ w₃ : List ℕ) (r : Tables n m go mo od edges w) (i : InRange bs k n m)
+      (f₁ : Forced n m mo bs w w₁ k) (f₂ : Covered n m bs w₁ w₂ k) (f₃ : Counted n bs w₂ w₃ k) where
+    degree-meta : (x : ℕ) → x < m → getD w (mo + x + 1) 0 - getD w (mo + x) 0 ≡ ofMeta x edges
+    degree-meta x b = omega (arith, r .byMeta .sizes x b)
+
+    marked-first : (g : ℕ) → g < n → eqb (getD w₁ (n + m + g) 0) 1 ≡ markForced (start edges) g
+    unfolding markForced
+    marked-first g b =
+        f₁ .flags g b
+        ∙ hits-some (λ e. eqb (group e) g && eqb (ofMeta (meta e) edges) 1) bs (groupAt bs) (onlyEdge mo bs w) k g
+        (λ j c. ap (λ (z : ℕ). eqb (groupAt bs j) g && eqb z 1) (degree-meta (metaAt bs j) (i j c .1)))
+
+    covered-first : (y : ℕ) → y < m → eqb (getD w₂ (n + y) 0) 1 ≡ coverMarked (start edges) y
+    unfolding coverMarked
+    covered-first y b =
+        f₂ .flags y b
+        ∙ hits-some (λ e. eqb (meta e) y && markForced (start edges) (group e)) bs (metaAt bs) (inMarked n m bs w₁) k y
+        (λ j c. ap (λ (z : Bool). eqb (metaAt bs j) y && z) (marked-first (groupAt bs j) (i j c .0)))
+
+    same-covers : (y : ℕ) → getD w₃ (n + y) 0 ≡ getD w₂ (n + y) 0
+    same-covers y = f₃ .rest (n + y) (omega arith)
+
+    first-counts : (g : ℕ) → g < n → getD w₃ g 0 ≡ ofGroup g (keep (λ e. not (eqb (getD w₃ (n + meta e) 0) 1)) edges)
+    first-counts g b =
+        f₃ .counts g b
+        ∙ sumOf-count (λ e. not (eqb (getD w₃ (n + meta e) 0) 1) && eqb (group e) g) bs (groupAt bs) (isOpen n bs w₂) k g
+        (λ j c. and-comm (eqb (groupAt bs j) g) (isOpen n bs w₂ j) ∙ ap (λ (z : ℕ). not (eqb z 1) && eqb (groupAt bs j) g) (sym (same-covers (metaAt bs j))))
+        ∙ sym (count-keep (λ e. eqb (group e) g) (λ e. not (eqb (getD w₃ (n + meta e) 0) 1)) edges)
+
+    first-stands : Stands n m go mo od edges 0 w₃
+    unfolding iter pass
+    first-stands = record {
+      counts = first-counts;
+      covered = λ y b. ap (λ (z : ℕ). eqb z 1) (same-covers y) ∙ covered-first y b;
+      marked = λ g b. ap (λ (z : ℕ). eqb z 1) (f₃ .rest (n + m + g) (omega arith) ∙ f₂ .rest (n + m + g) (λ x y. omega arith)) ∙ marked-first g b;
+    }
+
+    first-tables : Tables n m go mo od edges w₃
+    first-tables = tables-same n m go mo od edges w w₃ (f₃ .size ∙ f₂ .size ∙ f₁ .size)
+        (λ x b. f₃ .rest x (omega arith) ∙ f₂ .rest x (λ c d. omega arith) ∙ f₁ .rest x (λ c d. omega arith)) r
+
+    pub first-levels : Levels n m go mo od edges k 0 w₃
+    first-levels = levels-start n m go mo od edges w₃ k first-tables first-stands
+        (λ g b. omega (arith, count-le (λ e. eqb (group e) g) edges, length-edges bs k))
+
+-- ---- the order
+
+module _ (n m ge go mo gm mg od : ℕ) (bs : List ℕ) (k : ℕ) where
+  abbrev edges′ : List Edge
+  edges′ = edgesTo bs k
+
+  -- what the edges in w look like before the lists are made
+  pub record Gathered (w : List ℕ) : Type 0 where
+    pub groups : (i : ℕ) → i < k → from w ge i ≡ groupAt bs i
+    pub metas : (i : ℕ) → i < k → from w (ge + k) i ≡ metaAt bs i
+    pub zeros : (x : ℕ) → go ≤ x → x < od + n → getD w x 0 ≡ 0
+
+  -- the keys and the numbers of the groups, and room for the boundaries
+  pub record Ranked (w v : List ℕ) : Type 0 where
+    pub size : length v ≡ length w
+    pub keys : (g : ℕ) → g < n → getD v g 0 ≡ k - ofGroup g edges′
+    pub numbers : (g : ℕ) → g < n → getD v (n + m + g) 0 ≡ g
+    pub zeros : (x : ℕ) → x ≤ k → getD v (ge + x) 0 ≡ 0
+    pub rest : (x : ℕ) → go ≤ x → getD v x 0 ≡ getD w x 0
+
+  pub record Listed (w : List ℕ) : Type 0 where
+    pub byGroup : Sorted (groupAt bs) (metaAt bs) k go n gm w
+    pub byMeta : Sorted (metaAt bs) (groupAt bs) k mo m mg w
+
+  pub ranked-regions : (w v : List ℕ) → Layout n m k ge go mo gm mg od w → Ranked w v → Regions 0 (n + m) n ge (k + 1) od v
+  ranked-regions w v r h = record {
+    keys-before = omega (arith, r .edges-at);
+    vals-before = omega (arith, r .edges-at);
+    gap = omega (arith, r .groups-at, r .metas-at, r .group-lists-at, r .meta-lists-at, r .order-at, r .some);
+    fits = omega (arith, r .fits, h .size);
+    room = r .room;
+    keys = λ i b. rw (zero-add i) (omega (arith, h .keys i b));
+  }
+
+  module _ (w v u z : List ℕ) (r : Layout n m k ge go mo gm mg od w) (inp : InRange bs k n m) (l : Listed w) (h : Ranked w v)
+      (x : Indexed 0 (n + m) n ge (k + 1) od v u) (len : length u ≡ length v) (c : Puts (λ i. 0) 0 (n + m + n) u z) where
+    keep-at : (y : ℕ) → go ≤ y → y < od → getD z y 0 ≡ getD w y 0
+    keep-at y a b =
+        c .rest y (λ p q. omega (arith, r .edges-at, r .groups-at))
+        ∙ x .rest y (λ p q. omega (arith, r .groups-at, r .some)) (λ p q. omega arith)
+        ∙ h .rest y a
+
+    listed′ : Listed z
+    listed′ = record {
+      byGroup = sorted-kept (groupAt bs) (metaAt bs) k go n gm w z
+          (λ y a b. keep-at y a (omega (arith, r .metas-at, r .group-lists-at, r .meta-lists-at, r .order-at)))
+          (λ y a b. keep-at y (omega (arith, r .metas-at, r .group-lists-at)) (omega (arith, r .meta-lists-at, r .order-at))) (l .byGroup);
+      byMeta = sorted-kept (metaAt bs) (groupAt bs) k mo m mg w z
+          (λ y a b. keep-at y (omega (arith, r .metas-at)) (omega (arith, r .group-lists-at, r .meta-lists-at, r .order-at)))
+          (λ y a b. keep-at y (omega (arith, r .metas-at, r .group-lists-at, r .meta-lists-at)) (omega (arith, r .order-at))) (l .byMeta);
+    }
+
+    layout′ : Layout n m k ge go mo gm mg od z
+    layout′ = record {
+      edges-at = r .edges-at;
+      groups-at = r .groups-at;
+      metas-at = r .metas-at;
+      group-lists-at = r .group-lists-at;
+      meta-lists-at = r .meta-lists-at;
+      order-at = r .order-at;
+      fits = omega (arith, r .fits, c .size, h .size);
+      room = r .room;
+      some = r .some;
+      few = r .few;
+    }
+
+    small : (g : ℕ) → ofGroup g edges′ ≤ k
+    small g = omega (arith, count-le (λ e. eqb (group e) g) edges′, length-edges bs k)
+
+    order′ : Order n (degree n edges′) (λ i. getD z (od + i) 0)
+    order′ = sorted-order n k od (degree n edges′) z (λ g b. small g) (from v 0) (λ g b. ap (λ (y : ℕ). getD v y 0) (zero-add g) ∙ h .keys g b)
+        (λ g b. c .rest (spot (from v 0) n od g) (λ p q. omega (arith, spot-in (from v 0) n od g b .0, r .edges-at, r .groups-at, r .metas-at, r .group-lists-at, r .meta-lists-at, r .order-at))
+        ∙ x .spots g b ∙ h .numbers g b)
+
+    pub ordered-tables : Tables n m go mo od edges′ z
+    ordered-tables = tables-from n m ge go mo gm mg od bs k z layout′ inp (listed′ .byGroup) (listed′ .byMeta) order′
+
+    pub ordered-zeros : (y : ℕ) → y < n + m + n → getD z y 0 ≡ 0
+    ordered-zeros y b = ap (λ (t : ℕ). getD z t 0) (sym (zero-add y)) ∙ c .put y (omega arith)
+
+  -- ---- the two lists
+
+  module _ (w : List ℕ) (r : Layout n m k ge go mo gm mg od w) (inp : InRange bs k n m) (g : Gathered w) where
+    pub group-regions : Regions ge (ge + k) k go n gm w
+    group-regions = record {
+      keys-before = omega (arith, r .groups-at);
+      vals-before = omega (arith, r .groups-at);
+      gap = omega (arith, r .metas-at, r .group-lists-at);
+      fits = omega (arith, r .meta-lists-at, r .order-at, r .fits);
+      room = omega (arith, r .meta-lists-at, r .order-at, r .room);
+      keys = λ i b. rw (g .groups i b) (inp i b .0);
+    }
+
+    pub group-zeros : (x : ℕ) → x < n → getD w (go + x) 0 ≡ 0
+    group-zeros x b = g .zeros (go + x) (omega arith) (omega (arith, r .metas-at, r .group-lists-at, r .meta-lists-at, r .order-at))
+
+    module _ (v : List ℕ) (len : length v ≡ length w) (x : Indexed ge (ge + k) k go n gm w v) where
+      same-low : (y : ℕ) → y < go → getD v y 0 ≡ getD w y 0
+      same-low y b = x .rest y (λ p q. omega arith) (λ p q. omega (arith, r .metas-at, r .group-lists-at))
+
+      pub meta-regions : Regions (ge + k) ge k mo m mg v
+      meta-regions = record {
+        keys-before = omega (arith, r .groups-at, r .metas-at);
+        vals-before = omega (arith, r .groups-at, r .metas-at);
+        gap = omega (arith, r .group-lists-at, r .meta-lists-at);
+        fits = omega (arith, r .order-at, r .fits);
+        room = omega (arith, r .order-at, r .room);
+        keys = λ i b. rw (same-low (ge + k + i) (omega (arith, r .groups-at)), g .metas i b) (inp i b .1);
+      }
+
+      pub meta-zeros : (y : ℕ) → y < m → getD v (mo + y) 0 ≡ 0
+      meta-zeros y b =
+          x .rest (mo + y) (λ p q. omega (arith, r .metas-at)) (λ p q. omega (arith, r .group-lists-at))
+          ∙ g .zeros (mo + y) (omega (arith, r .metas-at)) (omega (arith, r .group-lists-at, r .meta-lists-at, r .order-at))
+
+      pub listed : (u : List ℕ) → Indexed (ge + k) ge k mo m mg v u → Listed u
+      listed u y = record {
+        byGroup = sorted-kept (groupAt bs) (metaAt bs) k go n gm v u
+            (λ z a b. y .rest z (λ p q. omega (arith, r .metas-at)) (λ p q. omega (arith, r .metas-at, r .group-lists-at, r .meta-lists-at)))
+            (λ z a b. y .rest z (λ p q. omega (arith, r .group-lists-at)) (λ p q. omega (arith, r .meta-lists-at)))
+            (sorted-indexed (groupAt bs) (metaAt bs) ge (ge + k) k go n gm w v (g .groups) (g .metas) x);
+        byMeta = sorted-indexed (metaAt bs) (groupAt bs) (ge + k) ge k mo m mg v u
+            (λ i b. same-low (ge + k + i) (omega (arith, r .groups-at)) ∙ g .metas i b)
+            (λ i b. same-low (ge + i) (omega (arith, r .groups-at)) ∙ g .groups i b) y;
+      }
+
+  -- ---- gathering and ranking
+
+  pub gathered : (w v u z : List ℕ) → Layout n m k ge go mo gm mg od w → InRange bs k n m → Puts (λ i. 0) 0 (od + n) w v → Puts (λ j. numberAt 4 bs (8 * j + 0)) ge (ge + k) v u
+      → Puts (metaAt bs) (ge + k) (ge + k + k) u z → Gathered z
+  gathered w v u z r i a b c = record {
+    groups = λ j d. c .rest (ge + j) (λ p q. omega arith) ∙ b .put j (omega arith) ∙ ap (numberAt 4 bs) (add-zero (8 * j));
+    metas = λ j d. c .put j (omega (arith));
+    zeros = λ x d e. c .rest x (λ p q. omega (arith, r .groups-at)) ∙ b .rest x (λ p q. omega (arith, r .groups-at)) ∙ ap (λ (t : ℕ). getD v t 0) (sym (zero-add x)) ∙ a .put x (omega arith);
+  }
+
+  pub ranked : (w v u z : List ℕ) → Layout n m k ge go mo gm mg od w → Puts (λ g. k - ofGroup g edges′) 0 n w v → Puts (λ i. i) (n + m) (n + m + n) v u
+      → Puts (λ i. 0) ge (ge + k + 1) u z → Ranked w z
+  ranked w v u z r a b c = record {
+    size = c .size ∙ b .size ∙ a .size;
+    keys = λ g d. c .rest g (λ p q. omega (arith, r .edges-at)) ∙ b .rest g (λ p q. omega arith) ∙ ap (λ (t : ℕ). getD v t 0) (sym (zero-add g)) ∙ a .put g (omega arith);
+    numbers = λ g d. c .rest (n + m + g) (λ p q. omega (arith, r .edges-at)) ∙ b .put g (omega arith);
+    zeros = λ x d. c .put x (omega arith);
+    rest = λ x d. c .rest x (λ p q. omega (arith, r .groups-at, r .some)) ∙ b .rest x (λ p q. omega (arith, r .edges-at, r .groups-at)) ∙ a .rest x (λ p q. omega (arith, r .edges-at, r .groups-at));
+  }
+
+-- ---- one turn of each loop, as the code makes it
+
+pub puts-low : (f : ℕ → ℕ) (i x : ℕ) (w v : List ℕ) → Puts f 0 i w v → i < length v → x ≡ f i → Puts f 0 (i + 1) w (set v i x)
+puts-low f i x w v h b e =
+    subst (λ (z : ℕ). Puts f 0 z w (set v i x)) (zero-add (i + 1))
+    (subst (λ (z : ℕ). Puts f 0 (0 + (i + 1)) w (set v z x)) (zero-add i)
+    (puts-step f 0 i x w v (subst (λ (z : ℕ). Puts f 0 z w v) (sym (zero-add i)) h) (omega arith) e))
+
+module _ (n m go mo od : ℕ) (bs : List ℕ) (k : ℕ) (w₀ : List ℕ) (inp : InRange bs k n m) (w : List ℕ) (i : ℕ) (b : i < k)
+    (r : Tables n m go mo od (edgesTo bs k) w₀) (h : Forced n m mo bs w₀ w i) where
+  same-at : (x : ℕ) → n + m + n ≤ x → getD w x 0 ≡ getD w₀ x 0
+  same-at x c = h .rest x (λ p q. omega arith)
+
+  pub forced-inside : (n + m + groupAt bs i < length w) × (mo + metaAt bs i + 1 < length w) × (getD w (mo + metaAt bs i) 0 ≤ getD w (mo + metaAt bs i + 1) 0)
+  forced-inside = (
+    omega (arith, inp i b .0, r .order-above, r .order-fits, h .size),
+    omega (arith, inp i b .1, r .byMeta .fits, h .size),
+    omega (arith, same-at (mo + metaAt bs i) (omega (arith, r .byMeta .above)), same-at (mo + metaAt bs i + 1) (omega (arith, r .byMeta .above)), r .byMeta .sizes (metaAt bs i) (inp i b .1)),
+  )
+
+  pub forced-step : (v : ℕ) → v ≡ cond (eqb (getD w (mo + metaAt bs i + 1) 0 - getD w (mo + metaAt bs i) 0) 1) 1 (getD w (n + m + groupAt bs i) 0) → Forced n m mo bs w₀ (set w (n + m + groupAt bs i) v) (i + 1)
+  forced-step v e = flags-step (n + m) n (groupAt bs) (onlyEdge mo bs w₀) w₀ w i v h (inp i b .0) (omega (arith, r .order-above, r .order-fits, h .size))
+      (e ∙ rw (same-at (mo + metaAt bs i) (omega (arith, r .byMeta .above)), same-at (mo + metaAt bs i + 1) (omega (arith, r .byMeta .above))))
+
+module _ (n m : ℕ) (bs : List ℕ) (k : ℕ) (w₀ : List ℕ) (inp : InRange bs k n m) (w : List ℕ) (i : ℕ) (b : i < k) where
+  pub covered-inside : n + m + n ≤ length w₀ → Covered n m bs w₀ w i → (n + m + groupAt bs i < length w) × (n + metaAt bs i < length w)
+  covered-inside c h = (omega (arith, inp i b .0, h .size), omega (arith, inp i b .1, h .size))
+
+  pub covered-step : n + m + n ≤ length w₀ → Covered n m bs w₀ w i → (v : ℕ) → v ≡ cond (eqb (getD w (n + m + groupAt bs i) 0) 1) 1 (getD w (n + metaAt bs i) 0) → Covered n m bs w₀ (set w (n + metaAt bs i) v) (i + 1)
+  covered-step c h v e = flags-step n m (metaAt bs) (inMarked n m bs w₀) w₀ w i v h (inp i b .1) (omega (arith, h .size))
+      (e ∙ rw (h .rest (n + m + groupAt bs i) (λ p q. omega arith)))
+
+  pub counted-inside : n + m ≤ length w₀ → Counted n bs w₀ w i → (groupAt bs i < length w) × (n + metaAt bs i < length w) × (getD w (groupAt bs i) 0 ≤ i)
+  counted-inside c h = (omega (arith, inp i b .0, h .size), omega (arith, inp i b .1, h .size), counting-room n (groupAt bs) (isOpen n bs w₀) w₀ w i h (inp i b .0))
+
+  pub counted-step : n + m ≤ length w₀ → Counted n bs w₀ w i → (v : ℕ) → v ≡ bit (not (eqb (getD w (n + metaAt bs i) 0) 1)) → Counted n bs w₀ (set w (groupAt bs i) (getD w (groupAt bs i) 0 + v)) (i + 1)
+  counted-step c h v e = counting-step n (groupAt bs) (isOpen n bs w₀) w₀ w i v h (inp i b .0) (omega (arith, h .size)) (e ∙ rw (h .rest (n + metaAt bs i) (omega arith)))
+
+-- the key of group g
+module _ (n m ge go mo gm mg od : ℕ) (bs : List ℕ) (k : ℕ) (w₀ w : List ℕ) (g : ℕ) (b : g < n) (r : Layout n m k ge go mo gm mg od w₀) (l : Listed n m ge go mo gm mg od bs k w₀)
+    (h : Puts (λ x. k - ofGroup x (edgesTo bs k)) 0 g w₀ w) where
+  pub rank-inside : (go + g + 1 < length w) × (g < length w)
+  rank-inside = (omega (arith, r .metas-at, r .group-lists-at, r .meta-lists-at, r .order-at, r .fits, h .size), omega (arith, r .edges-at, r .groups-at, r .metas-at, r .group-lists-at, r .meta-lists-at, r .order-at, r .fits, h .size))
+
+  pub rank-degree : (getD w (go + g) 0 ≤ getD w (go + g + 1) 0) × (getD w (go + g + 1) 0 - getD w (go + g) 0 ≤ k) × (getD w (go + g + 1) 0 - getD w (go + g) 0 ≡ ofGroup g (edgesTo bs k))
+  rank-degree =
+      let a : getD w (go + g) 0 ≡ gm + belows (groupAt bs) k g = h .rest (go + g) (λ p q. omega (arith, r .edges-at, r .groups-at)) ∙ l .byGroup .starts g (omega arith) in
+      let c : getD w (go + g + 1) 0 ≡ gm + belows (groupAt bs) k (g + 1) = h .rest (go + g + 1) (λ p q. omega (arith, r .edges-at, r .groups-at)) ∙ ap (λ (z : ℕ). getD w₀ z 0) (assoc go g) ∙ l .byGroup .starts (g + 1) (omega arith) in
+      let d : belows (groupAt bs) k (g + 1) ≡ belows (groupAt bs) k g + equals (groupAt bs) k g = belows-next (groupAt bs) k g in
+      (omega arith, omega (arith, belows-le (groupAt bs) k (g + 1)), omega (arith, equals-group bs k g))
+    where
+      assoc : (x y : ℕ) → x + y + 1 ≡ x + (y + 1)
+      assoc x y = omega arith
+
+pub layout-kept : (n m k ge go mo gm mg od : ℕ) (w v : List ℕ) → length v ≡ length w → Layout n m k ge go mo gm mg od w → Layout n m k ge go mo gm mg od v
+layout-kept n m k ge go mo gm mg od w v l r = record {
+  edges-at = r .edges-at;
+  groups-at = r .groups-at;
+  metas-at = r .metas-at;
+  group-lists-at = r .group-lists-at;
+  meta-lists-at = r .meta-lists-at;
+  order-at = r .order-at;
+  fits = omega (arith, r .fits);
+  room = r .room;
+  some = r .some;
+  few = r .few;
+}
+
+-- the places of the tables for n groups, m meta-peptides and k edges
+pub layout-of : (n m k : ℕ) (w : List ℕ) → 0 < k → k ≤ 1048576 → 4 * n + 2 * m + 4 * k + 3 ≤ length w → 4 * n + 2 * m + 4 * k + 3 ≤ 4294967295
+    → let ge = n + m + n in let go = ge + k + k + 1 in let mo = go + n + 1 in let gm = mo + m + 1 in let mg = gm + k in Layout n m k ge go mo gm mg (mg + k) w
+layout-of n m k w z f a b = record {
+  edges-at = refl;
+  groups-at = refl;
+  metas-at = refl;
+  group-lists-at = refl;
+  meta-lists-at = refl;
+  order-at = refl;
+  fits = omega arith;
+  room = omega arith;
+  some = z;
+  few = f;
+}

@@ -1,0 +1,76 @@
+-- `differs_at` meets its contract. Assumes nothing.
+use native.Mathlib.Omega.{arith}
+use mathlib.Core.Path.{_∙_}
+use Rattle.cover_touched.specs.Touching.{atOld, atNew, nextOld, nextNew}
+use Rattle.cover_touched.specs.TouchingLaws.{walkable-same, swept-clean, differ-made, differ-same}
+use borrow.Author.Needs.{needs}
+use Rattle.cover_touched.proofs.differing.differs_at.Statement.{statement}
+use Rattle.cover_touched.proofs.differing.differs_at.Tie as tie
+
+add-ho : tie.Need-add-ho
+add-ho c = search needs
+
+add-ho-2 : tie.Need-add-ho-2
+add-ho-2 c = search needs
+
+add-ho-3 : tie.Need-add-ho-3
+add-ho-3 c = search needs
+
+add-hn : tie.Need-add-hn
+add-hn c = search needs
+
+add-no : tie.Need-add-no
+add-no c = search needs
+
+add-nx : tie.Need-add-nx
+add-nx c = search needs
+
+count-up-requires : tie.Need-count-up-requires
+count-up-requires c κs = search needs
+
+take-off-requires : tie.Need-take-off-requires
+take-off-requires c κs =
+    let st = c .before .before .before .before .before .before .before .before in
+    let a = st .args in
+    let up = c .before .before .before .count-up in
+    (walkable-same (a .w .now) (up .last .1 .1 .1 .1 .0) (atNew (a .groups) (a .metas)) (nextNew (a .groups) (a .metas) (a .on)) (up .kept .1 .1 .1 .1 .0) (λ i l. up .ensures .rest i (omega arith)) (st .pre .0 .by-new), st .pre .1)
+
+sweep-requires : tie.Need-sweep-requires
+sweep-requires c κs =
+    let st = c .before .before .before .before .before .before .before .before .before .before .before .before in
+    let a = st .args in
+    let up = c .before .before .before .before .before .before .before .count-up in
+    let off = c .before .before .before .take-off in (
+      walkable-same (a .w .now) (off .last .1 .1 .1 .1 .0) (atOld (a .groups) (a .metas)) (nextOld (a .groups) (a .metas)) (off .kept .1 .1 .1 .1 .0 ∙ up .kept .1 .1 .1 .1 .0) (λ i l. off .ensures .rest i (omega arith) ∙ up .ensures .rest i (omega arith)) (st .pre .0 .by-old),
+      (st .pre .1, swept-clean (up .ensures) (off .ensures)),
+    )
+
+same-length : tie.Need-same-length
+same-length c = search needs
+
+returns : tie.Need-returns
+returns c =
+    let st = c .before .before .before .before .before .before .before .before .before .before .before .before .before .before .before in
+    let a = st .args in
+    let up = c .before .before .before .before .before .before .before .before .before .before .count-up in
+    let off = c .before .before .before .before .before .before .take-off in
+    let last = c .before .before .sweep in (
+      differ-made (a .old .now) (a .on) (a .new .now) (a .nn) (a .groups) (a .metas) (a .g) (a .w .now) (up .last .1 .1 .1 .1 .0) (off .last .1 .1 .1 .1 .0) (last .last .1 .1 .1 .1 .0) (off .result) (last .result) (st .pre .0) (up .ensures) (off .ensures) (last .ensures),
+      differ-same (a .old .now) (a .on) (a .new .now) (a .nn) (a .groups) (a .metas) (a .g) (a .w .now) (up .last .1 .1 .1 .1 .0) (off .last .1 .1 .1 .1 .0) (last .last .1 .1 .1 .1 .0) (off .result) (last .result) (st .pre .0) (up .ensures) (off .ensures) (last .ensures) (last .kept .1 .1 .1 .1 .0 ∙ off .kept .1 .1 .1 .1 .0 ∙ up .kept .1 .1 .1 .1 .0),
+    )
+
+pub differs-at-spec : {M : Type 1} → statement M
+differs-at-spec =
+    tie.close
+    (tie.spec
+    add-ho
+    add-ho-2
+    add-ho-3
+    add-hn
+    add-no
+    add-nx
+    count-up-requires
+    take-off-requires
+    sweep-requires
+    same-length
+    returns)

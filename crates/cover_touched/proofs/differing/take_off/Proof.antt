@@ -1,0 +1,147 @@
+-- `take_off` meets its contract. Assumes nothing.
+use Prim.Native.Nat.{ℕ, _+_, _-_, _<_}
+use native.Mathlib.Omega.{arith}
+use mathlib.Core.Path.{refl}
+use lib.ListN.{length, getD, set}
+use Rattle.cover_touched.specs.WalkingLaws.{Walk, walk-start, walk-in, walk-room, walk-falls, walk-turn, Taking, taking-start, taking-turn, taking-end}
+use borrow.Author.Needs.{needs}
+use Rattle.cover_touched.proofs.differing.take_off.Statement.{statement}
+use Rattle.cover_touched.proofs.differing.take_off.Tie as tie
+
+abbrev Inv-loop : tie.InvT-loop
+Inv-loop edges n groups metas w₀ hd nx g lack₀ h₀ w lack h = Walk w₀ w edges n metas g h × Taking w₀ edges n metas g w h lack
+
+abbrev μ-loop : tie.MeasureT-loop
+μ-loop edges n groups metas w₀ hd nx g lack₀ h₀ w lack h = h
+
+-- the record's meta-peptide is in the table
+inside : (c : tie.After-u32-at Inv-loop μ-loop) → c .u32-at .result < length (c .before .before .loop .w)
+inside c =
+    let a = c .before .before .before .before .before .before .args in
+    let lp = c .before .before .loop in
+    rw (c .u32-at .ensures) (walk-in (a .w .now) (a .edges .now) (a .n) (a .groups) (a .metas) (a .hd) (a .nx) (a .g) (c .before .before .before .before .before .before .pre .0) (c .before .before .before .before .before .before .pre .1) (lp .w) (lp .h) (lp .inv .0) (c .before .loop-test .taken))
+
+-- the next record's place, and that it is an earlier one
+place : (c : tie.After-u32-at Inv-loop μ-loop) (v : ℕ) → c .before .before .before .before .before .before .args .nx + (c .before .before .loop .h - 1) < length (set (c .before .before .loop .w) (c .u32-at .result) v)
+place c v =
+    let a = c .before .before .before .before .before .before .args in
+    let lp = c .before .before .loop in
+    rw (c .u32-at .ensures) (walk-room (a .w .now) (a .edges .now) (a .n) (a .groups) (a .metas) (a .hd) (a .nx) (a .g) (c .before .before .before .before .before .before .pre .0) (c .before .before .before .before .before .before .pre .1) (lp .w) (lp .h) (lp .inv .0) (c .before .loop-test .taken) v)
+
+falls : (c : tie.After-u32-at Inv-loop μ-loop) (v : ℕ) → getD (set (c .before .before .loop .w) (c .u32-at .result) v) (c .before .before .before .before .before .before .args .nx + (c .before .before .loop .h - 1)) 0 < c .before .before .loop .h
+falls c v =
+    let a = c .before .before .before .before .before .before .args in
+    let lp = c .before .before .loop in
+    rw (c .u32-at .ensures) (walk-falls (a .w .now) (a .edges .now) (a .n) (a .groups) (a .metas) (a .hd) (a .nx) (a .g) (c .before .before .before .before .before .before .pre .0) (c .before .before .before .before .before .before .pre .1) (lp .w) (lp .h) (lp .inv .0) (c .before .loop-test .taken) v)
+
+add-h : tie.Need-add-h Inv-loop μ-loop
+add-h c = search needs
+
+mul-h : tie.Need-mul-h Inv-loop μ-loop
+mul-h c = search needs
+
+slice-read-h : tie.Need-slice-read-h Inv-loop μ-loop
+slice-read-h c = search needs
+
+cast-h : tie.Need-cast-h Inv-loop μ-loop
+cast-h c = omega (arith, c .slice-known2 .given (c .before .before .before .args .hd + c .before .before .before .args .g))
+
+loop-holds : tie.Need-loop-holds Inv-loop μ-loop
+loop-holds c =
+    let st = c .before .before .before in
+    let a = st .args in
+    (walk-start (a .w .now) (a .edges .now) (a .n) (a .groups) (a .metas) (a .hd) (a .nx) (a .g) (st .pre .0) (st .pre .1) _ refl, taking-start (a .w .now) (a .edges .now) (a .n) (a .groups) (a .metas) (a .hd) (a .nx) (a .g) (st .pre .0) (st .pre .1) _ refl)
+
+sub-i : tie.Need-sub-i Inv-loop μ-loop
+sub-i c = search needs
+
+mul-u32-at : tie.Need-mul-u32-at Inv-loop μ-loop
+mul-u32-at c = search needs
+
+add-u32-at : tie.Need-add-u32-at Inv-loop μ-loop
+add-u32-at c = search needs
+
+u32-at-requires : tie.Need-u32-at-requires Inv-loop μ-loop
+u32-at-requires c κs = search needs
+
+cast-m : tie.Need-cast-m Inv-loop μ-loop
+cast-m c = search needs
+
+mul-v : tie.Need-mul-v Inv-loop μ-loop
+mul-v c = search needs
+
+slice-read-v : tie.Need-slice-read-v Inv-loop μ-loop
+slice-read-v c = inside (c .before)
+
+one-less-requires : tie.Need-one-less-requires Inv-loop μ-loop
+one-less-requires c κs = search needs
+
+mul-w : tie.Need-mul-w Inv-loop μ-loop
+mul-w c = search needs
+
+slice-write-w : tie.Need-slice-write-w Inv-loop μ-loop
+slice-write-w c = inside (c .before .before)
+
+add-h-2 : tie.Need-add-h-2 Inv-loop μ-loop
+add-h-2 c = search needs
+
+mul-h-2 : tie.Need-mul-h-2 Inv-loop μ-loop
+mul-h-2 c = search needs
+
+slice-read-h-2 : tie.Need-slice-read-h-2 Inv-loop μ-loop
+slice-read-h-2 c = place (c .before .before .before) _
+
+cast-h-2 : tie.Need-cast-h-2 Inv-loop μ-loop
+cast-h-2 c = omega (arith, falls (c .before .before .before) (c .before .one-less .result), c .before .before .before .before .before .loop .inv .0 .within, c .before .before .before .before .before .before .before .before .before .pre .0 .few)
+
+loop-less : tie.Need-loop-less Inv-loop μ-loop
+loop-less c = falls (c .before .before .before) _
+
+loop-again : tie.Need-loop-again Inv-loop μ-loop
+loop-again c =
+    let st = c .before .before .before .before .before .before .before .before .before in
+    let a = st .args in
+    let lp = c .before .before .before .before .before .loop in
+    let pos = c .before .before .before .before .loop-test .taken in
+    rw (c .before .one-less .ensures, c .before .before .before .u32-at .ensures)
+    (walk-turn (a .w .now) (a .edges .now) (a .n) (a .groups) (a .metas) (a .hd) (a .nx) (a .g) (st .pre .0) (st .pre .1) (lp .w) (lp .h) (lp .inv .0) pos _, taking-turn (a .w .now) (a .edges .now) (a .n) (a .groups) (a .metas) (a .hd) (a .nx) (a .g) (st .pre .0) (st .pre .1) (lp .w) (lp .h) (lp .lack) (lp .inv .0) pos (lp .inv .1))
+
+same-length : tie.Need-same-length Inv-loop μ-loop
+same-length c = c .before .loop .inv .0 .long
+
+returns : tie.Need-returns Inv-loop μ-loop
+returns c =
+    let st = c .before .before .before .before .before in
+    let a = st .args in
+    let lp = c .before .loop in
+    taking-end (a .w .now) (a .edges .now) (a .n) (a .groups) (a .metas) (a .hd) (a .nx) (a .g) (st .pre .0) (st .pre .1) (lp .w) (lp .h) (lp .lack) (lp .inv .0) (lp .inv .1) (omega arith)
+
+pub take-off-spec : {M : Type 1} → statement M
+take-off-spec =
+    tie.close
+    (tie.spec
+    Inv-loop
+    μ-loop
+    add-h
+    mul-h
+    slice-read-h
+    cast-h
+    loop-holds
+    sub-i
+    mul-u32-at
+    add-u32-at
+    u32-at-requires
+    cast-m
+    mul-v
+    slice-read-v
+    one-less-requires
+    mul-w
+    slice-write-w
+    add-h-2
+    mul-h-2
+    slice-read-h-2
+    cast-h-2
+    loop-less
+    loop-again
+    same-length
+    returns)

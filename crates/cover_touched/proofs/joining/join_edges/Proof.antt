@@ -1,0 +1,108 @@
+-- `join_edges` meets its contract. Assumes nothing.
+use Prim.Native.Nat.{_-_, _≤_}
+use native.Mathlib.Omega.{arith}
+use mathlib.Core.Path.{_≡_, refl, _∙_}
+use lib.ListN.{length}
+use Rattle.cover_touched.specs.Joining.{Joined}
+use Rattle.cover_touched.specs.Touching.{nodes, edgeLinks}
+use Rattle.cover_touched.specs.TouchingLaws.{edges-start, edges-turn}
+use borrow.Author.Needs.{needs}
+use Rattle.cover_touched.proofs.joining.join_edges.Statement.{statement}
+use Rattle.cover_touched.proofs.joining.join_edges.Tie as tie
+
+abbrev Inv-loop : tie.InvT-loop
+Inv-loop edges n groups metas w₀ p size i₀ w i = (i ≤ n) × (size ≡ nodes groups metas) × (length w ≡ length w₀) × Joined (edgeLinks groups edges i) w₀ w p (nodes groups metas)
+
+abbrev μ-loop : tie.MeasureT-loop
+μ-loop edges n groups metas w₀ p size i₀ w i = n - i
+
+add-size : tie.Need-add-size Inv-loop μ-loop
+add-size c = search needs
+
+add-size-2 : tie.Need-add-size-2 Inv-loop μ-loop
+add-size-2 c = search needs
+
+loop-holds : tie.Need-loop-holds Inv-loop μ-loop
+loop-holds c = let a = c .before .before .args in (omega arith, refl, refl, edges-start (a .groups) (a .edges .now) (a .w .now) (a .p) (nodes (a .groups) (a .metas)) (c .before .before .pre .1))
+
+mul-u32-at : tie.Need-mul-u32-at Inv-loop μ-loop
+mul-u32-at c = search needs
+
+u32-at-requires : tie.Need-u32-at-requires Inv-loop μ-loop
+u32-at-requires c κs = search needs
+
+cast-g : tie.Need-cast-g Inv-loop μ-loop
+cast-g c = search needs
+
+mul-u32-at-2 : tie.Need-mul-u32-at-2 Inv-loop μ-loop
+mul-u32-at-2 c = search needs
+
+add-u32-at : tie.Need-add-u32-at Inv-loop μ-loop
+add-u32-at c = search needs
+
+u32-at-requires-2 : tie.Need-u32-at-requires-2 Inv-loop μ-loop
+u32-at-requires-2 c κs = search needs
+
+cast-m : tie.Need-cast-m Inv-loop μ-loop
+cast-m c = search needs
+
+add-join : tie.Need-add-join Inv-loop μ-loop
+add-join c = search needs
+
+add-join-2 : tie.Need-add-join-2 Inv-loop μ-loop
+add-join-2 c = search needs
+
+add-join-3 : tie.Need-add-join-3 Inv-loop μ-loop
+add-join-3 c = search needs
+
+join-requires : tie.Need-join-requires Inv-loop μ-loop
+join-requires c κs =
+    let st = c .before .before .before .before .before .before .before in
+    let lp = c .before .before .before .before .loop in
+    let inside = st .pre .0 .3 (lp .i) (c .before .before .before .loop-test .taken) in
+    rw (c .before .before .u32-at .ensures, c .before .u32-at2 .ensures) (lp .inv .3 .forest, (omega (arith, inside), omega (arith, inside), omega arith))
+
+add-i : tie.Need-add-i Inv-loop μ-loop
+add-i c = search needs
+
+loop-less : tie.Need-loop-less Inv-loop μ-loop
+loop-less c = omega arith
+
+loop-again : tie.Need-loop-again Inv-loop μ-loop
+loop-again c =
+    let a = c .before .before .before .before .before .before .before .before .before .before .args in
+    let lp = c .before .before .before .before .before .before .before .loop in
+    let e = rw (c .before .before .before .before .before .u32-at .ensures, c .before .before .before .before .u32-at2 .ensures) at (c .before .before .join .ensures) in
+    (omega arith, refl, c .before .before .join .kept .0 ∙ lp .inv .2, edges-turn (a .groups) (a .edges .now) (a .w .now) (lp .w) (c .before .before .join .last .0) (a .p) (nodes (a .groups) (a .metas)) (lp .i) (lp .inv .3) e)
+
+same-length : tie.Need-same-length Inv-loop μ-loop
+same-length c = c .before .loop .inv .2
+
+returns : tie.Need-returns Inv-loop μ-loop
+returns c = let e : c .before .loop .i ≡ c .before .before .before .before .args .n = omega arith in rw (← e) (c .before .loop .inv .3)
+
+pub join-edges-spec : {M : Type 1} → statement M
+join-edges-spec =
+    tie.close
+    (tie.spec
+    Inv-loop
+    μ-loop
+    add-size
+    add-size-2
+    loop-holds
+    mul-u32-at
+    u32-at-requires
+    cast-g
+    mul-u32-at-2
+    add-u32-at
+    u32-at-requires-2
+    cast-m
+    add-join
+    add-join-2
+    add-join-3
+    join-requires
+    add-i
+    loop-less
+    loop-again
+    same-length
+    returns)

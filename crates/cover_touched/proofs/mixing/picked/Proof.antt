@@ -1,0 +1,13 @@
+-- `picked` meets its contract. Assumes nothing.
+use borrow.Author.Tests.{eq-eqb, ne-eqb}
+use Rattle.cover_touched.proofs.mixing.picked.Statement.{statement}
+use Rattle.cover_touched.proofs.mixing.picked.Tie as tie
+
+returns : tie.Need-returns
+returns c = rw (eq-eqb _ _ (c .if1 .taken))
+
+returns-2 : tie.Need-returns-2
+returns-2 c = rw (ne-eqb _ _ (c .if1 .left))
+
+pub picked-spec : {M : Type 1} → statement M
+picked-spec = tie.close (tie.spec returns returns-2)

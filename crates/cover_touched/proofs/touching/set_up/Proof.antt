@@ -1,0 +1,84 @@
+-- `set_up` meets its contract. Assumes nothing.
+use Prim.Native.Nat.{_+_}
+use native.Mathlib.Omega.{arith}
+use mathlib.Core.Path.{_∙_}
+use Rattle.cover_touched.specs.Touching.{atOld}
+use Rattle.cover_touched.specs.SetUpLaws.{cleared-at, field-inside, new-heads, set-up-linked}
+use borrow.Author.Needs.{needs}
+use Rattle.cover_touched.proofs.touching.set_up.Statement.{statement}
+use Rattle.cover_touched.proofs.touching.set_up.Tie as tie
+
+add-size : tie.Need-add-size
+add-size c = search needs
+
+add-size-2 : tie.Need-add-size-2
+add-size-2 c = search needs
+
+add-ho : tie.Need-add-ho
+add-ho c = search needs
+
+add-hn : tie.Need-add-hn
+add-hn c = search needs
+
+add-no : tie.Need-add-no
+add-no c = search needs
+
+clear-requires : tie.Need-clear-requires
+clear-requires c κs = search needs
+
+link-requires : tie.Need-link-requires
+link-requires c κs =
+    let st = c .before .before .before .before .before .before .before .before in
+    let a = st .args in
+    let w₁ = c .before .before .before .clear .last .0 in
+    let r = st .pre .room in
+    ((st .pre .old-few, omega arith), ((omega arith, omega (arith, c .before .before .before .clear .kept .0)), (field-inside (a .old .now) (a .on) (a .groups) (a .metas) (st .pre .old-inside), λ x l. cleared-at (a .w .now) w₁ (atOld (a .groups) (a .metas) + x) (c .before .before .before .clear .ensures))))
+
+add-link : tie.Need-add-link
+add-link c = search needs
+
+link-requires-2 : tie.Need-link-requires-2
+link-requires-2 c κs =
+    let st = c .before .before .before .before .before .before .before .before .before .before .before .before in
+    let a = st .args in
+    let cleared = c .before .before .before .before .before .before .before .clear in
+    let first = c .before .before .before .link in
+    let r = st .pre .room in
+    ((st .pre .new-few, omega arith), ((omega arith, omega (arith, cleared .kept .0, first .kept .1 .1 .1 .0)), (field-inside (a .new .now) (a .nn) (a .groups) (a .metas) (st .pre .new-inside), new-heads (a .old .now) (a .on) (a .new .now) (a .nn) (a .groups) (a .metas) (a .w .now) (cleared .last .0) (first .last .1 .1 .1 .0) (st .pre) (cleared .ensures) (first .ensures .1))))
+
+part-requires : tie.Need-part-requires
+part-requires c κs =
+    let st = c .before .before .before .before .before .before .before .before .before .before .before .before .before .before .before .before in
+    (omega (arith, st .pre .room, c .before .before .before .before .before .before .before .before .before .before .before .clear .kept .0, c .before .before .before .before .before .before .before .link .kept .1 .1 .1 .0, c .before .before .before .link2 .kept .1 .1 .1 .0), omega (arith, st .pre .groups-max, st .pre .metas-max))
+
+same-length : tie.Need-same-length
+same-length c = search needs
+
+returns : tie.Need-returns
+returns c =
+    let st = c .before .before .before .before .before .before .before .before .before .before .before .before .before .before .before .before .before .before .before in
+    let a = st .args in
+    let cleared = c .before .before .before .before .before .before .before .before .before .before .before .before .before .before .clear in
+    let first = c .before .before .before .before .before .before .before .before .before .before .link in
+    let second = c .before .before .before .before .before .before .link2 in
+    let own = c .before .before .part in (
+      set-up-linked (a .old .now) (a .on) (a .new .now) (a .nn) (a .groups) (a .metas) (a .w .now) (cleared .last .0) (first .last .1 .1 .1 .0) (st .pre) (cleared .ensures) (first .ensures .1) (second .last .1 .1 .1 .0) (own .last .0) (own .kept .0 ∙ second .kept .1 .1 .1 .0 ∙ first .kept .1 .1 .1 .0 ∙ cleared .kept .0) (first .ensures .0) (second .ensures .0) (second .ensures .1) (own .ensures .1),
+      own .ensures .0,
+    )
+
+pub set-up-spec : {M : Type 1} → statement M
+set-up-spec =
+    tie.close
+    (tie.spec
+    add-size
+    add-size-2
+    add-ho
+    add-hn
+    add-no
+    clear-requires
+    link-requires
+    add-link
+    link-requires-2
+    part-requires
+    same-length
+    returns)

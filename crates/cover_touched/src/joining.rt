@@ -1,0 +1,82 @@
+// Nodes joined into parts, each by one number from place p of the work memory on: a node that is not above it. The lowest node of a
+// part names itself.
+use records::u32_at;
+ghost use mathlib.Core.Path.{_≡_};
+ghost use mathlib.Core.List.{_∷_};
+ghost use Prim.Native.Nat.{ℕ, _+_, _≤_, _<_};
+ghost use lib.ListN.{length, getD};
+ghost use Rattle.cover_edges.specs.Chains.{Out};
+ghost use Rattle.cover_edges.specs.Edges.{InRange};
+ghost use Rattle.cover_touched.specs.Joining.{Forest, Found, Joined};
+ghost use Rattle.cover_touched.specs.Touching.{nodes, edgeLinks};
+
+// Each of n nodes is a part of its own.
+pub(crate) fn part(w: &mut [u32], p: usize, n: usize)
+    requires { ⌜ (p + n ≤ length (now w)) × (n ≤ 4294967295) ⌝ }
+    ensures { λ _. ⌜ ((x : ℕ) → x < n → getD (now (w .exit)) (p + x) 0 ≡ x) ⌝ }
+    ensures { λ _. ⌜ ((i : ℕ) → Out i p n → getD (now (w .exit)) i 0 ≡ getD (now (w .entry)) i 0) ⌝ }
+{
+    let mut x = 0;
+    while x < n {
+        let own = x as u32;
+        w[p + x] = own;
+        x += 1;
+    }
+}
+
+// The lowest node of the part of x. Each node on the way is led past the one that it named, so that later ways are half as long.
+pub(crate) fn lowest(w: &mut [u32], p: usize, n: usize, x: usize) -> usize
+    requires { ⌜ Forest (now w) p n ⌝ }
+    requires { ⌜ x < n ⌝ }
+    ensures { λ r. ⌜ Found (now (w .entry)) (now (w .exit)) p n x r ⌝ }
+{
+    let mut y = x;
+    let mut up = w[p + y] as usize;
+    while up < y {
+        let next = w[p + up];
+        w[p + y] = next;
+        y = next as usize;
+        up = w[p + y] as usize;
+    }
+    y
+}
+
+// Joins the parts of x and y.
+pub(crate) fn join(w: &mut [u32], p: usize, n: usize, x: usize, y: usize)
+    requires { ⌜ Forest (now w) p n ⌝ }
+    requires { ⌜ (x < n) × (y < n) × (n ≤ 4294967295) ⌝ }
+    ensures { λ _. ⌜ Joined (λ links. (x, y) ∷ links) (now (w .entry)) (now (w .exit)) p n ⌝ }
+{
+    let a = lowest(w, p, n, x);
+    let b = lowest(w, p, n, y);
+    let under_a = a as u32;
+    let under_b = b as u32;
+    if a < b {
+        w[p + b] = under_a;
+        return;
+    }
+    w[p + a] = under_b;
+}
+
+// Joins the group and the meta-peptide of each of n records.
+pub(crate) fn join_edges(
+    edges: &[u8],
+    n: usize,
+    groups: usize,
+    metas: usize,
+    w: &mut [u32],
+    p: usize,
+)
+    requires { ⌜ (n ≤ 1048576) × (groups ≤ 131072) × (metas ≤ 262144) × InRange (now edges) n groups metas ⌝ }
+    requires { ⌜ Forest (now w) p (nodes groups metas) ⌝ }
+    ensures { λ _. ⌜ Joined (edgeLinks groups (now (edges .entry)) n) (now (w .entry)) (now (w .exit)) p (nodes groups metas) ⌝ }
+{
+    let size = 1 + groups + metas;
+    let mut i = 0;
+    while i < n {
+        let g = u32_at(edges, 8 * i) as usize;
+        let m = u32_at(edges, 8 * i + 4) as usize;
+        join(w, p, size, 1 + g, 1 + groups + m);
+        i += 1;
+    }
+}

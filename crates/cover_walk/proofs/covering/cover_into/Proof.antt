@@ -1,0 +1,78 @@
+-- `cover_into` meets its contract. Assumes nothing.
+use Prim.Native.Nat.{ℕ, _<_}
+use native.Mathlib.Omega.{arith}
+use mathlib.Core.Path.{sym, ap, _∙_}
+use lib.ListN.{replicate}
+use denote.Ref.{now}
+use borrow.Author.Needs.{needs}
+use Rattle.cover_spec.specs.Cover.{bit, coverList}
+use Rattle.cover_spec.specs.ListedLaws.{listed-ext}
+use Rattle.cover_walk.specs.RunLaws.{room, nothing-marked}
+use Rattle.cover_walk.proofs.covering.cover_into.Statement.{statement}
+use Rattle.cover_walk.proofs.covering.cover_into.Tie as tie
+
+clear-marks-requires : tie.Need-clear-marks-requires
+clear-marks-requires c κs = search needs
+
+clear-requires : tie.Need-clear-requires
+clear-requires c κs = search needs
+
+same-length : tie.Need-same-length
+same-length c = search needs
+
+same-length-2 : tie.Need-same-length-2
+same-length-2 c = search needs
+
+returns : tie.Need-returns
+returns c =
+    let s = c .before .before .before .before .before .before .before .before .before .before .before .before in (
+      c .before .before .before .before .before .before .clear-marks .ensures ∙ ap (λ (n : ℕ). replicate n 0) (s .pre .marks-len) ∙ sym (nothing-marked (now (s .args .edges)) (s .args .n) (s .args .groups) (c .before .before .before .before .before .before .before .before .if1 .taken)),
+      c .before .before .clear .ensures,
+    )
+
+run-requires : tie.Need-run-requires
+run-requires c κs =
+    let s = c .before .before .before .before .before in
+    let p : 0 < s .args .n = omega (arith, c .before .if1 .left) in
+    let r = room (s .pre) p in
+    (s .pre .inside, p, s .pre .few, r .fits, r .narrow)
+
+add-write-marks : tie.Need-add-write-marks
+add-write-marks c = search needs
+
+write-marks-requires : tie.Need-write-marks-requires
+write-marks-requires c κs = search needs
+
+clear-requires-2 : tie.Need-clear-requires-2
+clear-requires-2 c κs = search needs
+
+same-length-3 : tie.Need-same-length-3
+same-length-3 c = search needs
+
+same-length-4 : tie.Need-same-length-4
+same-length-4 c = search needs
+
+returns-2 : tie.Need-returns-2
+unfolding coverList
+returns-2 c =
+    let s = c .before .before .before .before .before .before .before .before .before .before .before .before .before .before .before .before .before in (
+      c .before .before .before .before .before .before .write-marks .ensures ∙ rw (s .pre .marks-len) (listed-ext (s .args .groups) _ _ (λ g h. ap bit (c .before .before .before .before .before .before .before .before .before .before .before .run .ensures g h))),
+      c .before .before .clear2 .ensures ∙ ap (λ (n : ℕ). replicate n 0) (c .before .before .before .before .before .before .before .before .before .before .before .run .kept .1 .1 .0),
+    )
+
+pub cover-into-spec : {M : Type 1} → statement M
+cover-into-spec =
+    tie.close
+    (tie.spec
+    clear-marks-requires
+    clear-requires
+    same-length
+    same-length-2
+    returns
+    run-requires
+    add-write-marks
+    write-marks-requires
+    clear-requires-2
+    same-length-3
+    same-length-4
+    returns-2)

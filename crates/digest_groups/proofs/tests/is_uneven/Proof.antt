@@ -1,0 +1,23 @@
+-- `is_uneven` meets its contract. Assumes nothing.
+use borrow.Author.Needs.{needs}
+use Rattle.digest_groups.proofs.tests.is_uneven.Statement.{statement}
+use Rattle.digest_groups.proofs.tests.is_uneven.Tie as tie
+use Rattle.catalogue.proofs.has_bounds.Reads as has-bounds-reads
+use Rattle.catalogue.proofs.are_whole_names.Reads as are-whole-names-reads
+use Rattle.catalogue.proofs.name_count.Reads as name-count-reads
+
+name-count-requires : tie.Need-name-count-requires
+name-count-requires c κs = search needs
+
+are-whole-names-requires : tie.Need-are-whole-names-requires
+are-whole-names-requires c κs = search needs
+
+has-bounds-requires : tie.Need-has-bounds-requires
+has-bounds-requires c κs = search needs
+
+returns : tie.Need-returns
+returns c = rw (c .has-bounds .ensures, c .before .before .name-count .ensures, c .before .are-whole-names .ensures)
+
+pub is-uneven-spec : {M : Type 1} → statement M
+is-uneven-spec =
+    tie.close (tie.spec name-count-requires are-whole-names-requires has-bounds-requires returns)

@@ -1,0 +1,35 @@
+-- `arrange` meets its contract. Assumes nothing.
+use native.Mathlib.Omega.{arith}
+use Rattle.digest_groups_tables.specs.SortedLaws.{sorted-tables}
+use borrow.Author.Needs.{needs}
+use Rattle.digest_groups_tables.proofs.grouping.arrange.Statement.{statement}
+use Rattle.digest_groups_tables.proofs.grouping.arrange.Tie as tie
+use Rattle.digest_groups_tables.proofs.spelling.spell_all.Reads as spell-all-reads
+use Rattle.sorting.proofs.sort.Reads as sort-reads
+
+cast-all : tie.Need-cast-all
+cast-all c = search needs
+
+spell-all-requires : tie.Need-spell-all-requires
+spell-all-requires c κs = search needs
+
+mul-sort : tie.Need-mul-sort
+mul-sort c = search needs
+
+sort-requires : tie.Need-sort-requires
+sort-requires c κs = search needs
+
+same-length : tie.Need-same-length
+same-length c = search needs
+
+returns : tie.Need-returns
+returns c =
+    let a = c .before .before .before .before .before .before .before .before .before .before .before .before .args in
+    let p = c .before .before .before .before .before .before .before .before .before .before .before .before .pre in
+    let t = c .before .before .before .before .before .before .spell-all in
+    let m = t .last .1 .1 .1 .0 in
+    sorted-tables (a .bounds .now) (a .letters .now) (a .digests .now) (a .n) m (p .0) (t .ensures) (omega (arith, p .1)) (c .before .before .sort .last .1 .1 .0) (c .before .before .sort .ensures .1)
+
+pub arrange-spec : {M : Type 1} → statement M
+arrange-spec =
+    tie.close (tie.spec cast-all spell-all-requires mul-sort sort-requires same-length returns)

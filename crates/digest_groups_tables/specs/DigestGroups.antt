@@ -1,0 +1,85 @@
+-- Document 01, "Grouping digests": "Digests equal in position, decoy and letters form a group, groups sorted by these; the
+-- reference is the first in input order, proteins are sorted by name bytes, repeats kept."
+use Prim.Native.Nat.{ℕ, _+_, _-_, _*_, _/_}
+use mathlib.Core.Bool.{Bool, cond, _&&_}
+use mathlib.Core.List.{List, [], _∷_, _++_, map}
+use lib.ListN.{length, getD, take, drop, replicate}
+use lib.Dec.{eqb}
+use Rattle.records.specs.declared.refusal.Refusal.the-variants.{Room}
+use Rattle.records.specs.declared.refusal.Counted.{Counted}
+use Rattle.records.specs.declared.refusal.Counted.the-variants.{Count, Refused}
+use Rattle.records.specs.Le.{le, numberAt}
+use Rattle.records.specs.Outcome.{Outcome, outcome}
+use Rattle.records.specs.Room.{fits, fitted, bytewise}
+use Rattle.letters.specs.Reversal.{lettersOf}
+use Rattle.sorting_merge.specs.Sort.{sorted}
+use Rattle.sorting_merge.specs.Lex.{lexLe}
+use Rattle.sorting_merge.specs.Text.{nameOf}
+use Rattle.sorting.specs.Counting.{upFrom}
+use Rattle.sorting.specs.Distinct.{keep, same, distinct}
+
+-- digest i of a list: the 16 bytes of its record
+abbrev pub digestAt : List ℕ → ℕ → List ℕ
+digestAt bytes i = take 16 (drop (16 * i) bytes)
+
+abbrev pub digestsIn : List ℕ → List (List ℕ)
+digestsIn bytes = map (digestAt bytes) (upFrom 0 (length bytes / 16))
+
+-- its fields
+abbrev pub start : List ℕ → ℕ
+start d = numberAt 4 d 0
+
+abbrev pub end : List ℕ → ℕ
+end d = numberAt 4 d 4
+
+abbrev pub position : List ℕ → ℕ
+position d = getD d 10 0
+
+abbrev pub decoy : List ℕ → ℕ
+decoy d = getD d 11 0
+
+abbrev pub protein : List ℕ → ℕ
+protein d = numberAt 4 d 12
+
+-- "Digest ranges count from their protein's first letter"; a decoy's letters are reversed
+abbrev pub lettersIn : List ℕ → List ℕ → List ℕ → List ℕ
+lettersIn bounds letters d = lettersOf (eqb (decoy d) 1) (take (end d - start d) (drop (getD bounds (protein d) 0 + start d) letters))
+
+-- position, decoy and letters
+abbrev pub keyOf : List ℕ → List ℕ → List ℕ → List ℕ
+keyOf bounds letters d = position d ∷ decoy d ∷ lettersIn bounds letters d
+
+-- the digests equal in these, in input order, for each of them, sorted
+abbrev pub gathered : List ℕ → List ℕ → List (List ℕ) → List (List (List ℕ))
+gathered bounds letters ds = map (λ (k : List ℕ). keep (λ (d : List ℕ). same (keyOf bounds letters d) k) ds) (distinct (map (keyOf bounds letters) ds))
+
+-- proteins are sorted by name bytes, repeats kept
+abbrev pub byName : List ℕ → ℕ → ℕ → Bool
+byName names a b = lexLe (nameOf names a) (nameOf names b)
+
+abbrev pub proteinsOf : List ℕ → List (List ℕ) → List ℕ
+proteinsOf names ms = sorted (byName names) (map protein ms)
+
+-- a group's record: the reference, which is the first in input order, and the first place and the number of its proteins
+abbrev pub groupOf : ℕ → List (List ℕ) → List (List ℕ)
+groupOf at [] = []
+groupOf at (d ∷ ds) = (d ++ le 4 at ++ le 4 (length (d ∷ ds))) ∷ []
+
+-- the records of groups whose proteins stand from a place on
+abbrev pub groupsFrom : ℕ → List (List (List ℕ)) → List (List ℕ)
+groupsFrom at [] = []
+groupsFrom at (ms ∷ mss) = groupOf at ms ++ groupsFrom (at + length ms) mss
+
+-- the proteins of groups, one behind the other
+abbrev pub proteinList : List ℕ → List (List (List ℕ)) → List ℕ
+proteinList names [] = []
+proteinList names (ms ∷ mss) = proteinsOf names ms ++ proteinList names mss
+
+-- what a call leaves where its tests passed: how many groups there are, or that one of the two lists has no room; the work memory
+-- zero, and of both lists the first that fit
+abbrev pub grouped : List ℕ → List (List (List ℕ)) → List ℕ → List ℕ → List ℕ → Outcome Counted
+grouped names mss work groups proteins =
+    let rs = groupsFrom 0 mss in
+    let ps = bytewise (proteinList names mss) in
+    outcome (cond (fits 24 1048576 groups rs && fits 1 1048576 proteins ps) (Count (length rs)) (Refused Room))
+    (replicate (length work) 0 ∷ fitted 24 1048576 groups rs ∷ fitted 1 1048576 proteins ps ∷ [])

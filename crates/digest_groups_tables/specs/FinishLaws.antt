@@ -1,0 +1,128 @@
+-- From the runs to what the call leaves. Assumes nothing.
+use Prim.Native.Nat.{ℕ, zero, suc, _+_, _-_, _*_, _/_, _≤_, min}
+use mathlib.Core.Path.{_≡_, refl, sym, ap, _∙_, subst}
+use mathlib.Core.Bool.{Bool, true, false, cond, _&&_}
+use mathlib.Core.List.{List, [], _∷_, _++_, map}
+use native.Mathlib.Omega.{arith}
+use lib.ListN.{length, take, replicate, length-append, length-map}
+use lib.Seq.{sets, length-take-le, slice}
+use lib.Dec.{leb}
+use Rattle.records.specs.declared.refusal.Refusal.the-variants.{Room}
+use Rattle.records.specs.declared.refusal.Counted.{Counted}
+use Rattle.records.specs.declared.refusal.Counted.the-variants.{Count, Refused}
+use Rattle.records.specs.Le.{le}
+use Rattle.records.specs.LeLaws.{length-le}
+use Rattle.records.specs.Outcome.{outcome}
+use Rattle.records.specs.Room.{fits, fitted, bytewise}
+use Rattle.records.specs.RoomLaws.{Sized, stored-text}
+use Rattle.records.specs.StoreLaws.{storedFrom, stored-all}
+use Rattle.sorting.specs.Counting.{upFrom}
+use Rattle.sorting.specs.Distinct.{keep, same, distinct}
+use Rattle.sorting.specs.Runs.{joined, runsOf}
+use Rattle.digest_groups_tables.specs.DigestGroups.{digestAt, digestsIn, keyOf, gathered, groupOf, groupsFrom, proteinList, grouped}
+use Rattle.digest_groups_tables.specs.Turns.{orderOf, Sorted, Gathered}
+use Rattle.digest_groups_tables.specs.TurnLaws.{length-digest}
+
+-- ---- every record of a group has 24 bytes
+
+abbrev Whole : List (List ℕ) → Type 0
+Whole [] = Unit {0}
+Whole (d ∷ ds) = (length d ≡ 16) × Whole ds
+
+whole-keep : (p : List ℕ → Bool) (ds : List (List ℕ)) → Whole ds → Whole (keep p ds)
+whole-keep p [] h = tt
+whole-keep p (d ∷ ds) h = go (p d) (whole-keep p ds (h .1))
+  where
+    go : (b : Bool) → Whole (keep p ds) → Whole (cond b (d ∷ keep p ds) (keep p ds))
+    go true r = (h .0, r)
+    go false r = r
+
+whole-digests : (bytes : List ℕ) (a n : ℕ) → 16 * (a + n) ≤ length bytes → Whole (map (digestAt bytes) (upFrom a n))
+whole-digests bytes a zero h = tt
+whole-digests bytes a (suc n) h = (length-digest bytes a (omega arith), whole-digests bytes (suc a) n (omega arith))
+
+sized-append : (rs qs : List (List ℕ)) → Sized 24 rs → Sized 24 qs → Sized 24 (rs ++ qs)
+sized-append [] qs h k = k
+sized-append (r ∷ rs) qs h k = (h .0, sized-append rs qs (h .1) k)
+
+sized-group : (at : ℕ) (ms : List (List ℕ)) → Whole ms → Sized 24 (groupOf at ms)
+sized-group at [] h = tt
+sized-group at (d ∷ ds) h =
+    (length-append (d ++ le 4 at) (le 4 (length (d ∷ ds))) ∙ omega (arith, length-append d (le 4 at), length-le 4 at, length-le 4 (length (d ∷ ds)), h .0), tt)
+
+sized-groups : (q : List ℕ → List ℕ → Bool) (ds : List (List ℕ)) → Whole ds → (at : ℕ) (ks : List (List ℕ)) → Sized 24 (groupsFrom at (map (λ (k : List ℕ). keep (λ (d : List ℕ). q d k) ds) ks))
+sized-groups q ds h at [] = tt
+sized-groups q ds h at (k ∷ ks) =
+    sized-append (groupOf at (keep (λ (d : List ℕ). q d k) ds)) (groupsFrom (at + length (keep (λ (d : List ℕ). q d k) ds)) (map (λ (k : List ℕ). keep (λ (d : List ℕ). q d k) ds) ks))
+    (sized-group at (keep (λ (d : List ℕ). q d k) ds) (whole-keep (λ (d : List ℕ). q d k) ds h))
+    (sized-groups q ds h (at + length (keep (λ (d : List ℕ). q d k) ds)) ks)
+
+pub sized-gathered : (bounds letters bytes : List ℕ) (n : ℕ) → length bytes ≡ 16 * n → Sized 24 (groupsFrom 0 (gathered bounds letters (digestsIn bytes)))
+sized-gathered bounds letters bytes n h =
+    let e : n ≡ length bytes / 16 = omega arith in
+    sized-groups (λ (d k : List ℕ). same (keyOf bounds letters d) k) (digestsIn bytes)
+    (subst (λ (k : ℕ). Whole (map (digestAt bytes) (upFrom 0 k))) e (whole-digests bytes 0 n (omega arith))) 0 (distinct (map (keyOf bounds letters) (digestsIn bytes)))
+
+-- ---- there are as many records as runs
+
+abbrev Some : {A : Type 0} → List (List A) → Type 0
+Some [] = Unit {0}
+Some ([] ∷ rs) = ⊥
+Some ((x ∷ xs) ∷ rs) = Some rs
+
+some-joined : {A : Type 0} (le : A → A → Bool) (x : A) (rs : List (List A)) → Some rs → Some (joined le x rs)
+some-joined le x [] h = tt
+some-joined le x ([] ∷ rs) h = absurd h
+some-joined le x ((y ∷ ys) ∷ rs) h = go (le y x)
+  where
+    go : (b : Bool) → Some (cond b ((x ∷ y ∷ ys) ∷ rs) ((x ∷ []) ∷ (y ∷ ys) ∷ rs))
+    go true = h
+    go false = h
+
+some-runs : {A : Type 0} (le : A → A → Bool) (xs : List A) → Some (runsOf le xs)
+some-runs le [] = tt
+some-runs le (x ∷ xs) = some-joined le x (runsOf le xs) (some-runs le xs)
+
+some-map : (f : ℕ → List ℕ) (rs : List (List ℕ)) → Some rs → Some (map (map f) rs)
+some-map f [] h = tt
+some-map f ([] ∷ rs) h = absurd h
+some-map f ((x ∷ xs) ∷ rs) h = some-map f rs h
+
+length-groups : (at : ℕ) (mss : List (List (List ℕ))) → Some mss → length (groupsFrom at mss) ≡ length mss
+length-groups at [] h = refl
+length-groups at ([] ∷ mss) h = absurd h
+length-groups at ((d ∷ ds) ∷ mss) h = ap suc (length-groups (at + length (d ∷ ds)) mss h)
+
+-- ---- what the call leaves
+
+module _ (names bounds letters bytes : List ℕ) (n : ℕ) (work w w′ groups groups′ proteins : List ℕ) (g : ℕ) (r : Counted) (s : Sorted bounds letters bytes n w)
+    (d : Gathered names letters bytes n w groups g w′ groups′) (same : length w ≡ length work) where
+  abbrev mss : List (List (List ℕ))
+  mss = gathered bounds letters (digestsIn bytes)
+
+  records : groups′ ≡ fitted 24 1048576 groups (groupsFrom 0 mss)
+  records =
+      d .stores ∙ ap (λ (m : List (List (List ℕ))). storedFrom 24 1048576 groups 0 (groupsFrom 0 m)) (s .runs)
+      ∙ stored-all 24 1048576 groups (groupsFrom 0 mss) (sized-gathered bounds letters bytes n (s .ready .whole))
+
+  list : take n w′ ≡ proteinList names mss
+  list = d .lists ∙ ap (proteinList names) (s .runs)
+
+  wide : length (proteinList names mss) ≡ n
+  wide = ap length (sym list) ∙ length-take-le n w′ (omega (arith, s .ready .fits, d .same-length))
+
+  pub count : g ≡ length (groupsFrom 0 mss)
+  count =
+      d .number ∙ ap (λ (m : List (List (List ℕ))). length m) (s .runs)
+      ∙ sym (length-groups 0 mss (subst (λ (m : List (List (List ℕ))). Some m) (s .runs) (some-map (digestAt bytes) (runsOf (orderOf letters n w) (slice 0 n w)) (some-runs (orderOf letters n w) (slice 0 n w)))))
+
+  numbers : sets proteins 0 (take n w′) ≡ fitted 1 1048576 proteins (bytewise (proteinList names mss))
+  numbers = ap (sets proteins 0) list ∙ stored-text 1048576 (proteinList names mss) proteins (omega (arith, wide, s .ready .few))
+
+  pub left-grouped : r ≡ cond (leb g (min (length groups / 24) 1048576) && leb n (min (length proteins / 1) 1048576)) (Count g) (Refused Room)
+      → outcome r (replicate (length w′) 0 ∷ groups′ ∷ sets proteins 0 (take n w′) ∷ []) ≡ grouped names mss work groups proteins
+  left-grouped e =
+      let z : length w′ ≡ length work = d .same-length ∙ same in
+      let m : length (bytewise (proteinList names mss)) ≡ n = length-map (proteinList names mss) (λ (b : ℕ). b ∷ []) ∙ wide in
+      let a : r ≡ cond (fits 24 1048576 groups (groupsFrom 0 mss) && fits 1 1048576 proteins (bytewise (proteinList names mss))) (Count (length (groupsFrom 0 mss))) (Refused Room) = rw m (rw count at e) in
+      rw (records, numbers, z, a)

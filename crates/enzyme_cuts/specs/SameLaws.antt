@@ -1,0 +1,81 @@
+-- Laws of comparison. Assumes nothing.
+use Prim.Native.Nat.{ℕ, suc, _+_, _*_, _/_, _%_, _≤_, _<_}
+use mathlib.Core.Path.{_≡_, refl, sym, ap, ap₂, _∙_}
+use mathlib.Core.Bool.{Bool, true, false, and-false, true≢false}
+use mathlib.Core.Logic.{_⊎_, inl, inr, ⊎-elim}
+use mathlib.Core.List.{List, [], _∷_}
+use native.Mathlib.Omega.{arith}
+use lib.ListN.{length, getD}
+use lib.Seq.{ext-getD}
+use lib.Dec.{eqb}
+use borrow.Author.Tests.{eq-eqb, eqb-true}
+use Rattle.records.specs.Le.{numberAt}
+use Rattle.records.specs.LeLaws.{Bytes, number-four}
+use Rattle.records.specs.Tests.{both, below?, same?}
+use Rattle.enzyme_cuts.specs.Cutting.{same}
+
+-- a list is the same as itself
+pub same-self : (a : List ℕ) → same a a ≡ true
+same-self [] = refl
+same-self (x ∷ xs) = rw (eq-eqb x x refl, same-self xs)
+
+-- and lists that are the same are equal
+pub same-eq : (a b : List ℕ) → same a b ≡ true → a ≡ b
+same-eq [] [] e = refl
+same-eq [] (y ∷ ys) e = absurd (true≢false (sym e))
+same-eq (x ∷ xs) [] e = absurd (true≢false (sym e))
+same-eq (x ∷ xs) (y ∷ ys) e =
+    let p = both (eqb x y) (same xs ys) e in
+    ap₂ (λ (h : ℕ) (t : List ℕ). h ∷ t) (eqb-true _ _ (p .0)) (same-eq xs ys (p .1))
+
+pub same-short : (a b : List ℕ) → (length a ≡ length b → ⊥) → same a b ≡ false
+same-short [] [] h = absurd (h refl)
+same-short [] (y ∷ ys) h = refl
+same-short (x ∷ xs) [] h = refl
+same-short (x ∷ xs) (y ∷ ys) h = rw (same-short xs ys (λ e. h (ap suc e))) (and-false (eqb x y))
+
+-- ---- a comparison four bytes at a time: it stops, goes on, ends
+
+pub same-stop : (a b : List ℕ) (i : ℕ) → (numberAt 4 a i ≡ numberAt 4 b i → ⊥) → same a b ≡ false
+same-stop a b i h = go (same a b) refl
+  where
+    go : (t : Bool) → same a b ≡ t → t ≡ false
+    go true e = absurd (h (ap (λ (s : List ℕ). numberAt 4 s i) (same-eq a b e)))
+    go false e = refl
+
+-- bytes that stand for the same number
+digit : (x y m n : ℕ) → x < 256 → y < 256 → x + 256 * m ≡ y + 256 * n → (x ≡ y) × (m ≡ n)
+digit x y m n h k e =
+    let p : (x + 256 * m) % 256 ≡ x = omega arith in
+    let q : (y + 256 * n) % 256 ≡ y = omega arith in
+    let r : (x + 256 * m) / 256 ≡ m = omega arith in
+    let s : (y + 256 * n) / 256 ≡ n = omega arith in
+    (sym p ∙ ap (λ (z : ℕ). z % 256) e ∙ q, sym r ∙ ap (λ (z : ℕ). z / 256) e ∙ s)
+
+-- the first i places agree
+abbrev pub Alike : List ℕ → List ℕ → ℕ → Type 0
+Alike a b i = (j : ℕ) → j < i → getD a j 0 ≡ getD b j 0
+
+pub alike-on : (a b : List ℕ) (i : ℕ) → Bytes a → Bytes b → numberAt 4 a i ≡ numberAt 4 b i → Alike a b i → Alike a b (i + 4)
+alike-on a b i p q h agree j l =
+    let e : getD a i 0 + 256 * (getD a (i + 1) 0 + 256 * (getD a (i + 2) 0 + 256 * getD a (i + 3) 0)) ≡ getD b i 0 + 256 * (getD b (i + 1) 0 + 256 * (getD b (i + 2) 0 + 256 * getD b (i + 3) 0)) = sym (number-four a i) ∙ h ∙ number-four b i in
+    let d₀ = digit (getD a i 0) (getD b i 0) (getD a (i + 1) 0 + 256 * (getD a (i + 2) 0 + 256 * getD a (i + 3) 0)) (getD b (i + 1) 0 + 256 * (getD b (i + 2) 0 + 256 * getD b (i + 3) 0)) (p i) (q i) e in
+    let d₁ = digit (getD a (i + 1) 0) (getD b (i + 1) 0) (getD a (i + 2) 0 + 256 * getD a (i + 3) 0) (getD b (i + 2) 0 + 256 * getD b (i + 3) 0) (p (i + 1)) (q (i + 1)) (d₀ .1) in
+    let d₂ = digit (getD a (i + 2) 0) (getD b (i + 2) 0) (getD a (i + 3) 0) (getD b (i + 3) 0) (p (i + 2)) (q (i + 2)) (d₁ .1) in
+    at (d₀ .0) (d₁ .0) (d₂ .0) (d₂ .1) (below? j i) (same? j i) (same? j (i + 1)) (same? j (i + 2))
+  where
+    last : i ≤ j → (j ≡ i → ⊥) → (j ≡ i + 1 → ⊥) → (j ≡ i + 2 → ⊥) → j ≡ i + 3
+    last m x y z = ⊎-elim (λ (k : j < i + 3). absurd (⊎-elim (λ (u : j < i + 1). x (omega arith)) (λ (u : i + 1 ≤ j). ⊎-elim (λ (v : j < i + 2). y (omega arith)) (λ (v : i + 2 ≤ j). z (omega arith)) (below? j (i + 2))) (below? j (i + 1)))) (λ (k : i + 3 ≤ j). omega arith) (below? j (i + 3))
+
+    at : getD a i 0 ≡ getD b i 0 → getD a (i + 1) 0 ≡ getD b (i + 1) 0 → getD a (i + 2) 0 ≡ getD b (i + 2) 0 → getD a (i + 3) 0 ≡ getD b (i + 3) 0
+        → (j < i) ⊎ (i ≤ j) → (j ≡ i) ⊎ (j ≡ i → ⊥) → (j ≡ i + 1) ⊎ (j ≡ i + 1 → ⊥) → (j ≡ i + 2) ⊎ (j ≡ i + 2 → ⊥) → getD a j 0 ≡ getD b j 0
+    at f₀ f₁ f₂ f₃ (inl m) x y z = agree j m
+    at f₀ f₁ f₂ f₃ (inr m) (inl x) y z = rw x f₀
+    at f₀ f₁ f₂ f₃ (inr m) (inr x) (inl y) z = rw y f₁
+    at f₀ f₁ f₂ f₃ (inr m) (inr x) (inr y) (inl z) = rw z f₂
+    at f₀ f₁ f₂ f₃ (inr m) (inr x) (inr y) (inr z) = let k : j ≡ i + 3 = last m x y z in rw k f₃
+
+pub alike-all : (a b : List ℕ) (i : ℕ) → length a ≡ length b → length a ≤ i → Alike a b i → same a b ≡ true
+alike-all a b i l h agree =
+    let e : a ≡ b = ext-getD 0 a b l (λ j g. agree j (omega arith)) in
+    rw e (same-self b)

@@ -1,0 +1,53 @@
+-- `put_marks` meets its contract. Assumes nothing.
+use native.Mathlib.Omega.{arith}
+use native.Mathlib.Numerals.{add-one}
+use Prim.Native.Nat.{suc, _+_}
+use mathlib.Core.Path.{_≡_}
+use lib.ListN.{length-set}
+use borrow.Author.Needs.{needs}
+use Rattle.enzyme_keep.proofs.record.put_marks.Statement.{statement}
+use Rattle.enzyme_keep.proofs.record.put_marks.Tie as tie
+
+slice-write-out : tie.Need-slice-write-out
+slice-write-out c = search needs
+
+add-out : tie.Need-add-out
+add-out c = search needs
+
+slice-write-out-2 : tie.Need-slice-write-out-2
+slice-write-out-2 c = simp length-set (omega arith)
+
+add-out-2 : tie.Need-add-out-2
+add-out-2 c = search needs
+
+slice-write-out-3 : tie.Need-slice-write-out-3
+slice-write-out-3 c = simp length-set (omega arith)
+
+add-out-3 : tie.Need-add-out-3
+add-out-3 c = search needs
+
+slice-write-out-4 : tie.Need-slice-write-out-4
+slice-write-out-4 c = simp length-set (omega arith)
+
+same-length : tie.Need-same-length
+same-length c = search needs
+
+returns : tie.Need-returns
+returns c = let at = c .args .at in
+    let e₂ : at + 2 ≡ suc (at + 1) = omega arith in
+    let e₃ : at + 3 ≡ suc (suc (at + 1)) = omega arith in
+    rw (e₃, e₂, add-one at)
+
+pub put-marks-spec : {M : Type 1} → statement M
+put-marks-spec =
+    tie.close
+    (tie.spec
+    slice-write-out
+    add-out
+    slice-write-out-2
+    add-out-2
+    slice-write-out-3
+    add-out-3
+    slice-write-out-4
+    same-length
+    returns)

@@ -1,0 +1,77 @@
+-- `put_record` meets its contract: four runs of stores, one behind the other. Assumes nothing.
+use native.Mathlib.Omega.{arith}
+use Prim.Native.Nat.{_+_}
+use mathlib.Core.Path.{_∙_}
+use mathlib.Core.List.{[], _∷_, _++_}
+use lib.Seq.{sets}
+use denote.Ref.{now}
+use Rattle.records.specs.Le.{le}
+use Rattle.enzyme_keep.specs.Digests.{positionOf, recordOf}
+use Rattle.enzyme_keep.specs.BufferLaws.{sets-append}
+use borrow.Author.Needs.{needs}
+use Rattle.enzyme_keep.proofs.record.put_record.Statement.{statement}
+use Rattle.enzyme_keep.proofs.record.put_record.Tie as tie
+
+cast-start : tie.Need-cast-start
+cast-start c = search needs
+
+cast-end : tie.Need-cast-end
+cast-end c = search needs
+
+position-requires : tie.Need-position-requires
+position-requires c κs = search needs
+
+put-u32-requires : tie.Need-put-u32-requires
+put-u32-requires c κs = search needs
+
+add-put-u32 : tie.Need-add-put-u32
+add-put-u32 c = search needs
+
+put-u32-requires-2 : tie.Need-put-u32-requires-2
+put-u32-requires-2 c κs = search needs
+
+add-put-marks : tie.Need-add-put-marks
+add-put-marks c = search needs
+
+put-marks-requires : tie.Need-put-marks-requires
+put-marks-requires c κs = search needs
+
+add-put-u32-2 : tie.Need-add-put-u32-2
+add-put-u32-2 c = search needs
+
+put-u32-requires-3 : tie.Need-put-u32-requires-3
+put-u32-requires-3 c κs = search needs
+
+same-length : tie.Need-same-length
+same-length c = search needs
+
+returns : tie.Need-returns
+unfolding recordOf
+returns c = let a = c .before .before .before .before .before .before .before .before .before .before .before .before .before .before .before .before .before .before .args in
+    let out = now (a .out) in
+    let at = a .at in
+    let start = le 4 (a .a) in
+    let end = le 4 (a .e) in
+    let marks = a .missed ∷ a .semi ∷ positionOf (a .n) (a .a) (a .e) ∷ 0 ∷ [] in
+    c .before .before .put-u323 .ensures
+    ∙ rw (c .before .before .before .before .before .before .put-marks .ensures, c .before .before .before .before .before .before .before .before .before .before .before .before .before .before .before .before .position .ensures, c .before .before .before .before .before .before .before .before .before .before .put-u322 .ensures, c .before .before .before .before .before .before .before .before .before .before .before .before .before .before .put-u32 .ensures)
+    (sets-append marks (le 4 (a .last)) (sets (sets out at start) (at + 4) end) (at + 8) (at + 12) (omega arith)
+    ∙ sets-append end (marks ++ le 4 (a .last)) (sets out at start) (at + 4) (at + 8) (omega arith)
+    ∙ sets-append start (end ++ (marks ++ le 4 (a .last))) out at (at + 4) (omega arith))
+
+pub put-record-spec : {M : Type 1} → statement M
+put-record-spec =
+    tie.close
+    (tie.spec
+    cast-start
+    cast-end
+    position-requires
+    put-u32-requires
+    add-put-u32
+    put-u32-requires-2
+    add-put-marks
+    put-marks-requires
+    add-put-u32-2
+    put-u32-requires-3
+    same-length
+    returns)

@@ -1,0 +1,21 @@
+-- Document 01, "Sizes and records": a digest is 16 bytes, its numbers little-endian.
+use Prim.Native.Nat.{ℕ}
+use mathlib.Core.Bool.{Bool, cond, _&&_}
+use mathlib.Core.List.{List, _∷_, _++_}
+use lib.ListN.{getD}
+use lib.Dec.{eqb, ltb, leb}
+use Rattle.records.specs.Le.{le, numberAt}
+use Rattle.enzyme_cuts.specs.Cutting.{Range}
+
+-- Nterm 0, Cterm 1, Full 2, Internal 3: position looks at start = 0 and end = n
+unfoldable pub positionOf : ℕ → ℕ → ℕ → ℕ
+positionOf n a e = cond (eqb a 0) (cond (eqb e n) 2 0) (cond (eqb e n) 1 3)
+
+-- start u32, end u32, missed u8, semi u8, position u8, decoy u8, protein u32; decoy is 0, the protein as given
+unfoldable pub recordOf : ℕ → ℕ → Range → List ℕ
+unfolding positionOf
+recordOf n protein r = le 4 (r .from) ++ (le 4 (r .to) ++ (r .missed ∷ r .semi ∷ positionOf n (r .from) (r .to) ∷ 0 ∷ le 4 protein))
+
+-- as input, what can be asked of a record alone: start below end, end within the longest protein there is, missed to 16, flags 0 or 1, position to 3
+abbrev pub goodRecord : List ℕ → Bool
+goodRecord r = ltb (numberAt 4 r 0) (numberAt 4 r 4) && leb (numberAt 4 r 4) 65536 && leb (getD r 8 0) 16 && leb (getD r 9 0) 1 && leb (getD r 10 0) 3 && leb (getD r 11 0) 1

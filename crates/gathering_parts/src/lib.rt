@@ -1,7 +1,0 @@
-// Digests gathered into groups, in lent work memory. Only crates of this repository call these.
-mod gathering;
-mod groups;
-mod spelling;
-mod words;
-
-pub use gathering::gather;

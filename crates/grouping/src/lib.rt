@@ -1,8 +1,0 @@
-// Proteins grouped by the peptides that show them.
-mod arranging;
-mod checks;
-mod grouping;
-
-pub use grouping::Grouped;
-pub use grouping::Sizes;
-pub use grouping::group_proteins;

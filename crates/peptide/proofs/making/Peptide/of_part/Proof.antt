@@ -1,0 +1,54 @@
+-- `Peptide::of_part` meets its contract. Assumes nothing.
+use mathlib.Core.Path.{sym, _∙_}
+use borrow.Author.Needs.{needs}
+use Rattle.peptide.proofs.making.Peptide.of_part.Statement.{statement}
+use Rattle.peptide.proofs.making.Peptide.of_part.Tie as tie
+
+test-part-requires : tie.Need-test-part-requires
+test-part-requires c κs = search needs
+
+enum-known-why : tie.Need-enum-known-why
+enum-known-why c = search needs
+
+none-requires : tie.Need-none-requires
+none-requires c κs = search needs
+
+returns : tie.Need-returns
+returns c =
+    let e = sym (c .before .before .why .given .1) ∙ c .before .before .before .before .test-part .ensures in
+    rw (← e, c .none .ensures)
+
+enum-told : tie.Need-enum-told
+enum-told c = search needs
+
+sub-given : tie.Need-sub-given
+sub-given c = search needs
+
+part-given-start : tie.Need-part-given-start
+part-given-start c = search needs
+
+part-given-end : tie.Need-part-given-end
+part-given-end c = search needs
+
+given-requires : tie.Need-given-requires
+given-requires c κs = search needs
+
+returns-2 : tie.Need-returns-2
+returns-2 c =
+    let e = sym (c .before .before .enum-told .given .1) ∙ c .before .before .before .before .test-part .ensures in
+    rw (← e, c .given .ensures)
+
+pub of-part-spec : {M : Type 1} → statement M
+of-part-spec =
+    tie.close
+    (tie.spec
+    test-part-requires
+    enum-known-why
+    none-requires
+    returns
+    enum-told
+    sub-given
+    part-given-start
+    part-given-end
+    given-requires
+    returns-2)

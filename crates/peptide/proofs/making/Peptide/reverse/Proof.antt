@@ -1,0 +1,49 @@
+-- `Peptide::reverse` meets its contract. Assumes nothing.
+use mathlib.Core.Path.{sym, ap, _∙_}
+use Rattle.peptide.specs.Peptides.{madeOr, reversed}
+use Rattle.peptide.specs.PeptideLaws.{passed-fits}
+use borrow.Author.Needs.{needs}
+use Rattle.peptide.proofs.making.Peptide.reverse.Statement.{statement}
+use Rattle.peptide.proofs.making.Peptide.reverse.Tie as tie
+
+test-peptide-requires : tie.Need-test-peptide-requires
+test-peptide-requires c κs = search needs
+
+enum-known-why : tie.Need-enum-known-why
+enum-known-why c = search needs
+
+returns : tie.Need-returns
+returns c =
+    let p = c .before .before .before .before .args .self in
+    ap (λ t. madeOr t (reversed p) p) (sym (c .before .why .given .1) ∙ c .before .before .before .test-peptide .ensures)
+
+enum-told : tie.Need-enum-told
+enum-told c = search needs
+
+cast-n : tie.Need-cast-n
+cast-n c = search needs
+
+mirrored-requires : tie.Need-mirrored-requires
+mirrored-requires c κs = passed-fits (c .before .before .before .before .before .before .args .self) (sym (c .before .before .before .before .before .test-peptide .ensures) ∙ c .before .before .before .enum-told .given .1)
+
+mirrored-requires-2 : tie.Need-mirrored-requires-2
+mirrored-requires-2 c κs = passed-fits (c .before .before .before .before .before .before .before .args .self) (sym (c .before .before .before .before .before .before .test-peptide .ensures) ∙ c .before .before .before .before .enum-told .given .1)
+
+returns-2 : tie.Need-returns-2
+returns-2 c =
+    let p = c .before .before .before .before .before .before .before .before .before .args .self in
+    let e = sym (c .before .before .before .before .before .before .enum-told .given .1) ∙ c .before .before .before .before .before .before .before .before .test-peptide .ensures in
+    rw (← e, c .before .before .mirrored .ensures, c .before .mirrored2 .ensures)
+
+pub reverse-spec : {M : Type 1} → statement M
+reverse-spec =
+    tie.close
+    (tie.spec
+    test-peptide-requires
+    enum-known-why
+    returns
+    enum-told
+    cast-n
+    mirrored-requires
+    mirrored-requires-2
+    returns-2)

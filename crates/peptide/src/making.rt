@@ -1,0 +1,120 @@
+// The peptide by value.
+use crate::mass;
+use crate::tests;
+use records::Tested;
+ghost use mathlib.Core.Path.{_≡_};
+ghost use mathlib.Core.List.{List, [], _∷_};
+ghost use Rattle.peptide.specs.Peptides.{testedPeptide, reversed, given, none, madeOr, madeOfForm};
+ghost use Rattle.peptide.specs.Masses.{testedPart};
+
+// Its letters and the ids of its residues, of which the first len count; the ids of its ends; its place in the protein. An
+// id of 0 is none.
+pub struct Peptide {
+    pub letters: [u8; 64],
+    pub ids: [u8; 64],
+    pub nterm: u8,
+    pub cterm: u8,
+    pub len: u8,
+    pub position: u8,
+    pub decoy: bool,
+}
+
+// A peptide, if the tests passed.
+pub struct Made {
+    pub tested: Tested,
+    pub peptide: Peptide,
+}
+
+// The peptide of some letters with the ids of a form, untested.
+fn given(letters: &[u8], form: &[u8], position: u8, decoy: bool) -> Peptide
+    ensures { λ r. ⌜ r ≡ given (now (letters .entry)) (now (form .entry)) position decoy ⌝ }
+{
+    let held = peptide_slots::window(letters, 0);
+    let ids = peptide_slots::window(form, 2);
+    let nterm = records::byte_at(form, 0);
+    let cterm = records::byte_at(form, 1);
+    let len = peptide_slots::short(letters.len());
+    Peptide {
+        letters: held,
+        ids,
+        nterm,
+        cterm,
+        len,
+        position,
+        decoy,
+    }
+}
+
+// The peptide that is handed out where none was made.
+fn none() -> Peptide
+    ensures { λ r. ⌜ r ≡ none ⌝ }
+{
+    Peptide {
+        letters: [0; 64],
+        ids: [0; 64],
+        nterm: 0,
+        cterm: 0,
+        len: 0,
+        position: 0,
+        decoy: false,
+    }
+}
+
+impl Peptide {
+    // The peptide of some letters with the ids of a form, one record of 66 bytes.
+    pub fn of_form(letters: &[u8], form: &[u8], position: u8, decoy: bool) -> Made
+        ensures { λ r. ⌜ r ≡ madeOfForm (now (letters .entry)) (now (form .entry)) position decoy ⌝ }
+    {
+        let peptide = given(letters, form, position, decoy);
+        if let Tested::Refused(why) = tests::test_form(form, peptide) {
+            let tested = Tested::Refused(why);
+            let peptide = none();
+            return Made { tested, peptide };
+        }
+        let tested = Tested::Passed;
+        Made { tested, peptide }
+    }
+
+    // The unmodified peptide of a part of a protein, such as `&protein[start..end]`. Masses are those of A to Z.
+    pub fn of_part(part: &[u8], masses: &[f32], position: u8, decoy: bool) -> Made
+        ensures { λ r. ⌜ r ≡ madeOr (testedPart (now (part .entry)) (now (masses .entry)) position) (given (now (part .entry)) [] position decoy) none ⌝ }
+    {
+        if let Tested::Refused(why) = mass::test_part(part, masses, position) {
+            let tested = Tested::Refused(why);
+            let peptide = none();
+            return Made { tested, peptide };
+        }
+        let peptide = given(part, &part[0..0], position, decoy);
+        let tested = Tested::Passed;
+        Made { tested, peptide }
+    }
+
+    // The inner letters and residue ids reversed, the ends as they are, the decoy flag flipped.
+    pub fn reverse(self) -> Made
+        ensures { λ r. ⌜ r ≡ madeOr (testedPeptide self) (reversed self) self ⌝ }
+    {
+        if let Tested::Refused(why) = tests::test_peptide(self) {
+            let tested = Tested::Refused(why);
+            return Made {
+                tested,
+                peptide: self,
+            };
+        }
+        let n = self.len as usize;
+        let old_letters = self.letters;
+        let old_ids = self.ids;
+        let letters = peptide_slots::mirrored(old_letters, n);
+        let ids = peptide_slots::mirrored(old_ids, n);
+        let peptide = Peptide {
+            letters,
+            ids,
+            nterm: self.nterm,
+            cterm: self.cterm,
+            len: self.len,
+            position: self.position,
+            decoy: !self.decoy,
+        };
+        let tested = Tested::Passed;
+        Made { tested, peptide }
+    }
+}

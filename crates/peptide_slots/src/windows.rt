@@ -1,0 +1,25 @@
+// Bytes of any length as an array and a byte.
+ghost use mathlib.Core.Path.{_≡_};
+ghost use Prim.Native.Nat.{_≤_, min};
+ghost use Rattle.peptide_slots.specs.Windows.{window};
+
+// The 64 bytes from a place on; past the end stands 0.
+pub fn window(bytes: &[u8], from: usize) -> [u8; 64]
+    requires { ⌜ from ≤ 2 ⌝ }
+    ensures { λ r. ⌜ r ≡ window 64 from (now (bytes .entry)) ⌝ }
+{
+    let mut out = [0u8; 64];
+    let mut i = 0;
+    while i < 64 {
+        out[i] = records::byte_at(bytes, from + i);
+        i += 1;
+    }
+    out
+}
+
+// A length as a byte: one that does not fit is far above 64.
+pub fn short(n: usize) -> u8
+    ensures { λ r. ⌜ r ≡ min n 255 ⌝ }
+{
+    if n < 255 { n as u8 } else { 255 }
+}

@@ -1,0 +1,37 @@
+-- `answer` meets its contract. Assumes nothing.
+use Prim.Native.Nat.{_/_, min}
+use mathlib.Core.Path.{_≡_}
+use mathlib.Core.Bool.{true, false, _&&_}
+use lib.Dec.{leb}
+use borrow.Author.Needs.{needs}
+use Rattle.protein_groups.proofs.grouping.answer.Statement.{statement}
+use Rattle.protein_groups.proofs.grouping.answer.Tie as tie
+
+room-for-requires : tie.Need-room-for-requires
+room-for-requires c κs = search needs
+
+room-for-requires-2 : tie.Need-room-for-requires-2
+room-for-requires-2 c κs = search needs
+
+cast-edges : tie.Need-cast-edges
+cast-edges c = search needs
+
+cast-members : tie.Need-cast-members
+cast-members c = search needs
+
+returns : tie.Need-returns
+returns c =
+    let a = c .before .before .before .args in
+    let e : (leb (a .e) (min (a .edges / 8) 1048576) && leb (a .m) (min (a .members / 12) 131072)) ≡ true = rw (c .before .before .room-for .ensures, c .before .room-for2 .ensures) at (c .if1 .taken) in
+    rw e
+
+returns-2 : tie.Need-returns-2
+returns-2 c =
+    let a = c .before .before .before .args in
+    let e : (leb (a .e) (min (a .edges / 8) 1048576) && leb (a .m) (min (a .members / 12) 131072)) ≡ false = rw (c .before .before .room-for .ensures, c .before .room-for2 .ensures) at (c .if1 .left) in
+    rw e
+
+pub answer-spec : {M : Type 1} → statement M
+answer-spec =
+    tie.close
+    (tie.spec room-for-requires room-for-requires-2 cast-edges cast-members returns returns-2)

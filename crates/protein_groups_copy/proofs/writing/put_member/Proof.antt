@@ -1,0 +1,57 @@
+-- `put_member` meets its contract: three stores are one record, where there is room. Assumes nothing.
+use Prim.Native.Nat.{_*_, _<_}
+use mathlib.Core.Path.{_∙_}
+use Rattle.records.specs.Room.{roomOf}
+use Rattle.records.specs.StoreLaws.{stored-full, stored-free}
+use Rattle.protein_groups_members.specs.Members.{memberBytes}
+use Rattle.protein_groups_copy.specs.Placing.{memberOf}
+use Rattle.protein_groups_copy.specs.WritingLaws.{member-stored}
+use borrow.Author.Needs.{needs}
+use Rattle.protein_groups_copy.proofs.writing.put_member.Statement.{statement}
+use Rattle.protein_groups_copy.proofs.writing.put_member.Tie as tie
+
+returns : tie.Need-returns
+returns c =
+    let a = c .before .before .args in
+    stored-full 12 131072 (a .out .now) (a .j) (memberBytes (memberOf (a .group) (a .shown))) (rw (c .before .before .pre .1) at (c .if1 .taken))
+
+mul-k : tie.Need-mul-k
+mul-k c = search needs
+
+put-u32-requires : tie.Need-put-u32-requires
+put-u32-requires c κs = search needs
+
+add-put-u32 : tie.Need-add-put-u32
+add-put-u32 c = search needs
+
+put-u32-requires-2 : tie.Need-put-u32-requires-2
+put-u32-requires-2 c κs = search needs
+
+add-put-u32-2 : tie.Need-add-put-u32-2
+add-put-u32-2 c = search needs
+
+put-u32-requires-3 : tie.Need-put-u32-requires-3
+put-u32-requires-3 c κs = search needs
+
+same-length : tie.Need-same-length
+same-length c = search needs
+
+returns-2 : tie.Need-returns-2
+returns-2 c =
+    let a = c .before .before .before .before .before .before .before .before .before .before .before .before .before .before .args in
+    let r : a .j < roomOf 12 131072 (a .out .now) = rw (c .before .before .before .before .before .before .before .before .before .before .before .before .before .before .pre .1) at (c .before .before .before .before .before .before .before .before .before .before .before .before .if1 .left) in
+    rw (c .before .before .put-u323 .ensures, c .before .before .before .before .before .before .put-u322 .ensures, c .before .before .before .before .before .before .before .before .before .before .put-u32 .ensures) (member-stored (a .out .now) (12 * a .j) (a .group) (a .shown)) ∙ stored-free 12 131072 (a .out .now) (a .j) (memberBytes (memberOf (a .group) (a .shown))) r
+
+pub put-member-spec : {M : Type 1} → statement M
+put-member-spec =
+    tie.close
+    (tie.spec
+    returns
+    mul-k
+    put-u32-requires
+    add-put-u32
+    put-u32-requires-2
+    add-put-u32-2
+    put-u32-requires-3
+    same-length
+    returns-2)

@@ -1,0 +1,86 @@
+-- `write_members` meets its contract: what is still to be written gives the whole. Assumes nothing.
+use Prim.Native.Nat.{_-_, _≤_}
+use native.Mathlib.Omega.{arith}
+use mathlib.Core.Path.{_≡_, refl, sym, _∙_}
+use mathlib.Core.List.{map}
+use lib.ListN.{length}
+use Rattle.records.specs.StoreLaws.{storedFrom}
+use Rattle.sorting.specs.Counting.{upFrom}
+use Rattle.protein_groups_members.specs.Members.{memberBytes}
+use Rattle.protein_groups_copy.specs.Placing.{standingMember, standingMembers}
+use Rattle.protein_groups_copy.specs.WritingLaws.{length-stored, writes-start, writes-more, writes-end, members-fitted}
+use borrow.Author.Needs.{needs}
+use Rattle.protein_groups_copy.proofs.writing.write_members.Statement.{statement}
+use Rattle.protein_groups_copy.proofs.writing.write_members.Tie as tie
+
+abbrev Inv-loop : tie.InvT-loop
+Inv-loop w o s n out₀ room j₀ out j =
+    (j ≤ n) × (length out ≡ length out₀)
+    × (storedFrom 12 131072 out j (map memberBytes (map (standingMember w o s) (upFrom j (n - j)))) ≡ storedFrom 12 131072 out₀ 0 (map memberBytes (standingMembers w o s n)))
+
+abbrev μ-loop : tie.MeasureT-loop
+μ-loop w o s n out₀ room j₀ out j = n - j
+
+room-for-requires : tie.Need-room-for-requires Inv-loop μ-loop
+room-for-requires c κs = search needs
+
+loop-holds : tie.Need-loop-holds Inv-loop μ-loop
+loop-holds c = let a = c .before .before .before .args in (omega arith, refl, writes-start 12 131072 memberBytes (standingMember (a .w .now) (a .o) (a .s)) (a .n) (a .out .now))
+
+shown-at-requires : tie.Need-shown-at-requires Inv-loop μ-loop
+shown-at-requires c κs = search needs
+
+add-put-member : tie.Need-add-put-member Inv-loop μ-loop
+add-put-member c = search needs
+
+mul-put-member : tie.Need-mul-put-member Inv-loop μ-loop
+mul-put-member c = search needs
+
+shared-slice-read-put-member : tie.Need-shared-slice-read-put-member Inv-loop μ-loop
+shared-slice-read-put-member c = search needs
+
+put-member-requires : tie.Need-put-member-requires Inv-loop μ-loop
+put-member-requires c κs = let l = c .before .before .before .before .loop in (omega arith, c .before .before .before .before .before .room-for .ensures ∙ (rw (l .inv .1)))
+
+add-j : tie.Need-add-j Inv-loop μ-loop
+add-j c = search needs
+
+loop-less : tie.Need-loop-less Inv-loop μ-loop
+loop-less c = search needs
+
+loop-again : tie.Need-loop-again Inv-loop μ-loop
+loop-again c =
+    let a = c .before .before .before .before .before .before .before .before .before .before .before .args in
+    let l = c .before .before .before .before .before .before .before .loop in (
+      omega arith,
+      rw (c .before .before .put-member .ensures, c .before .before .before .before .before .shown-at .ensures) (length-stored 12 131072 (l .out) (l .j) (memberBytes (standingMember (a .w .now) (a .o) (a .s) (l .j))) ∙ l .inv .1),
+      rw (c .before .before .put-member .ensures, c .before .before .before .before .before .shown-at .ensures) (writes-more 12 131072 memberBytes (standingMember (a .w .now) (a .o) (a .s)) (a .n) (l .out) (l .j) (omega arith) ∙ l .inv .2),
+    )
+
+same-length : tie.Need-same-length Inv-loop μ-loop
+same-length c = search needs
+
+returns : tie.Need-returns Inv-loop μ-loop
+returns c =
+    let a = c .before .before .before .before .before .args in
+    let l = c .before .loop in
+    sym (writes-end 12 131072 memberBytes (standingMember (a .w .now) (a .o) (a .s)) (a .n) (l .out) (l .j) (omega arith)) ∙ l .inv .2 ∙ members-fitted (a .out .now) (standingMembers (a .w .now) (a .o) (a .s) (a .n))
+
+pub write-members-spec : {M : Type 1} → statement M
+write-members-spec =
+    tie.close
+    (tie.spec
+    Inv-loop
+    μ-loop
+    room-for-requires
+    loop-holds
+    shown-at-requires
+    add-put-member
+    mul-put-member
+    shared-slice-read-put-member
+    put-member-requires
+    add-j
+    loop-less
+    loop-again
+    same-length
+    returns)

@@ -1,0 +1,634 @@
+-- Lemmas of the theorems: what stands in a list and how often, what `firsts` and `distinct` hold, and where members and edges come
+-- from. Assumes nothing.
+use mathlib.Core.Path.{_≡_, refl, sym, ap, _∙_, subst}
+use mathlib.Core.Bool.{Bool, true, false, cond, _&&_, _||_}
+use mathlib.Core.Logic.{_⊎_, inl, inr, ⊎-elim}
+use mathlib.Core.List.{List, [], _∷_, _++_, flatten, map}
+use Prim.Native.Nat.{ℕ, zero, suc, _+_, _*_, _/_, _%_, _≤_, _<_}
+use native.Mathlib.Nat.{zero-add}
+use native.Mathlib.Omega.{arith}
+use borrow.Author.Tests.{ltb-true, lt-ltb, eqb-true, eqb-false, eq-eqb, ne-eqb}
+use lib.Dec.{eqb}
+use lib.ListN.{length, getD, replicate, List·getD-eq-default}
+use Rattle.records.specs.Tests.{below?}
+use Rattle.sorting_merge.specs.Sort.{insert, sorted}
+use Rattle.sorting_merge.specs.SortLaws.{In, in-sorted, sorted-in, clash}
+use Rattle.sorting_merge.specs.Lex.{lexLe}
+use Rattle.sorting.specs.Counting.{upFrom}
+use Rattle.sorting.specs.CountingLaws.{in-up, up-in}
+use Rattle.sorting.specs.Runs.{runNumbers}
+use Rattle.sorting.specs.NumberLaws.{length-numbers}
+use Rattle.sorting.specs.Distinct.{keep, same, onceAfter, once, distinct}
+use Rattle.sorting.specs.DistinctLaws.{same-refl, same-eq}
+use Rattle.cover_spec.specs.Cover.{Edge, bit, count}
+use Rattle.cover_spec.specs.CountLaws.{All}
+use Rattle.protein_groups_members.specs.Numbers.{has, times}
+use Rattle.protein_groups_members.specs.Members.{Member}
+use Rattle.protein_groups_members.specs.MemberLaws.{Ranged}
+use Rattle.protein_groups_spec.specs.ProteinGroups.{Pair, pairsOf, shown, seen, paired, taking, proteins, metas, evidence, up, place, firsts, listFrom, lists, edgesFrom, member, membersFrom, groupsOf, grouping}
+use Rattle.protein_groups_spec.specs.Standing.{many, standing, seenAs, Fit}
+use Rattle.protein_groups_spec.specs.NumberingLaws.{place-lt}
+use Rattle.protein_groups_spec.specs.LeaderLaws.{walkBy, tagged, gathered-walk, distinct-in, le}
+
+-- ---- what stands in a list
+
+module _ {A : Type 0} (x : A) where
+  pub in-left : (xs ys : List A) → In x xs → In x (xs ++ ys)
+  in-left [] ys h = absurd h
+  in-left (y ∷ xs) ys (inl e) = inl e
+  in-left (y ∷ xs) ys (inr k) = inr (in-left xs ys k)
+
+  pub in-right : (xs ys : List A) → In x ys → In x (xs ++ ys)
+  in-right [] ys h = h
+  in-right (y ∷ xs) ys h = inr (in-right xs ys h)
+
+  pub in-append : (xs ys : List A) → In x (xs ++ ys) → In x xs ⊎ In x ys
+  in-append [] ys h = inr h
+  in-append (y ∷ xs) ys (inl e) = inl (inl e)
+  in-append (y ∷ xs) ys (inr k) = ⊎-elim (λ i. inl (inr i)) (λ i. inr i) (in-append xs ys k)
+
+  pub in-keep : (p : A → Bool) (xs : List A) → In x xs → p x ≡ true → In x (keep p xs)
+  in-keep p [] h e = h
+  in-keep p (y ∷ xs) h e = go (p y) refl h (in-keep p xs)
+    where
+      go : (t : Bool) → p y ≡ t → In x (y ∷ xs) → (In x xs → p x ≡ true → In x (keep p xs)) → In x (cond t (y ∷ keep p xs) (keep p xs))
+      go true q (inl z) r = inl z
+      go true q (inr k) r = inr (r k e)
+      go false q (inl z) r = clash (ap p (sym z) ∙ e) q
+      go false q (inr k) r = r k e
+
+  pub keep-in : (p : A → Bool) (xs : List A) → In x (keep p xs) → In x xs × (p x ≡ true)
+  keep-in p [] h = absurd h
+  keep-in p (y ∷ xs) h = go (p y) refl h (keep-in p xs)
+    where
+      go : (t : Bool) → p y ≡ t → In x (cond t (y ∷ keep p xs) (keep p xs)) → (In x (keep p xs) → In x xs × (p x ≡ true)) → In x (y ∷ xs) × (p x ≡ true)
+      go true q (inl z) r = (inl z, ap p z ∙ q)
+      go true q (inr k) r = let s = r k in (inr (s .0), s .1)
+      go false q k r = let s = r k in (inr (s .0), s .1)
+
+module _ {A B : Type 0} (f : A → B) where
+  pub in-map : (x : A) (xs : List A) → In x xs → In (f x) (map f xs)
+  in-map x [] h = absurd h
+  in-map x (y ∷ ys) (inl e) = inl (ap f e)
+  in-map x (y ∷ ys) (inr k) = inr (in-map x ys k)
+
+  pub map-in : (y : B) (xs : List A) → In y (map f xs) → (x : A) × In x xs × (y ≡ f x)
+  map-in y [] h = absurd h
+  map-in y (x ∷ xs) (inl e) = (x, inl refl, e)
+  map-in y (x ∷ xs) (inr k) = let (z, i, e) = map-in y xs k in (z, inr i, e)
+
+module _ {A : Type 0} (d : A) where
+  pub in-getD : (l : List A) (i : ℕ) → i < length l → In (getD l i d) l
+  in-getD [] i h = absurd (omega arith)
+  in-getD (x ∷ xs) zero h = inl refl
+  in-getD (x ∷ xs) (suc i) h = inr (in-getD xs i (omega arith))
+
+  pub getD-in : (x : A) (l : List A) → In x l → (i : ℕ) × (i < length l) × (getD l i d ≡ x)
+  getD-in x [] h = absurd h
+  getD-in x (y ∷ ys) (inl e) = (0, omega arith, sym e)
+  getD-in x (y ∷ ys) (inr k) = let (i, l, e) = getD-in x ys k in (suc i, omega arith, e)
+
+pub is-in : {A : Type 0} {x y : A} {k l : List A} → x ≡ y → k ≡ l → In x k → In y l
+is-in {A} {y = y} {k} p q h = subst (λ (m : List A). In y m) q (subst (λ (z : A). In z k) p h)
+
+pub in-some : {A : Type 0} (x : A) (l : List A) → In x l → 0 < length l
+in-some x [] h = absurd h
+in-some x (y ∷ ys) h = omega arith
+
+pub some-in : {A : Type 0} (l : List A) → 0 < length l → (x : A) × In x l
+some-in [] h = absurd (omega arith)
+some-in (y ∷ ys) h = (y, inl refl)
+
+pub has-in : (k : ℕ) (l : List ℕ) → has k l ≡ true → In k l
+has-in k [] h = clash h refl
+has-in k (x ∷ xs) h = go (eqb x k) refl h (has-in k xs)
+  where
+    go : (t : Bool) → eqb x k ≡ t → cond t true (has k xs) ≡ true → (has k xs ≡ true → In k xs) → (k ≡ x) ⊎ In k xs
+    go true e h r = inl (sym (eqb-true x k e))
+    go false e h r = inr (r h)
+
+pub in-has : (k : ℕ) (l : List ℕ) → In k l → has k l ≡ true
+in-has k [] h = absurd h
+in-has k (x ∷ xs) (inl e) = rw (eq-eqb x k (sym e))
+in-has k (x ∷ xs) (inr i) = go (eqb x k) (in-has k xs i)
+  where
+    go : (t : Bool) → has k xs ≡ true → cond t true (has k xs) ≡ true
+    go true r = refl
+    go false r = r
+
+-- ---- how many of a list pass a test
+
+module _ {A : Type 0} (p : A → Bool) where
+  pub many-in : (x : A) (xs : List A) → In x xs → p x ≡ true → 0 < many p xs
+  many-in x [] h e = absurd h
+  many-in x (y ∷ xs) (inl z) e = let k : p y ≡ true = ap p (sym z) ∙ e in rw k (omega arith)
+  many-in x (y ∷ xs) (inr i) e = omega (arith, many-in x xs i e)
+
+  pub in-many : (xs : List A) → 0 < many p xs → (x : A) × In x xs × (p x ≡ true)
+  in-many [] h = absurd (omega arith)
+  in-many (y ∷ xs) h = go (p y) refl h (in-many xs)
+    where
+      go : (t : Bool) → p y ≡ t → 0 < bit t + many p xs → (0 < many p xs → (x : A) × In x xs × (p x ≡ true)) → (x : A) × In x (y ∷ xs) × (p x ≡ true)
+      go true e h r = (y, inl refl, e)
+      go false e h r = let (x, i, q) = r (omega arith) in (x, inr i, q)
+
+  many-insert : (le : A → A → Bool) (x : A) (s : List A) → many p (insert le x s) ≡ bit (p x) + many p s
+  many-insert le x [] = refl
+  many-insert le x (y ∷ ys) = go (le x y) (many-insert le x ys)
+    where
+      go : (t : Bool) → many p (insert le x ys) ≡ bit (p x) + many p ys → many p (cond t (x ∷ y ∷ ys) (y ∷ insert le x ys)) ≡ bit (p x) + (bit (p y) + many p ys)
+      go true r = refl
+      go false r = omega arith
+
+  pub many-sorted : (le : A → A → Bool) (s : List A) → many p (sorted le s) ≡ many p s
+  many-sorted le [] = refl
+  many-sorted le (x ∷ xs) = many-insert le x (sorted le xs) ∙ ap (λ (n : ℕ). bit (p x) + n) (many-sorted le xs)
+
+-- at the places of a list
+pub many-places : (t : ℕ → Bool) (at : ℕ → ℕ) (a : ℕ) (l : List ℕ) → ((i : ℕ) → i < length l → at (a + i) ≡ getD l i 0) → many (λ k. t (at k)) (upFrom a (length l)) ≡ many t l
+many-places t at a [] h = refl
+many-places t at a (x ∷ xs) h =
+    let e : a + 0 ≡ a = omega arith in
+    let k : at a ≡ x = ap at (sym e) ∙ h 0 (omega arith) in
+    rw (k, many-places t at (suc a) xs (λ i q. let z : suc a + i ≡ a + suc i = omega arith in ap at z ∙ h (suc i) (omega arith)))
+
+pub many-times : (c : ℕ) (l : List ℕ) → many (λ x. eqb x c) l ≡ times c l
+many-times c [] = refl
+many-times c (x ∷ xs) = go (eqb x c) (many-times c xs)
+  where
+    go : (t : Bool) → many (λ x. eqb x c) xs ≡ times c xs → bit t + many (λ x. eqb x c) xs ≡ cond t (suc (times c xs)) (times c xs)
+    go true r = omega arith
+    go false r = omega arith
+
+-- one member for each thing walked over
+pub many-walk : {A : Type 0} (f : ℕ → ℕ → A) (t : A → Bool) (u : ℕ → Bool) → ((g k : ℕ) → t (f g k) ≡ u k) → (gs xs : List ℕ) → length gs ≡ length xs
+    → many t (walkBy f gs xs) ≡ many u xs
+many-walk f t u h [] [] e = refl
+many-walk f t u h [] (x ∷ xs) e = absurd (omega arith)
+many-walk f t u h (g ∷ gs) [] e = absurd (omega arith)
+many-walk f t u h (g ∷ gs) (x ∷ xs) e = rw (h g x, many-walk f t u h gs xs (omega arith))
+
+-- ---- each number once
+
+pub has-append : (k : ℕ) (xs ys : List ℕ) → has k (xs ++ ys) ≡ (has k xs || has k ys)
+has-append k [] ys = refl
+has-append k (x ∷ xs) ys = go (eqb x k) (has-append k xs ys)
+  where
+    go : (t : Bool) → has k (xs ++ ys) ≡ (has k xs || has k ys) → cond t true (has k (xs ++ ys)) ≡ (cond t true (has k xs) || has k ys)
+    go true r = refl
+    go false r = r
+
+pub times-append : (k : ℕ) (xs ys : List ℕ) → times k (xs ++ ys) ≡ times k xs + times k ys
+times-append k [] ys = omega arith
+times-append k (x ∷ xs) ys = go (eqb x k) (times-append k xs ys)
+  where
+    go : (t : Bool) → times k (xs ++ ys) ≡ times k xs + times k ys → cond t (suc (times k (xs ++ ys))) (times k (xs ++ ys)) ≡ cond t (suc (times k xs)) (times k xs) + times k ys
+    go true r = omega arith
+    go false r = r
+
+-- c stands once in f where it stands in it
+abbrev Single : ℕ → List ℕ → Type 0
+Single c f = times c f ≡ bit (has c f)
+
+-- after x is seen c stands once in what is found, where it stood in it or is x
+single-next : (c x : ℕ) (f : List ℕ) → Single c f → Single c (cond (has x f) f (f ++ (x ∷ []))) × (has c (cond (has x f) f (f ++ (x ∷ []))) ≡ (has c f || eqb x c))
+single-next c x f s = go (has x f) (eqb x c) (has c f) refl refl refl
+  where
+    go : (t u v : Bool) → has x f ≡ t → eqb x c ≡ u → has c f ≡ v → Single c (cond t f (f ++ (x ∷ []))) × (has c (cond t f (f ++ (x ∷ []))) ≡ (v || u))
+    go true u true p q r = (s, r)
+    go true false false p q r = (s, r)
+    go true true false p q r = let z : x ≡ c = eqb-true x c q in clash (rw z at p) r
+    go false false v p q r =
+        let n : times c (x ∷ []) ≡ 0 = rw q in
+        let m : has c (f ++ (x ∷ [])) ≡ (v || false) = has-append c f (x ∷ []) ∙ rw (q, r) in
+        (times-append c f (x ∷ []) ∙ rw (n, s, m, r) (bits v), m)
+      where
+        bits : (v : Bool) → bit v + 0 ≡ bit (v || false)
+        bits true = refl
+        bits false = refl
+    go false true true p q r = let z : x ≡ c = eqb-true x c q in clash (rw (sym z) at r) p
+    go false true false p q r =
+        let n : times c (x ∷ []) ≡ 1 = rw q in
+        let m : has c (f ++ (x ∷ [])) ≡ true = has-append c f (x ∷ []) ∙ rw (q, r) in
+        (times-append c f (x ∷ []) ∙ rw (n, s, m, r), m)
+
+pub single-firsts : (c : ℕ) (f l : List ℕ) → Single c f → times c (firsts f l) ≡ bit (has c f || has c l)
+single-firsts c f [] s = s ∙ go (has c f)
+  where
+    go : (v : Bool) → bit v ≡ bit (v || false)
+    go true = refl
+    go false = refl
+single-firsts c f (x ∷ xs) s =
+    let n = single-next c x f s in
+    single-firsts c (cond (has x f) f (f ++ (x ∷ []))) xs (n .0) ∙ rw (n .1) (go (has c f) (eqb x c))
+  where
+    go : (v u : Bool) → bit ((v || u) || has c xs) ≡ bit (v || cond u true (has c xs))
+    go true u = refl
+    go false true = refl
+    go false false = refl
+
+pub firsts-in : (x : ℕ) (f l : List ℕ) → In x (firsts f l) → In x f ⊎ In x l
+firsts-in x f [] h = inl h
+firsts-in x f (y ∷ ys) h = ⊎-elim (λ i. go (has y f) i) (λ i. inr (inr i)) (firsts-in x (cond (has y f) f (f ++ (y ∷ []))) ys h)
+  where
+    last : In x f ⊎ In x (y ∷ []) → In x f ⊎ In x (y ∷ ys)
+    last (inl i) = inl i
+    last (inr (inl e)) = inr (inl e)
+    last (inr (inr k)) = absurd k
+
+    go : (t : Bool) → In x (cond t f (f ++ (y ∷ []))) → In x f ⊎ In x (y ∷ ys)
+    go true i = inl i
+    go false i = last (in-append x f (y ∷ []) i)
+
+-- ---- what the pairs show
+
+module _ (flags : List ℕ) (qs : List Pair) where
+  pub shown-in : (x a n : ℕ) → In x (flatten (map (shown flags qs) (upFrom a n))) → (q : Pair) × In q qs × (x ≡ seen flags q) × (q .peptide < a + n)
+  unfolding flatten
+  shown-in x a zero h = absurd h
+  shown-in x a (suc n) h = ⊎-elim here (λ i. let (q, j, e, l) = shown-in x (suc a) n i in (q, j, e, omega arith)) (in-append x (shown flags qs a) (flatten (map (shown flags qs) (upFrom (suc a) n))) h)
+    where
+      here : In x (shown flags qs a) → (q : Pair) × In q qs × (x ≡ seen flags q) × (q .peptide < a + suc n)
+      here i =
+          let (q, j, e) = map-in (seen flags) x (pairsOf qs a) i in
+          let k = keep-in q (λ (q : Pair). eqb (q .peptide) a) qs j in
+          let z : q .peptide ≡ a = eqb-true (q .peptide) a (k .1) in
+          (q, k .0, e, omega arith)
+
+  pub in-shown : (q : Pair) (a n : ℕ) → In q qs → a ≤ q .peptide → q .peptide < a + n → In (seen flags q) (flatten (map (shown flags qs) (upFrom a n)))
+  unfolding flatten
+  in-shown q a zero i l h = absurd (omega arith)
+  in-shown q a (suc n) i l h = go (eqb (q .peptide) a) refl (in-shown q (suc a) n i)
+    where
+      after : (q .peptide ≡ a → ⊥) → suc a ≤ q .peptide
+      after d = ⊎-elim (λ (z : a < q .peptide). omega arith) (λ (z : q .peptide ≤ a). absurd (d (omega arith))) (below? a (q .peptide))
+
+      go : (t : Bool) → eqb (q .peptide) a ≡ t → (suc a ≤ q .peptide → q .peptide < suc a + n → In (seen flags q) (flatten (map (shown flags qs) (upFrom (suc a) n))))
+          → In (seen flags q) (shown flags qs a ++ flatten (map (shown flags qs) (upFrom (suc a) n)))
+      go true e r = in-left (seen flags q) (shown flags qs a) (flatten (map (shown flags qs) (upFrom (suc a) n))) (in-map (seen flags) q (pairsOf qs a) (in-keep q (λ (q : Pair). eqb (q .peptide) a) qs i e))
+      go false e r =
+          in-right (seen flags q) (shown flags qs a) (flatten (map (shown flags qs) (upFrom (suc a) n)))
+          (r (after (eqb-false (q .peptide) a e)) (omega arith))
+
+-- ---- a number seen as protein and flag
+
+-- a protein's number twice, and its flag
+pub halves : (x p f : ℕ) → f ≤ 1 → (eqb (x / 2) p && eqb (x % 2) f) ≡ eqb x (p * 2 + f)
+halves x p f h = go (eqb (x / 2) p) (eqb (x % 2) f) refl refl
+  where
+    go : (t u : Bool) → eqb (x / 2) p ≡ t → eqb (x % 2) f ≡ u → (t && u) ≡ eqb x (p * 2 + f)
+    go true true a b = sym (eq-eqb x (p * 2 + f) (omega (arith, eqb-true (x / 2) p a, eqb-true (x % 2) f b)))
+    go true false a b = sym (ne-eqb x (p * 2 + f) (λ z. eqb-false (x % 2) f b (omega arith)))
+    go false u a b = sym (ne-eqb x (p * 2 + f) (λ z. eqb-false (x / 2) p a (omega arith)))
+
+flag-le : (flags : List ℕ) → ((i : ℕ) → i < length flags → getD flags i 0 ≤ 1) → (i : ℕ) → getD flags i 0 ≤ 1
+flag-le flags h i =
+    ⊎-elim (λ (l : i < length flags). h i l) (λ (l : length flags ≤ i). let e : getD flags i 0 ≡ 0 = List·getD-eq-default flags 0 l in omega arith) (below? i (length flags))
+
+-- the protein and the flag of what is seen
+pub seen-is : (flags : List ℕ) → ((i : ℕ) → i < length flags → getD flags i 0 ≤ 1) → (q : Pair) (p x : ℕ) → q .peptide ≡ p → x ≡ seen flags q
+    → (x / 2 ≡ q .protein) × (x % 2 ≡ getD flags p 0)
+seen-is flags h q p x e z =
+    let l : getD flags (q .peptide) 0 ≤ 1 = flag-le flags h (q .peptide) in
+    let y : x % 2 ≡ getD flags (q .peptide) 0 = omega arith in
+    (omega arith, y ∙ ap (λ (i : ℕ). getD flags i 0) e)
+
+pub iff : (a b : Bool) → (a ≡ true → b ≡ true) → (b ≡ true → a ≡ true) → a ≡ b
+iff true b p q = sym (p refl)
+iff false true p q = q refl
+iff false false p q = refl
+
+-- ---- a number's place, and how often it stands
+
+pub in-times : (x : ℕ) (l : List ℕ) → In x l → 0 < times x l
+in-times x l h = rw (many-times x l) at (many-in (λ y. eqb y x) x l h (eq-eqb x x refl))
+
+pub times-in : (x : ℕ) (l : List ℕ) → 0 < times x l → In x l
+times-in x l h =
+    let k : 0 < many (λ y. eqb y x) l = rw (many-times x l) h in
+    let (y, i, e) = in-many (λ y. eqb y x) l k in
+    let z : y ≡ x = eqb-true y x e in
+    rw z at i
+
+-- what stands once has the place at which it stands
+pub place-at : (l : List ℕ) (k : ℕ) → k < length l → times (getD l k 0) l ≤ 1 → place (getD l k 0) l ≡ k
+place-at [] k h s = absurd (omega arith)
+place-at (y ∷ ys) zero h s = rw (eq-eqb y y refl)
+place-at (y ∷ ys) (suc i) h s = go (eqb y (getD ys i 0)) s (place-at ys i (omega arith))
+  where
+    go : (t : Bool) → cond t (suc (times (getD ys i 0) ys)) (times (getD ys i 0) ys) ≤ 1 → (times (getD ys i 0) ys ≤ 1 → place (getD ys i 0) ys ≡ i)
+        → cond t 0 (suc (place (getD ys i 0) ys)) ≡ suc i
+    go true s r = absurd (omega (arith, in-times (getD ys i 0) ys (in-getD 0 ys i (omega arith))))
+    go false s r = ap suc (r s)
+
+pub getD-place : (x : ℕ) (l : List ℕ) → In x l → getD l (place x l) 0 ≡ x
+getD-place x [] h = absurd h
+getD-place x (y ∷ ys) h = go (eqb y x) refl h (getD-place x ys)
+  where
+    go : (t : Bool) → eqb y x ≡ t → (x ≡ y) ⊎ In x ys → (In x ys → getD ys (place x ys) 0 ≡ x) → getD (y ∷ ys) (cond t 0 (suc (place x ys))) 0 ≡ x
+    go true e h r = eqb-true y x e
+    go false e (inl z) r = clash (eq-eqb y x (sym z)) e
+    go false e (inr k) r = r k
+
+-- ---- the distinct of some lists
+
+in-once-after : (d l : List ℕ) (ms : List (List ℕ)) → In d ms → (d ≡ l) ⊎ In d (onceAfter l ms)
+in-once-after d l [] h = absurd h
+in-once-after d l (m ∷ ms) h = go (same m l) refl h (in-once-after d m ms)
+  where
+    first : (t : Bool) → same m l ≡ t → d ≡ m → (d ≡ l) ⊎ In d (cond t (onceAfter m ms) (m ∷ onceAfter m ms))
+    first true q e = inl (e ∙ same-eq m l q)
+    first false q e = inr (inl e)
+
+    later : (t : Bool) → In d (onceAfter m ms) → (d ≡ l) ⊎ In d (cond t (onceAfter m ms) (m ∷ onceAfter m ms))
+    later true i = inr i
+    later false i = inr (inr i)
+
+    go : (t : Bool) → same m l ≡ t → (d ≡ m) ⊎ In d ms → (In d ms → (d ≡ m) ⊎ In d (onceAfter m ms)) → (d ≡ l) ⊎ In d (cond t (onceAfter m ms) (m ∷ onceAfter m ms))
+    go t q (inl e) r = first t q e
+    go t q (inr k) r = ⊎-elim (first t q) (later t) (r k)
+
+pub in-distinct : (d : List ℕ) (ls : List (List ℕ)) → In d ls → In d (distinct ls)
+in-distinct d ls h = go (sorted lexLe ls) (in-sorted lexLe d ls h)
+  where
+    go : (ms : List (List ℕ)) → In d ms → In d (once ms)
+    go [] h = h
+    go (m ∷ ms) (inl e) = inl e
+    go (m ∷ ms) (inr k) = in-once-after d m ms k
+
+-- ---- a protein's list of meta-peptides
+
+pub replicate-in : (x n m : ℕ) → In x (replicate n m) → (x ≡ m) × (0 < n)
+replicate-in x zero m h = absurd h
+replicate-in x (suc n) m (inl e) = (e, omega arith)
+replicate-in x (suc n) m (inr k) = (replicate-in x n m k .0, omega arith)
+
+in-replicate : (n m : ℕ) → 0 < n → In m (replicate n m)
+in-replicate zero m h = absurd (omega arith)
+in-replicate (suc n) m h = inl refl
+
+-- x is the number of a meta-peptide in which k stands
+pub list-in : (x m : ℕ) (es : List (List ℕ)) (k : ℕ) → In x (listFrom m es k) → (i : ℕ) × (i < length es) × (x ≡ m + i) × In k (getD es i [])
+list-in x m [] k h = absurd h
+list-in x m (e ∷ es) k h =
+    ⊎-elim (λ i. let (z, l) = replicate-in x (times k e) m i in (0, omega arith, omega arith, times-in k e l))
+    (λ i. let (j, l, z, r) = list-in x (suc m) es k i in (suc j, omega arith, omega arith, r)) (in-append x (replicate (times k e) m) (listFrom (suc m) es k) h)
+
+pub in-list : (m i : ℕ) (es : List (List ℕ)) (k : ℕ) → i < length es → In k (getD es i []) → In (m + i) (listFrom m es k)
+in-list m i [] k l h = absurd (omega arith)
+in-list m zero (e ∷ es) k l h =
+    let z : m + 0 ≡ m = omega arith in
+    rw z (in-left m (replicate (times k e) m) (listFrom (suc m) es k) (in-replicate (times k e) m (in-times k e h)))
+in-list m (suc i) (e ∷ es) k l h =
+    let z : m + suc i ≡ suc m + i = omega arith in
+    rw z (in-right (suc m + i) (replicate (times k e) m) (listFrom (suc m) es k) (in-list (suc m) i es k (omega arith) h))
+
+-- ---- edges, and members
+
+pub edge-in : (e : Edge) (g : ℕ) (ls : List (List ℕ)) → In e (edgesFrom g ls) → (i : ℕ) × (i < length ls) × (e .0 ≡ g + i) × In (e .1) (getD ls i [])
+edge-in e g [] h = absurd h
+edge-in e g (l ∷ ls) h =
+    ⊎-elim (λ i. let (m, j, z) = map-in (λ (m : ℕ). (g, m)) e l i in let x : e .0 ≡ g = ap (λ (d : Edge). d .0) z in (0, omega arith, omega arith, is-in {k = l} (sym (ap (λ (d : Edge). d .1) z)) refl j))
+    (λ i. let (j, b, z, c) = edge-in e (suc g) ls i in (suc j, omega arith, omega arith, c)) (in-append e (map (λ (m : ℕ). (g, m)) l) (edgesFrom (suc g) ls) h)
+
+pub in-edge : (x g i : ℕ) (ls : List (List ℕ)) → i < length ls → In x (getD ls i []) → In (g + i, x) (edgesFrom g ls)
+in-edge x g i [] l h = absurd (omega arith)
+in-edge x g zero (k ∷ ls) l h =
+    let z : g + 0 ≡ g = omega arith in
+    rw z (in-left (g, x) (map (λ (m : ℕ). (g, m)) k) (edgesFrom (suc g) ls) (in-map (λ (m : ℕ). (g, m)) x k h))
+in-edge x g (suc i) (k ∷ ls) l h =
+    let z : g + suc i ≡ suc g + i = omega arith in
+    rw z (in-right (suc g + i, x) (map (λ (m : ℕ). (g, m)) k) (edgesFrom (suc g) ls) (in-edge x (suc g) i ls (omega arith) h))
+
+module _ (ps : List ℕ) (ms : List (List ℕ)) where
+  -- the places whose list is l
+  abbrev having : List ℕ → List ℕ
+  having l = keep (λ (k : ℕ). same (listFrom 0 ms k) l) (upFrom 0 (length ps))
+
+  pub member-in : (m : Member) (g : ℕ) (ls : List (List ℕ)) → In m (membersFrom ps ms g ls)
+      → (i : ℕ) × (i < length ls) × ((k : ℕ) × (k < length ps) × (listFrom 0 ms k ≡ getD ls i []) × (m ≡ member ps (g + i) k))
+  member-in m g [] h = absurd h
+  member-in m g (l ∷ ls) h =
+      ⊎-elim here (λ i. later (member-in m (suc g) ls i)) (in-append m (map (member ps g) (having l)) (membersFrom ps ms (suc g) ls) h)
+    where
+      here : In m (map (member ps g) (having l)) → (i : ℕ) × (i < suc (length ls)) × ((k : ℕ) × (k < length ps) × (listFrom 0 ms k ≡ getD (l ∷ ls) i []) × (m ≡ member ps (g + i) k))
+      here i =
+          let (k, j, z) = map-in (member ps g) m (having l) i in
+          let (u, s) = keep-in k (λ (k : ℕ). same (listFrom 0 ms k) l) (upFrom 0 (length ps)) j in
+          let v = up-in k 0 (length ps) u in
+          let y : g ≡ g + 0 = omega arith in
+          (0, omega arith, (k, omega arith, same-eq (listFrom 0 ms k) l s, z ∙ ap (λ (n : ℕ). member ps n k) y))
+
+      later : (i : ℕ) × (i < length ls) × ((k : ℕ) × (k < length ps) × (listFrom 0 ms k ≡ getD ls i []) × (m ≡ member ps (suc g + i) k))
+          → (i : ℕ) × (i < suc (length ls)) × ((k : ℕ) × (k < length ps) × (listFrom 0 ms k ≡ getD (l ∷ ls) i []) × (m ≡ member ps (g + i) k))
+      later r =
+          let (i, b, (k, c, e, z)) = r in
+          let y : suc g + i ≡ g + suc i = omega arith in
+          (suc i, omega arith, (k, c, e, z ∙ ap (λ (n : ℕ). member ps n k) y))
+
+  -- the members are what is gathered for each list
+  pub members-tagged : (g : ℕ) (ls : List (List ℕ)) → membersFrom ps ms g ls ≡ tagged (member ps) g (map (λ l. keep (λ k. same (listFrom 0 ms k) l) (upFrom 0 (length ps))) ls)
+  members-tagged g [] = refl
+  members-tagged g (l ∷ ls) = ap (λ (s : List Member). map (member ps g) (having l) ++ s) (members-tagged (suc g) ls)
+
+  pub in-member : (k g i : ℕ) (ls : List (List ℕ)) → k < length ps → i < length ls → listFrom 0 ms k ≡ getD ls i [] → In (member ps (g + i) k) (membersFrom ps ms g ls)
+  in-member k g i [] b l h = absurd (omega arith)
+  in-member k g zero (d ∷ ls) b l h =
+      let z : g + 0 ≡ g = omega arith in
+      let s : same (listFrom 0 ms k) d ≡ true = rw h (same-refl d) in
+      let j : In k (having d) = in-keep k (λ (k : ℕ). same (listFrom 0 ms k) d) (upFrom 0 (length ps)) (in-up k 0 (length ps) (omega arith) (omega arith)) s in
+      rw z (in-left (member ps g k) (map (member ps g) (having d)) (membersFrom ps ms (suc g) ls) (in-map (member ps g) k (having d) j))
+  in-member k g (suc i) (d ∷ ls) b l h =
+      let z : g + suc i ≡ suc g + i = omega arith in
+      rw z (in-right (member ps (suc g + i) k) (map (member ps g) (having d)) (membersFrom ps ms (suc g) ls) (in-member k (suc g) i ls b (omega arith) h))
+
+-- ---- the grouping
+
+pub edge-counts : (p : Edge → Bool) (e : Edge) (l : List Edge) → In e l → p e ≡ true → 0 < count p l
+unfolding count
+edge-counts p e [] h k = absurd h
+edge-counts p e (d ∷ l) (inl z) k = let j : p d ≡ true = ap p (sym z) ∙ k in rw j (omega arith)
+edge-counts p e (d ∷ l) (inr i) k = omega (arith, edge-counts p e l i k)
+
+pub edge-find : (p : Edge → Bool) (l : List Edge) → 0 < count p l → (e : Edge) × In e l × (p e ≡ true)
+unfolding count
+edge-find p [] h = absurd (omega arith)
+edge-find p (d ∷ l) h = go (p d) refl h (edge-find p l)
+  where
+    go : (t : Bool) → p d ≡ t → 0 < bit t + count p l → (0 < count p l → (e : Edge) × In e l × (p e ≡ true)) → (e : Edge) × In e (d ∷ l) × (p e ≡ true)
+    go true z h r = (d, inl refl, z)
+    go false z h r = let (e, i, q) = r (omega arith) in (e, inr i, q)
+
+pub all-edges : (P : Edge → Type 0) (l : List Edge) → ((e : Edge) → In e l → P e) → All P l
+all-edges P [] h = tt
+all-edges P (e ∷ l) h = (h e (inl refl), all-edges P l (λ d i. h d (inr i)))
+
+module _ (flags : List ℕ) (peptides : ℕ) (qs : List Pair) where
+  abbrev all : List ℕ
+  all = flatten (map (shown flags qs) (upFrom 0 peptides))
+
+  abbrev ps : List ℕ
+  ps = proteins flags peptides qs
+
+  abbrev ms : List (List ℕ)
+  ms = metas (proteins flags peptides qs) flags peptides qs
+
+  abbrev ls : List (List ℕ)
+  ls = distinct (lists (metas (proteins flags peptides qs) flags peptides qs) (length (proteins flags peptides qs)))
+
+  -- the numbers found: those seen, each once
+  found-times : (x : ℕ) → times x ps ≡ bit (has x all)
+  unfolding proteins
+  found-times x = single-firsts x [] all refl
+
+  found-in : (x : ℕ) → In x ps → In x all
+  unfolding proteins
+  found-in x h = ⊎-elim (λ (i : In x []). absurd i) (λ i. i) (firsts-in x [] all h)
+
+  pub in-found : (x : ℕ) → In x all → In x ps
+  in-found x h = let e : times x ps ≡ 1 = found-times x ∙ rw (in-has x all h) in times-in x ps (omega arith)
+
+  pub place-found : (k : ℕ) → k < length ps → place (getD ps k 0) ps ≡ k
+  place-found k h = place-at ps k h (rw (found-times (getD ps k 0)) (go (has (getD ps k 0) all)))
+    where
+      go : (t : Bool) → bit t ≤ 1
+      go true = omega arith
+      go false = omega arith
+
+  member-seen : (k : ℕ) → k < length ps → (q : Pair) × In q qs × (getD ps k 0 ≡ seen flags q)
+  member-seen k h = let (q, i, e, l) = shown-in flags qs (getD ps k 0) 0 peptides (found-in (getD ps k 0) (in-getD 0 ps k h)) in (q, i, e)
+
+  -- a pair's protein stands in the evidence of its peptide
+  own : (q : Pair) (p : ℕ) → In q qs → q .peptide ≡ p → In q (pairsOf qs p)
+  own q p i z = in-keep q (λ (r : Pair). eqb (r .peptide) p) qs i (eq-eqb (q .peptide) p z)
+
+  in-evidence : (q : Pair) (p : ℕ) → In q qs → q .peptide ≡ p → In (place (seen flags q) ps) (evidence ps flags qs p)
+  in-evidence q p i z =
+      in-sorted up (place (seen flags q) ps) (map (λ (k : ℕ). place k ps) (shown flags qs p))
+      (in-map (λ (k : ℕ). place k ps) (seen flags q) (shown flags qs p) (in-map (seen flags) q (pairsOf qs p) (own q p i z)))
+
+  -- each protein found has a meta-peptide
+  has-meta : (q : Pair) → In q qs → q .peptide < 0 + peptides → In (evidence ps flags qs (q .peptide)) ms
+  unfolding metas
+  has-meta q i l =
+      in-distinct (evidence ps flags qs (q .peptide)) (map (evidence ps flags qs) (taking peptides qs))
+      (in-map (evidence ps flags qs) (q .peptide) (taking peptides qs)
+      (in-keep (q .peptide) (paired qs) (upFrom 0 peptides) (in-up (q .peptide) 0 peptides (omega arith) l) (lt-ltb 0 (length (pairsOf qs (q .peptide))) (in-some q (pairsOf qs (q .peptide)) (own q (q .peptide) i refl)))))
+
+  pub some-meta : (k : ℕ) → k < length ps → (m : ℕ) × In m (listFrom 0 ms k)
+  some-meta k h =
+      let (q, i, e, l) = shown-in flags qs (getD ps k 0) 0 peptides (found-in (getD ps k 0) (in-getD 0 ps k h)) in
+      let (m, b, s) = getD-in [] (evidence ps flags qs (q .peptide)) ms (has-meta q i l) in
+      (0 + m, in-list 0 m ms k b (is-in (ap (λ (x : ℕ). place x ps) (sym e) ∙ place-found k h) (sym s) (in-evidence q (q .peptide) i refl)))
+
+  -- each meta-peptide is one of a protein found
+  pub meta-has : (m : ℕ) → m < length ms → (p : ℕ) × In p (taking peptides qs) × (getD ms m [] ≡ evidence ps flags qs p)
+  unfolding metas
+  meta-has m h = map-in (evidence ps flags qs) (getD ms m []) (taking peptides qs) (distinct-in (getD ms m []) (map (evidence ps flags qs) (taking peptides qs)) (in-getD [] ms m h))
+
+  pub taking-has : (p : ℕ) → In p (taking peptides qs) → (q : Pair) × In q qs × (q .peptide ≡ p) × (p < peptides)
+  taking-has p i =
+      let (j, t) = keep-in p (paired qs) (upFrom 0 peptides) i in
+      let (q, r) = some-in (pairsOf qs p) (ltb-true 0 (length (pairsOf qs p)) t) in
+      let (s, y) = keep-in q (λ (r : Pair). eqb (r .peptide) p) qs r in
+      let u = up-in p 0 peptides j in
+      (q, s, eqb-true (q .peptide) p y, omega arith)
+
+  pub some-protein : (m : ℕ) → m < length ms → (k : ℕ) × (k < length ps) × In m (listFrom 0 ms k)
+  some-protein m h =
+      let (p, i, e) = meta-has m h in
+      let (q, s, z, u) = taking-has p i in
+      let k : ℕ = place (seen flags q) ps in
+      let f : In (seen flags q) ps = in-found (seen flags q) (in-shown flags qs q 0 peptides s (omega arith) (omega arith)) in
+      (k, place-lt (seen flags q) ps (in-has (seen flags q) ps f), subst (λ (x : ℕ). In x (listFrom 0 ms k)) (zero-add m) (in-list 0 m ms k h (is-in refl (sym e) (in-evidence q p s z))))
+
+  -- the list of a protein found is a group's
+  pub list-group : (k : ℕ) → k < length ps → (g : ℕ) × (g < length ls) × (getD ls g [] ≡ listFrom 0 ms k)
+  list-group k h = getD-in [] (listFrom 0 ms k) ls (in-distinct (listFrom 0 ms k) (lists ms (length ps)) (in-map (listFrom 0 ms) k (upFrom 0 (length ps)) (in-up k 0 (length ps) (omega arith) (omega arith))))
+
+  -- a group's list is one of a protein found
+  pub group-list : (g : ℕ) → g < length ls → (k : ℕ) × (k < length ps) × (listFrom 0 ms k ≡ getD ls g [])
+  group-list g h =
+      let (k, i, e) = map-in (listFrom 0 ms) (getD ls g []) (upFrom 0 (length ps)) (distinct-in (getD ls g []) (lists ms (length ps)) (in-getD [] ls g h)) in
+      let u = up-in k 0 (length ps) i in
+      (k, omega arith, sym e)
+
+  -- what stands in an evidence is the number of a pair's protein
+  evidence-in : (k p : ℕ) → In k (evidence ps flags qs p) → (r : Pair) × In r qs × (r .peptide ≡ p) × (k ≡ place (seen flags r) ps)
+  evidence-in k p h =
+      let (x, i, e) = map-in (λ (y : ℕ). place y ps) k (shown flags qs p) (sorted-in up k (map (λ (y : ℕ). place y ps) (shown flags qs p)) h) in
+      let (r, j, z) = map-in (seen flags) x (pairsOf qs p) i in
+      let (u, y) = keep-in r (λ (q : Pair). eqb (q .peptide) p) qs j in
+      (r, u, eqb-true (r .peptide) p y, e ∙ ap (λ (y : ℕ). place y ps) z)
+
+  pub own-meta : (q : Pair) → In q qs → q .peptide < peptides → (m : ℕ) × (m < length ms) × (getD ms m [] ≡ evidence ps flags qs (q .peptide))
+  own-meta q i l = getD-in [] (evidence ps flags qs (q .peptide)) ms (has-meta q i (omega arith))
+
+  -- a group with a peptide's meta-peptide has one of its proteins
+  pub reached : (g m p : ℕ) → p < peptides → g < length ls → getD ms m [] ≡ evidence ps flags qs p → In m (getD ls g [])
+      → (r : Pair) × In r qs × (r .peptide ≡ p) × ((k : ℕ) × (k < length ps) × (listFrom 0 ms k ≡ getD ls g []) × (getD ps k 0 ≡ seen flags r))
+  reached g m p l h e i =
+      let (k, b, y) = group-list g h in
+      let (n, c, x, j) = list-in m 0 ms k (is-in refl (sym y) i) in
+      let z : n ≡ m = omega arith in
+      let (r, u, v, w) = evidence-in k p (is-in refl (ap (λ (o : ℕ). getD ms o []) z ∙ e) j) in
+      let f : In (seen flags r) ps = in-found (seen flags r) (in-shown flags qs r 0 peptides u (omega arith) (omega arith)) in
+      (r, u, v, (k, b, y, ap (λ (o : ℕ). getD ps o 0) w ∙ getD-place (seen flags r) ps f))
+
+  -- a protein and flag stand in as many members as their number in what is found
+  pub standing-times : (p f : ℕ) → f ≤ 1 → standing p f (grouping flags peptides qs .members) ≡ times (p * 2 + f) ps
+  unfolding grouping groupsOf
+  standing-times p f h =
+      ap (standing p f) (members-tagged ps ms 0 ls ∙ gathered-walk list (member ps) (upFrom 0 (length ps)))
+      ∙ many-walk (member ps) (λ (m : Member). eqb (m .protein) p && eqb (m .decoy) f) hit (λ g k. halves (getD ps k 0) p f h) (runNumbers (le list) order) order (length-numbers (le list) order)
+      ∙ many-sorted hit (le list) (upFrom 0 (length ps))
+      ∙ many-places (λ x. eqb x (p * 2 + f)) (λ k. getD ps k 0) 0 ps (λ i l. ap (λ (k : ℕ). getD ps k 0) (zero-add i))
+      ∙ many-times (p * 2 + f) ps
+    where
+      list : ℕ → List ℕ
+      list = listFrom 0 ms
+
+      hit : ℕ → Bool
+      hit k = eqb (getD ps k 0) (p * 2 + f)
+
+      order : List ℕ
+      order = sorted (le list) (upFrom 0 (length ps))
+
+  module _ (fit : Fit flags peptides qs) where
+    -- a pair is of protein p and flag f where what is seen is their number
+    pub pair-is : (q : Pair) (p f : ℕ) → f ≤ 1 → (eqb (q .protein) p && eqb (getD flags (q .peptide) 0) f) ≡ eqb (seen flags q) (p * 2 + f)
+    pair-is q p f h =
+        let (a, b) = seen-is flags (fit .flag) q (q .peptide) (seen flags q) refl refl in
+        rw (a, b) at (halves (seen flags q) p f h)
+
+    seen-all : (p f : ℕ) → f ≤ 1 → has (p * 2 + f) all ≡ seenAs flags qs p f
+    seen-all p f h = iff (has (p * 2 + f) all) (seenAs flags qs p f) to from
+      where
+        test : Pair → Bool
+        test q = eqb (q .protein) p && eqb (getD flags (q .peptide) 0) f
+
+        to : has (p * 2 + f) all ≡ true → seenAs flags qs p f ≡ true
+        to e =
+            let (q, i, z, l) = shown-in flags qs (p * 2 + f) 0 peptides (has-in (p * 2 + f) all e) in
+            lt-ltb 0 (many test qs) (many-in test q qs i (pair-is q p f h ∙ eq-eqb (seen flags q) (p * 2 + f) (sym z)))
+
+        from : seenAs flags qs p f ≡ true → has (p * 2 + f) all ≡ true
+        from e =
+            let (q, i, z) = in-many test qs (ltb-true 0 (many test qs) e) in
+            let s : seen flags q ≡ p * 2 + f = eqb-true (seen flags q) (p * 2 + f) (sym (pair-is q p f h) ∙ z) in
+            let l : q .peptide < 0 + peptides = omega (arith, fit .below q i) in
+            in-has (p * 2 + f) all (rw s at (in-shown flags qs q 0 peptides i (omega arith) l))
+
+    pub times-seen : (p f : ℕ) → f ≤ 1 → times (p * 2 + f) ps ≡ bit (seenAs flags qs p f)
+    times-seen p f h = found-times (p * 2 + f) ∙ ap bit (seen-all p f h)
+
+    -- the protein of a place is a pair's
+    pub protein-seen : (k : ℕ) → k < length ps → (q : Pair) × In q qs × (getD ps k 0 / 2 ≡ q .protein)
+    protein-seen k h =
+        let (q, i, e) = member-seen k h in
+        (q, i, seen-is flags (fit .flag) q (q .peptide) (getD ps k 0) refl e .0)
+
+-- what holds of each member holds of all
+pub all-members : (groups n : ℕ) (l : List Member) → ((m : Member) → In m l → (m .group < groups) × (m .protein < n) × (m .decoy ≤ 1)) → Ranged groups n l
+all-members groups n [] h = tt
+all-members groups n (m ∷ l) h = (h m (inl refl), all-members groups n l (λ k i. h k (inr i)))

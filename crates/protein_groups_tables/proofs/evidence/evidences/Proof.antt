@@ -1,0 +1,49 @@
+-- `evidences` meets its contract. Assumes nothing.
+use mathlib.Core.List.{[]}
+use native.Mathlib.Omega.{arith}
+use Rattle.protein_groups_tables.specs.EvidenceLaws.{table-zero, all-below, evident}
+use borrow.Author.Needs.{needs}
+use Rattle.protein_groups_tables.proofs.evidence.evidences.Statement.{statement}
+use Rattle.protein_groups_tables.proofs.evidence.evidences.Tie as tie
+
+by-counting-requires : tie.Need-by-counting-requires
+by-counting-requires c κs = search needs
+
+number-all-requires : tie.Need-number-all-requires
+number-all-requires c κs =
+    let a = c .before .before .before .before .before .before .args in
+    let g = c .before .before .before .before .before .before .pre in
+    let s = c .before .before .before .by-counting in
+    (omega arith, omega (arith, g .front, g .laid .counters), omega (arith, g .laid .values, g .laid .keys, g .laid .fits, s .kept .0), g .small, table-zero (a .w .now) (s .last .0) (a .k) (a .c) (a .m) (a .l) (a .a) (a .b) (a .n) (s .kept .0) g (s .ensures), all-below (a .w .now) (s .last .0) (a .k) (a .c) (a .m) (a .l) (a .a) (a .b) (a .n) (s .kept .0) g (s .ensures))
+
+slice-aggregate-sort-each : tie.Need-slice-aggregate-sort-each
+slice-aggregate-sort-each c = search needs
+
+add-sort-each : tie.Need-add-sort-each
+add-sort-each c = search needs
+
+sort-each-requires : tie.Need-sort-each-requires
+sort-each-requires c κs = search needs
+
+same-length : tie.Need-same-length
+same-length c = search needs
+
+returns : tie.Need-returns
+returns c =
+    let a = c .before .before .before .before .before .before .before .before .before .before .before .before .before .before .args in
+    let s = c .before .before .before .before .before .before .before .before .before .before .before .by-counting in
+    let d = c .before .before .before .before .before .before .before .number-all in
+    let t = c .before .before .sort-each in
+    evident (a .w .now) (s .last .0) (a .k) (a .c) (a .m) (a .l) (a .a) (a .b) (a .n) (s .kept .0) (c .before .before .before .before .before .before .before .before .before .before .before .before .before .before .pre) (s .ensures) (d .last .0) (d .result) (d .kept .0) (d .ensures) (t .last .1 .1 .0) (t .result) [] (t .kept .1 .1 .0) (t .ensures)
+
+pub evidences-spec : {M : Type 1} → statement M
+evidences-spec =
+    tie.close
+    (tie.spec
+    by-counting-requires
+    number-all-requires
+    slice-aggregate-sort-each
+    add-sort-each
+    sort-each-requires
+    same-length
+    returns)

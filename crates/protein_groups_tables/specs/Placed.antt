@@ -1,0 +1,46 @@
+-- Where the grouping of n pairs stands in a lent slice: k is twice the number of proteins, m the number of peptides.
+use mathlib.Core.Path.{_≡_}
+use mathlib.Core.List.{List, map}
+use Prim.Native.Nat.{ℕ, _+_, _*_, _/_, _%_, _≤_, _<_}
+use lib.ListN.{length, getD}
+use Rattle.sorting.specs.Counting.{upFrom}
+use Rattle.cover_spec.specs.Cover.{Edge}
+use Rattle.protein_groups_members.specs.Members.{Member}
+use Rattle.protein_groups_spec.specs.ProteinGroups.{Pair, grouping}
+
+-- the pairs' peptides, and behind them what the pairs show; the edges' meta-peptides, and behind them their groups
+abbrev pub keysAt : ℕ → ℕ → ℕ → ℕ
+keysAt k m n = 4 * k + 3 * m + n + 4
+
+abbrev pub valuesAt : ℕ → ℕ → ℕ → ℕ
+valuesAt k m n = keysAt k m n + n
+
+abbrev pub edgeIn : List ℕ → ℕ → ℕ → ℕ → Edge
+edgeIn w a b i = (getD w (b + i) 0, getD w (a + i) 0)
+
+-- of the j-th member the group stands from s on, and the place of what shows it from o on
+abbrev pub memberIn : List ℕ → ℕ → ℕ → ℕ → Member
+memberIn w o s j = record { group = getD w (s + j) 0; protein = getD w (getD w (o + j) 0) 0 / 2; decoy = getD w (getD w (o + j) 0) 0 % 2 }
+
+-- what is asked: all of it fits, the numbers are in their range, and what stands before the places of the values by key is zero
+pub record Placeable (w : List ℕ) (k m n : ℕ) : Type 0 where
+  pub fits : valuesAt k m n + n ≤ length w
+  pub few : n ≤ 1048576
+  pub proteins : k ≤ 131072
+  pub peptides : m ≤ 262144
+  pub keys : (i : ℕ) → i < n → getD w (keysAt k m n + i) 0 < m
+  pub values : (i : ℕ) → i < n → getD w (valuesAt k m n + i) 0 < k
+  pub zeros : (i : ℕ) → i < 4 * k + 3 * m + 4 → getD w i 0 ≡ 0
+
+-- the grouping of qs
+pub record Placed (flags : List ℕ) (qs : List Pair) (w : List ℕ) (k m n groups metas edges members : ℕ) : Type 0 where
+  pub edges-are : map (edgeIn w (keysAt k m n) (valuesAt k m n)) (upFrom 0 edges) ≡ grouping flags m qs .edges
+  pub members-are : map (memberIn w k (2 * k)) (upFrom 0 members) ≡ grouping flags m qs .members
+  pub groups-are : groups ≡ grouping flags m qs .groups
+  pub metas-are : metas ≡ grouping flags m qs .metas
+
+-- what a writer needs
+pub record Within (w : List ℕ) (k n edges members : ℕ) : Type 0 where
+  pub few-edges : edges ≤ n
+  pub few-members : members ≤ k
+  pub shown : (j : ℕ) → j < members → getD w (k + j) 0 < length w

@@ -1,0 +1,35 @@
+-- `line_laid` meets its contract. Assumes nothing.
+use Rattle.protein_groups_members.specs.Members.{membersIn}
+use Rattle.report_lines_write.specs.LineLaws.{stretched-laid}
+use Rattle.report_lines.specs.ReportingLaws.{line-outcome}
+use borrow.Author.Needs.{needs}
+use Rattle.report_lines.proofs.reporting.line_laid.Statement.{statement}
+use Rattle.report_lines.proofs.reporting.line_laid.Tie as tie
+
+lay-out-requires : tie.Need-lay-out-requires
+lay-out-requires c κs = search needs
+
+line-in-requires : tie.Need-line-in-requires
+line-in-requires c κs =
+    let a = c .before .before .before .before .before .before .before .before .before .before .before .before .before .args in
+    stretched-laid (a .names .now) (membersIn (a .members .now)) (a .marks .now) (a .list .now) (a .decoy) (a .tag .now) (a .generated) (c .before .before .before .before .lay-out .last .1 .1 .1 .1 .1 .1 .1 .0) (a .c) (c .before .before .before .before .lay-out .ensures) (c .before .before .before .before .before .before .before .before .before .before .before .before .before .pre .0 .small) (c .before .before .before .before .before .before .before .before .before .before .before .before .before .pre .1)
+
+answer-requires : tie.Need-answer-requires
+answer-requires c κs = search needs
+
+same-length : tie.Need-same-length
+same-length c = search needs
+
+same-length-2 : tie.Need-same-length-2
+same-length-2 c = search needs
+
+returns : tie.Need-returns
+returns c =
+    let a = c .before .before .before .before .before .before .before .before .before .before .before .before .before .before .before .before .before .before .before .args in
+    let l = c .before .before .before .before .before .line-in in
+    line-outcome (a .names .now) (a .members .now) (a .marks .now) (a .list .now) (a .decoy) (a .tag .now) (a .generated) (c .before .before .before .before .before .before .before .before .before .before .lay-out .last .1 .1 .1 .1 .1 .1 .1 .0) (a .c) (c .before .before .before .before .before .before .before .before .before .before .lay-out .ensures) (c .before .before .before .before .before .before .before .before .before .before .before .before .before .before .before .before .before .before .before .pre .0 .small) (c .before .before .before .before .before .before .before .before .before .before .before .before .before .before .before .before .before .before .before .pre .1) (a .out .now) (l .last .1 .1 .1 .1 .0) (l .result .bytes) (l .result .groups) (c .answer .result) (l .ensures) (c .answer .ensures)
+
+pub line-laid-spec : {M : Type 1} → statement M
+line-laid-spec =
+    tie.close
+    (tie.spec lay-out-requires line-in-requires answer-requires same-length same-length-2 returns)

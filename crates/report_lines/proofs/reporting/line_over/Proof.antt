@@ -1,0 +1,75 @@
+-- `line_over` meets its contract: a refusal, or the line. Assumes nothing.
+use mathlib.Core.Path.{_≡_, sym, _∙_}
+use denote.Ref.{now}
+use Rattle.records.specs.declared.refusal.Tested.{Tested}
+use Rattle.records.specs.declared.refusal.Tested.the-variants.{Passed}
+use Rattle.report_lines.specs.Reporting.{contents}
+use Rattle.report_lines.specs.ReportingLaws.{names-told, contents-told, fair-good, good-given, good-tag}
+use borrow.Author.Needs.{needs}
+use Rattle.report_lines.proofs.reporting.line_over.Statement.{statement}
+use Rattle.report_lines.proofs.reporting.line_over.Tie as tie
+
+name-count-requires : tie.Need-name-count-requires
+name-count-requires c κs = search needs
+
+names-tested-in-requires : tie.Need-names-tested-in-requires
+names-tested-in-requires c κs = search needs
+
+lists-tested-requires : tie.Need-lists-tested-requires
+lists-tested-requires c κs = search needs
+
+enum-known-found : tie.Need-enum-known-found
+enum-known-found c = search needs
+
+enum-told : tie.Need-enum-told
+enum-told c = search needs
+
+-- what was found is what the contents tell
+told : (c : tie.After-lists-tested) → c .lists-tested .result ≡ contents (now (c .before .before .before .before .before .before .before .before .before .before .before .before .before .args .names)) (now (c .before .before .before .before .before .before .before .before .before .before .before .before .before .args .members)) (now (c .before .before .before .before .before .before .before .before .before .before .before .before .before .args .marks)) (now (c .before .before .before .before .before .before .before .before .before .before .before .before .before .args .list)) (now (c .before .before .before .before .before .before .before .before .before .before .before .before .before .args .tag))
+told c =
+    let a = c .before .before .before .before .before .before .before .before .before .before .before .before .before .args in
+    let m = c .before .before .before .names-tested-in in
+    contents-told (now (a .names)) (now (a .members)) (now (a .marks)) (now (a .list)) (now (a .tag)) (m .result) (c .before .before .before .before .before .name-count .result) (c .lists-tested .result)
+    (names-told (now (a .names)) (now (a .members)) (now (a .marks)) (now (a .list)) (now (a .w)) (a .c) (c .before .before .before .before .before .before .before .before .before .before .before .before .before .pre .0) (c .before .before .before .before .before .before .before .before .before .before .before .before .before .pre .1) (m .result) (m .last .1 .0) (m .ensures) .0) (c .before .before .before .before .before .name-count .ensures) (c .lists-tested .ensures)
+
+line-laid-requires : tie.Need-line-laid-requires
+line-laid-requires c κs =
+    let a = c .before .before .before .before .before .before .before .before .before .before .before .before .before .before .before .before .before .args in
+    let p = c .before .before .before .before .before .before .before .before .before .before .before .before .before .before .before .before .before .pre in
+    let m = c .before .before .before .before .before .before .before .names-tested-in in
+    let t = names-told (now (a .names)) (now (a .members)) (now (a .marks)) (now (a .list)) (now (a .w)) (a .c) (p .0) (p .1) (m .result) (m .last .1 .0) (m .ensures) in
+    let good = fair-good (now (a .names)) (now (a .members)) (now (a .marks)) (now (a .list)) (now (a .tag)) (p .0) (sym (told (c .before .before .before .before)) ∙ c .before .before .enum-told .given .1) in (
+      good-given (now (a .names)) (now (a .members)) (now (a .marks)) (now (a .list)) (now (a .tag)) good (now (a .w)) (m .last .1 .0) (a .c) (p .1) (t .1),
+      good-tag (now (a .names)) (now (a .members)) (now (a .marks)) (now (a .list)) (now (a .tag)) good,
+    )
+
+same-length : tie.Need-same-length
+same-length c = search needs
+
+returns : tie.Need-returns
+returns c = rw (sym (told (c .before .before .before)) ∙ c .before .found .given .1)
+
+same-length-2 : tie.Need-same-length-2
+same-length-2 c = search needs
+
+same-length-3 : tie.Need-same-length-3
+same-length-3 c = search needs
+
+returns-2 : tie.Need-returns-2
+returns-2 c = rw (sym (told (c .before .before .before .before .before .before .before .before .before)) ∙ c .before .before .before .before .before .before .before .enum-told .given .1) (c .before .before .before .before .line-laid .ensures)
+
+pub line-over-spec : {M : Type 1} → statement M
+line-over-spec =
+    tie.close
+    (tie.spec
+    name-count-requires
+    names-tested-in-requires
+    lists-tested-requires
+    enum-known-found
+    enum-told
+    line-laid-requires
+    same-length
+    returns
+    same-length-2
+    same-length-3
+    returns-2)

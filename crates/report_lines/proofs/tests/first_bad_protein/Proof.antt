@@ -1,0 +1,71 @@
+-- `first_bad_protein` meets its contract: what is sought from i on is what is sought. Assumes nothing.
+use Prim.Native.Nat.{_≤_, _-_}
+use mathlib.Core.Path.{_≡_, sym, _∙_}
+use native.Mathlib.Omega.{arith}
+use lib.ListN.{length}
+use borrow.Author.Tests.{le-leb, lt-leb}
+use Rattle.records.specs.Search.{seek}
+use Rattle.records.specs.SearchLaws.{seek-start, seek-on, seek-stop, seek-end}
+use Rattle.report_lines.specs.Reporting.{badProtein, firstBadProtein}
+use borrow.Author.Needs.{needs}
+use Rattle.report_lines.proofs.tests.first_bad_protein.Statement.{statement}
+use Rattle.report_lines.proofs.tests.first_bad_protein.Tie as tie
+
+abbrev Inv-loop : tie.InvT-loop
+Inv-loop list proteins i₀ i = (i ≤ length list) × (seek (badProtein list proteins) i (length list - i) ≡ firstBadProtein list proteins)
+
+abbrev μ-loop : tie.MeasureT-loop
+μ-loop list proteins i₀ i = length list - i
+
+loop-holds : tie.Need-loop-holds Inv-loop μ-loop
+unfolding firstBadProtein
+loop-holds c = (omega arith, seek-start (badProtein (c .args .list .now) (c .args .proteins)) (length (c .args .list .now)))
+
+mul-protein : tie.Need-mul-protein Inv-loop μ-loop
+mul-protein c = search needs
+
+shared-slice-read-protein : tie.Need-shared-slice-read-protein Inv-loop μ-loop
+shared-slice-read-protein c = search needs
+
+cast-protein : tie.Need-cast-protein Inv-loop μ-loop
+cast-protein c = omega (arith, c .shared-slice-known .given (c .before .before .loop .i))
+
+returns : tie.Need-returns Inv-loop μ-loop
+returns c =
+    let a = c .before .before .before .before .args in
+    let lp = c .before .before .before .loop in
+    sym (seek-stop (badProtein (a .list .now) (a .proteins)) (lp .i) (length (a .list .now)) (c .before .before .loop-test .taken) (le-leb _ _ (c .if1 .taken))) ∙ lp .inv .1
+
+add-i : tie.Need-add-i Inv-loop μ-loop
+add-i c = search needs
+
+loop-less : tie.Need-loop-less Inv-loop μ-loop
+loop-less c = search needs
+
+loop-again : tie.Need-loop-again Inv-loop μ-loop
+loop-again c =
+    let a = c .before .before .before .before .args in
+    let lp = c .before .before .before .loop in
+    (omega arith, sym (seek-on (badProtein (a .list .now) (a .proteins)) (lp .i) (length (a .list .now)) (c .before .before .loop-test .taken) (lt-leb _ _ (c .if1 .left))) ∙ lp .inv .1)
+
+returns-2 : tie.Need-returns-2 Inv-loop μ-loop
+returns-2 c =
+    let a = c .before .before .args in
+    let lp = c .before .loop in
+    sym (seek-end (badProtein (a .list .now) (a .proteins)) (lp .i) (length (a .list .now)) (c .loop-test .left)) ∙ lp .inv .1
+
+pub first-bad-protein-spec : {M : Type 1} → statement M
+first-bad-protein-spec =
+    tie.close
+    (tie.spec
+    Inv-loop
+    μ-loop
+    loop-holds
+    mul-protein
+    shared-slice-read-protein
+    cast-protein
+    returns
+    add-i
+    loop-less
+    loop-again
+    returns-2)

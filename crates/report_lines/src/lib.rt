@@ -1,0 +1,8 @@
+// The report line of a peptide.
+mod reporting;
+mod tests;
+
+pub use reporting::Report;
+pub use reporting::Reported;
+pub use reporting::report_line;
+pub use reporting::tested;

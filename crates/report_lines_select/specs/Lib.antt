@@ -1,0 +1,11 @@
+-- What a reader has to believe: nothing here; only crates of this repository call these functions. Noting and Gathering say what the
+-- steps leave in the lent slice, Laying what is asked of the whole.
+pub mod Noting
+pub mod NoteLaws
+pub mod Selecting
+pub mod PickLaws
+pub mod TallyLaws
+pub mod PutLaws
+pub mod Laying
+pub mod LayLaws
+pub mod StretchLaws

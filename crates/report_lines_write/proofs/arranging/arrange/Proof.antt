@@ -1,0 +1,68 @@
+-- `arrange` meets its contract. Assumes nothing.
+use mathlib.Core.Logic.{inl, inr}
+use native.Mathlib.Omega.{arith}
+use Rattle.report_lines_write.specs.ReadyLaws.{ready}
+use borrow.Author.Needs.{needs}
+use Rattle.report_lines_write.proofs.arranging.arrange.Statement.{statement}
+use Rattle.report_lines_write.proofs.arranging.arrange.Tie as tie
+
+mul-b : tie.Need-mul-b
+mul-b c = search needs
+
+add-b : tie.Need-add-b
+add-b c = search needs
+
+add-n : tie.Need-add-n
+add-n c = search needs
+
+mul-n : tie.Need-mul-n
+mul-n c = search needs
+
+slice-read-n : tie.Need-slice-read-n
+slice-read-n c = search needs
+
+cast-n : tie.Need-cast-n
+cast-n c = search needs
+
+mark-lasts-requires : tie.Need-mark-lasts-requires
+mark-lasts-requires c κs = search needs
+
+copy-requires : tie.Need-copy-requires
+copy-requires c κs =
+    let l = c .before .before .before .before .before .before .before .pre in
+    let m = c .before .before .before .mark-lasts .ensures in
+    (omega (arith, m .as-long, l .long, l .within), omega (arith, m .as-long, l .long, l .within), inl (omega (arith, l .within)))
+
+copy-requires-2 : tie.Need-copy-requires-2
+copy-requires-2 c κs =
+    let l = c .before .before .before .before .before .before .before .before .before .before .before .pre in
+    let m = c .before .before .before .before .before .before .before .mark-lasts .ensures in
+    let p = c .before .before .before .copy .ensures in (
+      omega (arith, p .as-long, m .as-long, m .counted, l .long, l .fit),
+      omega (arith, p .as-long, m .as-long, m .counted, l .long, l .fit),
+      inr (omega (arith, m .counted, l .fit)),
+    )
+
+same-length : tie.Need-same-length
+same-length c = search needs
+
+returns : tie.Need-returns
+returns c =
+    let a = c .before .before .before .before .before .before .before .before .before .before .before .before .before .before .args in
+    ready (a .w .now) (a .c) (a .groups) (c .before .before .before .before .before .before .before .before .before .before .before .before .before .before .pre) (c .before .before .before .before .before .before .before .before .before .before .mark-lasts .last .0) (c .before .before .before .before .before .before .before .before .before .before .mark-lasts .result) (c .before .before .before .before .before .before .before .before .before .before .mark-lasts .ensures) (c .before .before .before .before .before .before .copy .last .0) (c .before .before .before .before .before .before .copy .ensures) (c .before .before .copy2 .last .0) (c .before .before .copy2 .ensures)
+
+pub arrange-spec : {M : Type 1} → statement M
+arrange-spec =
+    tie.close
+    (tie.spec
+    mul-b
+    add-b
+    add-n
+    mul-n
+    slice-read-n
+    cast-n
+    mark-lasts-requires
+    copy-requires
+    copy-requires-2
+    same-length
+    returns)

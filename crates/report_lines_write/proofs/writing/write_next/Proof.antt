@@ -1,0 +1,38 @@
+-- `write_next` meets its contract. Assumes nothing.
+use Rattle.sorting_merge.specs.Text.{joinedText}
+use Rattle.report_lines_write.specs.WriteLaws.{put-semi}
+use borrow.Author.Needs.{needs}
+use Rattle.report_lines_write.proofs.writing.write_next.Statement.{statement}
+use Rattle.report_lines_write.proofs.writing.write_next.Tie as tie
+
+put-byte-requires : tie.Need-put-byte-requires
+put-byte-requires c κs = search needs
+
+add-write-text : tie.Need-add-write-text
+add-write-text c = search needs
+
+add-write-text-2 : tie.Need-add-write-text-2
+add-write-text-2 c = search needs
+
+write-text-requires : tie.Need-write-text-requires
+write-text-requires c κs = search needs
+
+same-length : tie.Need-same-length
+same-length c = search needs
+
+returns : tie.Need-returns
+returns c =
+    let a = c .before .before .before .before .before .before .before .before .before .before .before .args in
+    let t = c .before .before .write-text in
+    put-semi (a .out .now) (a .at) (a .semis) (joinedText (a .names .now) (a .keys .now) (a .x)) (t .last .1 .1 .1 .1 .0) (t .result .at) (t .result .semis) (rw (c .before .before .before .before .before .before .put-byte .ensures) at (t .ensures))
+
+pub write-next-spec : {M : Type 1} → statement M
+write-next-spec =
+    tie.close
+    (tie.spec
+    put-byte-requires
+    add-write-text
+    add-write-text-2
+    write-text-requires
+    same-length
+    returns)

@@ -1,0 +1,35 @@
+-- `test_reverse` meets its contract. Assumes nothing.
+use mathlib.Core.Path.{sym, _∙_}
+use denote.Ref.{now}
+use Rattle.sendumaal_calls.specs.PeptideCalls.{testedLengths, testedTurn}
+use Rattle.records.specs.Tested.{first-refuses, first-passes}
+use borrow.Author.Needs.{needs}
+use Rattle.sendumaal_calls.proofs.peptides.test_reverse.Statement.{statement}
+use Rattle.sendumaal_calls.proofs.peptides.test_reverse.Tie as tie
+
+test-lengths-requires : tie.Need-test-lengths-requires
+test-lengths-requires c κs = search needs
+
+enum-known-why : tie.Need-enum-known-why
+enum-known-why c = search needs
+
+returns : tie.Need-returns
+returns c =
+    let a = c .before .before .before .before .before .before .args in
+    first-refuses (testedLengths (now (a .letters)) (now (a .ids))) (testedTurn (a .p) (a .decoy)) _ (sym (c .before .before .before .test-lengths .ensures) ∙ c .before .why .given .1)
+
+enum-told : tie.Need-enum-told
+enum-told c = search needs
+
+test-turn-requires : tie.Need-test-turn-requires
+test-turn-requires c κs = search needs
+
+returns-2 : tie.Need-returns-2
+returns-2 c =
+    let a = c .before .before .before .before .before .before .args in
+    c .test-turn .ensures ∙ first-passes (testedLengths (now (a .letters)) (now (a .ids))) (testedTurn (a .p) (a .decoy)) (sym (c .before .before .before .test-lengths .ensures) ∙ c .before .enum-told .given .1)
+
+pub test-reverse-spec : {M : Type 1} → statement M
+test-reverse-spec =
+    tie.close
+    (tie.spec test-lengths-requires enum-known-why returns enum-told test-turn-requires returns-2)

@@ -1,0 +1,46 @@
+-- What a call of `sendumaal_digest` leaves: as in Calls, *place first, then *count, then the buffer.
+use Prim.Native.Nat.{ℕ}
+use mathlib.Core.Bool.{Bool, cond, _&&_}
+use mathlib.Core.List.{List, [], _∷_}
+use lib.Dec.{leb, ltb, eqb}
+use Rattle.enzyme_cuts.specs.declared.kinds.Kind.{Kind}
+use Rattle.enzyme_cuts.specs.declared.kinds.Kind.the-variants.{None, End, Set}
+use Rattle.enzyme_cuts.specs.declared.kinds.Side.{Side}
+use Rattle.enzyme_cuts.specs.declared.kinds.Side.the-variants.{C, N}
+use Rattle.enzyme_cuts.specs.declared.kinds.Enzyme.{Enzyme}
+use Rattle.enzyme.specs.declared.settings.Settings.{Settings}
+use Rattle.enzyme.specs.Digestion.{tested, digestOutcome}
+use Rattle.records.specs.declared.refusal.Refusal.the-variants.{Size, Field}
+use Rattle.records.specs.declared.refusal.Tested.{Tested}
+use Rattle.records.specs.Outcome.{Outcome}
+use Rattle.sendumaal_calls.specs.Calls.{setOf, refused, withLent, countedCall}
+
+-- 0 none, 1 end, 2 set; 0 C side, 1 N side; 0 or 1 for a flag
+abbrev pub isEnzyme : ℕ → ℕ → ℕ → Bool
+isEnzyme kind side semi = leb kind 2 && leb side 1 && leb semi 1
+
+abbrev pub kindNumbered : ℕ → ℕ → Kind
+kindNumbered kind cleave = cond (eqb kind 1) End (cond (eqb kind 2) (Set (setOf cleave)) None)
+
+abbrev pub sideNumbered : ℕ → Side
+sideNumbered side = cond (eqb side 1) N C
+
+abbrev pub enzymeNumbered : ℕ → ℕ → ℕ → ℕ → ℕ → Enzyme
+enzymeNumbered kind cleave skip side semi = record { kind = kindNumbered kind cleave; skip = setOf skip; side = sideNumbered side; semi = eqb semi 1 }
+
+abbrev pub settingsOf : ℕ → ℕ → ℕ → Settings
+settingsOf missed minimum maximum = record { missed = missed; minimum = minimum; maximum = maximum }
+
+-- a kind, side or flag that is none is a field out of range, after what the tests find
+abbrev pub fieldCall : Tested → Outcome ℕ
+fieldCall Tested.Passed = refused (Field 0) []
+fieldCall (Tested.Refused r) = refused r []
+
+-- 1 comes first, and missed cleavages above 16 are 1
+abbrev pub digestCall : List ℕ → ℕ → ℕ → ℕ → ℕ → ℕ → ℕ → ℕ → ℕ → ℕ → ℕ → List ℕ → ℕ → Outcome ℕ
+digestCall letters alphabet kind cleave skip side semi missed minimum maximum protein out count =
+    let cutter = enzymeNumbered kind cleave skip side semi in
+    let settings = settingsOf missed minimum maximum in
+    cond (ltb 16 missed) (refused Size ((count ∷ []) ∷ out ∷ []))
+    (cond (isEnzyme kind side semi) (countedCall (digestOutcome letters (setOf alphabet) cutter settings protein out) count)
+    (withLent (fieldCall (tested letters (setOf alphabet) cutter settings)) ((count ∷ []) ∷ out ∷ [])))

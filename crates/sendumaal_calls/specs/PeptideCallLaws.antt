@@ -1,0 +1,100 @@
+-- From the answers on peptides to what the calls leave. Assumes nothing.
+use Prim.Native.Nat.{ℕ, suc, _+_, _≤_, _<_}
+use mathlib.Core.Path.{_≡_, refl, ap, _∙_, subst}
+use mathlib.Core.Bool.{Bool, true, false, cond}
+use mathlib.Core.List.{List, [], _∷_, _++_, append-nil}
+use native.Mathlib.Omega.{arith}
+use native.Mathlib.Numerals.{add-one}
+use native.Mathlib.Nat.{zero-add}
+use lib.ListN.{length, getD, set, take, drop}
+use lib.Seq.{paste-suc, drop-length}
+use lib.Dec.{leb, ltb, eqb}
+use lib.Ieee.{Float}
+use borrow.Author.Tests.{eq-eqb, ne-eqb, eqb-true, ltb-false}
+use Rattle.records.specs.Tests.{neither}
+use Rattle.peptide.specs.declared.making.Peptide.{Peptide}
+use Rattle.records.specs.Tested.{andThen, passed-both}
+use Rattle.peptide.specs.Peptides.{wrongSize, testedPeptide, reversed, madeOr}
+use Rattle.peptide.specs.Forms.{tooLarge, formsOutcome}
+use Rattle.records.specs.declared.refusal.Refusal.{Refusal}
+use Rattle.records.specs.declared.refusal.Refusal.the-variants.{Size, Length, Field}
+use Rattle.records.specs.declared.refusal.Tested.{Tested}
+use Rattle.records.specs.Refusals.{numberOf, placeOf}
+use Rattle.sendumaal_calls.specs.Calls.{accepted, refused, countedCall}
+use Rattle.sendumaal_calls.specs.PeptideCalls.{weight, peptideOf, formsCall, testedLengths, testedTurn, testedReverse, otherFlag, reverseOf}
+
+pub weight-said : (r : Refusal) (n p : ℕ) (m : Float) → n ≡ numberOf r → p ≡ placeOf r → weight n p m ≡ weight (numberOf r) (placeOf r) m
+weight-said r n p m e f = rw (e, f)
+
+-- what the tests found is told of what was made
+pub tested-of : (t : Tested) (new other : Peptide) → madeOr t new other .tested ≡ t
+tested-of Tested.Passed new other = refl
+tested-of (Tested.Refused why) new other = refl
+
+module _ (letters ids : List ℕ) (nterm cterm position : ℕ) (variable fixed : List ℕ) (limit cap : ℕ) (out : List ℕ) (count : ℕ) where
+  pub forms-size : tooLarge (length letters) variable fixed limit ≡ true → refused Size ((count ∷ []) ∷ out ∷ []) ≡ formsCall letters ids nterm cterm position variable fixed limit cap out count
+  forms-size h = rw h
+
+  module _ (few : tooLarge (length letters) variable fixed limit ≡ false) where
+    pub forms-length : (length ids ≡ length letters → ⊥) → refused Length ((count ∷ []) ∷ out ∷ []) ≡ formsCall letters ids nterm cterm position variable fixed limit cap out count
+    forms-length h = rw (few, ne-eqb (length ids) (length letters) h)
+
+    pub forms-listed : length ids ≡ length letters
+        → countedCall (formsOutcome (peptideOf letters ids nterm cterm position false) variable fixed limit cap out) count ≡ formsCall letters ids nterm cterm position variable fixed limit cap out count
+    forms-listed h = rw (few, eq-eqb (length ids) (length letters) h)
+
+-- ---- reversal
+
+module _ (letters ids : List ℕ) where
+  pub lengths-size : wrongSize (length letters) ≡ true → Tested.Refused Size ≡ testedLengths letters ids
+  lengths-size e = rw e
+
+  module _ (fits : wrongSize (length letters) ≡ false) where
+    pub lengths-same : length ids ≡ length letters → Tested.Passed ≡ testedLengths letters ids
+    lengths-same e = rw (fits, eq-eqb (length ids) (length letters) e)
+
+    pub lengths-other : (length ids ≡ length letters → ⊥) → Tested.Refused Length ≡ testedLengths letters ids
+    lengths-other n = rw (fits, ne-eqb (length ids) (length letters) n)
+
+module _ (letters ids : List ℕ) (p : Peptide) (decoy : ℕ) (passed : testedReverse letters ids p decoy ≡ Tested.Passed) where
+  pub reverse-peptide : testedPeptide p ≡ Tested.Passed
+  reverse-peptide = passed-both (testedPeptide p) (cond (leb decoy 1) Tested.Passed (Tested.Refused (Field 0))) (passed-both (testedLengths letters ids) (testedTurn p decoy) passed .1) .0
+
+  pub reverse-fits : (length letters ≤ 64) × (length ids ≤ 64)
+  reverse-fits = go (wrongSize (length letters)) refl (eqb (length ids) (length letters)) refl (passed-both (testedLengths letters ids) (testedTurn p decoy) passed .0)
+    where
+      go : (b : Bool) → wrongSize (length letters) ≡ b → (x : Bool) → eqb (length ids) (length letters) ≡ x
+          → cond b (Tested.Refused Size) (cond x Tested.Passed (Tested.Refused Length)) ≡ Tested.Passed → (length letters ≤ 64) × (length ids ≤ 64)
+      go true e x f q = absurd (let z : _≡_ {A = ℕ} 0 1 = cc in omega arith)
+      go false e false f q = absurd (let z : _≡_ {A = ℕ} 0 1 = cc in omega arith)
+      go false e true f q =
+          let h : length letters ≤ 64 = ltb-false 64 (length letters) (neither (eqb (length letters) 0) (ltb 64 (length letters)) e .1) in
+          (h, omega (arith, eqb-true (length ids) (length letters) f))
+
+-- what is told of a reversal
+module _ (p q : Peptide) (letters ids : List ℕ) (decoy : ℕ) (is : p ≡ q) where
+  pub reverse-no : (r : Refusal) → testedReverse letters ids p decoy ≡ Tested.Refused r → refused r ((decoy ∷ []) ∷ letters ∷ ids ∷ []) ≡ reverseOf q letters ids decoy
+  reverse-no r e = subst (λ (x : Peptide). refused r ((decoy ∷ []) ∷ letters ∷ ids ∷ []) ≡ reverseOf x letters ids decoy) is (rw e)
+
+  pub reverse-yes : testedReverse letters ids p decoy ≡ Tested.Passed → (f : ℕ) (a b : List ℕ) → f ≡ otherFlag decoy → a ≡ take (length letters) (reversed p .letters) → b ≡ take (length ids) (reversed p .ids)
+      → accepted ((f ∷ []) ∷ a ∷ b ∷ []) ≡ reverseOf q letters ids decoy
+  reverse-yes e f a b x y z = subst (λ (w : Peptide). accepted ((f ∷ []) ∷ a ∷ b ∷ []) ≡ reverseOf w letters ids decoy) is (rw (x, y, z, e))
+
+-- ---- an array's first bytes over a slice
+
+abbrev pub overlaid : List ℕ → List ℕ → ℕ → List ℕ
+overlaid old from i = take i from ++ drop i old
+
+pub overlaid-more : (old from now : List ℕ) (i : ℕ) → i < length old → i < length from → now ≡ overlaid old from i → set now i (getD from i 0) ≡ overlaid old from (i + 1)
+overlaid-more old from now i h k e =
+    let z : 0 + i ≡ i = zero-add i in
+    let y : 0 + suc i ≡ suc i = zero-add (suc i) in
+    let s : set (take i from ++ drop (0 + i) old) (0 + i) (getD from i 0) ≡ take (suc i) from ++ drop (0 + suc i) old = paste-suc old 0 from i 0 (omega arith) k in
+    ap (λ (l : List ℕ). set l i (getD from i 0)) e ∙ (rw (z, y) at s) ∙ rw (add-one i)
+
+pub overlaid-all : (old from : List ℕ) (i : ℕ) → i ≡ length old → overlaid old from i ≡ take (length old) from
+overlaid-all old from i e = rw (e, drop-length old) (append-nil (take (length old) from))
+
+-- what passed its tests was made
+pub made-passed : (t : Tested) (new other : Peptide) → t ≡ Tested.Passed → madeOr t new other .peptide ≡ new
+made-passed t new other e = rw e

@@ -1,0 +1,88 @@
+-- What the calls on peptides leave: as in Calls, *place first, then the other results and the lent slices.
+use Prim.Native.Nat.{ℕ, min}
+use mathlib.Core.Bool.{Bool, false, cond}
+use mathlib.Core.List.{List, [], _∷_}
+use lib.ListN.{length, take}
+use lib.Dec.{leb, eqb}
+use lib.Ieee.{Float}
+use Rattle.peptide.specs.declared.making.Peptide.{Peptide}
+use Rattle.peptide.specs.declared.mass.Weighed.{Weighed}
+use Rattle.records.specs.Tested.{andThen}
+use Rattle.peptide_slots.specs.Windows.{window}
+use Rattle.peptide.specs.Peptides.{wrongSize, testedPeptide, reversed}
+use Rattle.peptide.specs.Forms.{tooLarge, formsOutcome}
+use Rattle.records.specs.declared.refusal.Refusal.the-variants.{Size, Length, Field}
+use Rattle.records.specs.declared.refusal.Tested.{Tested}
+use Rattle.records.specs.Refusals.{numberOf, placeOf}
+use Rattle.records.specs.Outcome.{Outcome}
+use Rattle.sendumaal_calls.specs.Calls.{accepted, refused, countedCall}
+
+-- ---- the base mass: the number, *place and *mass
+
+pub record Weight : Type 0 where
+  pub number : ℕ
+  pub place : ℕ
+  pub mass : Float
+
+abbrev pub weight : ℕ → ℕ → Float → Weight
+weight n p m = record { number = n; place = p; mass = m }
+
+abbrev pub weightCall : Weighed → Float → Weight
+weightCall (Weighed.Mass m) old = weight 0 0 m
+weightCall (Weighed.Refused r) old = weight (numberOf r) (placeOf r) old
+
+-- ---- a peptide of lent letters and ids
+
+abbrev pub peptideOf : List ℕ → List ℕ → ℕ → ℕ → ℕ → Bool → Peptide
+peptideOf letters ids nterm cterm position decoy =
+    record {
+      letters = window 64 0 letters;
+      ids = window 64 0 ids;
+      nterm = nterm;
+      cterm = cterm;
+      len = min (length letters) 255;
+      position = position;
+      decoy = decoy;
+    }
+
+-- 1: its size; 8: an id for each letter
+abbrev pub testedLengths : List ℕ → List ℕ → Tested
+testedLengths letters ids =
+    cond (wrongSize (length letters)) (Tested.Refused Size)
+    (cond (eqb (length ids) (length letters)) Tested.Passed (Tested.Refused Length))
+
+-- ---- forms
+
+-- every size is 1 before any length is 8
+abbrev pub formsCall : List ℕ → List ℕ → ℕ → ℕ → ℕ → List ℕ → List ℕ → ℕ → ℕ → List ℕ → ℕ → Outcome ℕ
+formsCall letters ids nterm cterm position variable fixed limit cap out count =
+    cond (tooLarge (length letters) variable fixed limit) (refused Size ((count ∷ []) ∷ out ∷ []))
+    (cond (eqb (length ids) (length letters))
+    (countedCall (formsOutcome (peptideOf letters ids nterm cterm position false) variable fixed limit cap out) count)
+    (refused Length ((count ∷ []) ∷ out ∷ [])))
+
+-- ---- reversal
+
+-- of the peptide itself, then 9: the flag is neither 0 nor 1
+abbrev pub testedTurn : Peptide → ℕ → Tested
+testedTurn p decoy = andThen (testedPeptide p) (cond (leb decoy 1) Tested.Passed (Tested.Refused (Field 0)))
+
+abbrev pub testedReverse : List ℕ → List ℕ → Peptide → ℕ → Tested
+testedReverse letters ids p decoy = andThen (testedLengths letters ids) (testedTurn p decoy)
+
+abbrev pub otherFlag : ℕ → ℕ
+otherFlag decoy = cond (eqb decoy 1) 0 1
+
+abbrev pub reversedOr : Tested → List (List ℕ) → List (List ℕ) → Outcome ℕ
+reversedOr Tested.Passed new old = accepted new
+reversedOr (Tested.Refused r) new old = refused r old
+
+-- the first letters and ids of the reversed peptide stand where they came from
+abbrev pub turned : Peptide → List ℕ → List ℕ → ℕ → List (List ℕ)
+turned p letters ids decoy = (otherFlag decoy ∷ []) ∷ take (length letters) (reversed p .letters) ∷ take (length ids) (reversed p .ids) ∷ []
+
+abbrev pub reverseOf : Peptide → List ℕ → List ℕ → ℕ → Outcome ℕ
+reverseOf p letters ids decoy = reversedOr (testedReverse letters ids p decoy) (turned p letters ids decoy) ((decoy ∷ []) ∷ letters ∷ ids ∷ [])
+
+abbrev pub reverseCall : List ℕ → List ℕ → ℕ → Outcome ℕ
+reverseCall letters ids decoy = reverseOf (peptideOf letters ids 0 0 0 (eqb decoy 1)) letters ids decoy

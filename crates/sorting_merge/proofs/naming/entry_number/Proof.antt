@@ -1,0 +1,49 @@
+-- `entry_number` meets its contract. Assumes nothing.
+use mathlib.Core.Path.{_≡_, sym, _∙_}
+use mathlib.Core.Bool.{cond}
+use Prim.Native.Nat.{_/_, _%_}
+use lib.Dec.{eqb}
+use lib.ListN.{length}
+use Rattle.sorting_merge.specs.Text.{tagIn}
+use Rattle.sorting_merge.specs.EntryLaws.{entry-tag, entry-name}
+use borrow.Author.Needs.{needs}
+use native.Mathlib.Omega.{arith}
+use Rattle.sorting_merge.proofs.naming.entry_number.Statement.{statement}
+use Rattle.sorting_merge.proofs.naming.entry_number.Tie as tie
+
+tag-part-requires : tie.Need-tag-part-requires
+tag-part-requires c κs = search needs
+
+number-at-requires : tie.Need-number-at-requires
+number-at-requires c κs = search needs
+
+name-byte-requires : tie.Need-name-byte-requires
+name-byte-requires c κs = search needs
+
+cast-result : tie.Need-cast-result
+cast-result c = search needs
+
+returns : tie.Need-returns
+returns c =
+    let s = c .before .before .before .before .before in
+    let p = c .before .before .tag-part .result in
+    let e : p ≡ cond (eqb (s .args .x / 2 % 2) 1) (length (tagIn (s .args .keys .now))) 0 = rw (sym (s .pre .0)) (c .before .before .tag-part .ensures) in
+    c .number-at .ensures ∙ sym (entry-tag (s .args .letters .now) (s .args .keys .now) (s .args .x) p e (s .args .i) (c .before .if1 .taken))
+
+returns-2 : tie.Need-returns-2
+returns-2 c =
+    let s = c .before .before .before .before .before in
+    let p = c .before .before .tag-part .result in
+    let e : p ≡ cond (eqb (s .args .x / 2 % 2) 1) (length (tagIn (s .args .keys .now))) 0 = rw (sym (s .pre .0)) (c .before .before .tag-part .ensures) in
+    c .name-byte .ensures ∙ sym (entry-name (s .args .letters .now) (s .args .keys .now) (s .args .x) p e (s .args .i) (omega arith) (s .pre .1))
+
+pub entry-number-spec : {M : Type 1} → statement M
+entry-number-spec =
+    tie.close
+    (tie.spec
+    tag-part-requires
+    number-at-requires
+    name-byte-requires
+    cast-result
+    returns
+    returns-2)
