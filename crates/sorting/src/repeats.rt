@@ -1,5 +1,5 @@
 // The first name that stands twice.
-use crate::sorting;
+use crate::slices;
 use sorting_merge::By;
 ghost use mathlib.Core.Path.{_≡_};
 ghost use mathlib.Core.List.{[], _∷_, _++_};

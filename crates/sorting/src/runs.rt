@@ -1,5 +1,5 @@
 // The runs of equal texts in a sorted stretch.
-use crate::sorting;
+use crate::slices;
 use sorting_merge::By;
 ghost use mathlib.Core.Path.{_≡_};
 ghost use mathlib.Core.Bool.{cond, _&&_};
