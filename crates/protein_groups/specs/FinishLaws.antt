@@ -13,6 +13,8 @@ use Rattle.sorting.specs.Counting.{upFrom}
 use Rattle.sorting.specs.CountingLaws.{length-up}
 use Rattle.protein_groups_copy.specs.Placing.{Laid, standingEdge, standingEdges, standingMember, standingMembers}
 use Rattle.protein_groups_spec.specs.ProteinGroups.{pairsIn, grouping}
+use Rattle.protein_groups_spec.specs.PackedGroups.{packedGrouping}
+use Rattle.protein_groups_spec.specs.PackingLaws.{packed-grouping}
 use Rattle.protein_groups.specs.declared.grouping.Grouped.{Grouped}
 use Rattle.protein_groups.specs.declared.grouping.Grouped.the-variants.{Made, Refused as No}
 use Rattle.protein_groups.specs.ProteinGrouping.{listed}
@@ -35,14 +37,15 @@ module _ (pairs flags : List ℕ) (peptides proteins words a : ℕ) (w : List �
   zeros-before fits i h = l .rest i (inl h) ∙ getD-replicate {A = ℕ} words i 0 0 (omega arith)
 
 -- what was grouped in w is written, and the work memory cleared
-pub left-made : (pairs flags : List ℕ) (peptides : ℕ) (work edges members w w′ edges′ members′ : List ℕ) (a b e k m groups metas : ℕ) (r : Grouped)
-    → standingEdges w a b e ≡ grouping flags peptides (pairsIn pairs) .edges → standingMembers w k (2 * k) m ≡ grouping flags peptides (pairsIn pairs) .members
-    → groups ≡ grouping flags peptides (pairsIn pairs) .groups → metas ≡ grouping flags peptides (pairsIn pairs) .metas
+pub left-made : (pairs flags : List ℕ) (peptides proteins words : ℕ) → Ready pairs flags peptides proteins words
+    → (work edges members w w′ edges′ members′ : List ℕ) (a b e k m groups metas : ℕ) (r : Grouped)
+    → standingEdges w a b e ≡ packedGrouping flags peptides (pairsIn pairs) .edges → standingMembers w k (2 * k) m ≡ packedGrouping flags peptides (pairsIn pairs) .members
+    → groups ≡ packedGrouping flags peptides (pairsIn pairs) .groups → metas ≡ packedGrouping flags peptides (pairsIn pairs) .metas
     → Handed w edges members a b e k m w′ edges′ members′ → length w ≡ length work
     → r ≡ cond (leb e (min (length edges / 8) 1048576) && leb m (min (length members / 12) 131072)) (Made (record { groups = groups; metas = metas; edges = e; members = m })) (No Room)
     → outcome r (w′ ∷ edges′ ∷ members′ ∷ []) ≡ listed (grouping flags peptides (pairsIn pairs)) work edges members
-left-made pairs flags peptides work edges members w w′ edges′ members′ a b e k m groups metas r p q s t h same answer =
+left-made pairs flags peptides proteins words ready work edges members w w′ edges′ members′ a b e k m groups metas r p q s t h same answer =
     let x : length (standingEdges w a b e) ≡ e = length-map (upFrom 0 e) (standingEdge w a b) ∙ length-up 0 e in
     let y : length (standingMembers w k (2 * k) m) ≡ m = length-map (upFrom 0 m) (standingMember w k (2 * k)) ∙ length-up 0 m in
-    rw (h .wrote-edges, h .wrote-members, h .cleared, same)
-    (left-listed (grouping flags peptides (pairsIn pairs)) work edges members (standingEdges w a b e) (standingMembers w k (2 * k) m) groups metas e m r p q s t x y answer)
+    rw (packed-grouping flags peptides (pairsIn pairs) (ready .bits), h .wrote-edges, h .wrote-members, h .cleared, same)
+    (left-listed (packedGrouping flags peptides (pairsIn pairs)) work edges members (standingEdges w a b e) (standingMembers w k (2 * k) m) groups metas e m r p q s t x y answer)

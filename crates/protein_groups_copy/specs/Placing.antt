@@ -7,7 +7,8 @@ use Rattle.sorting.specs.Counting.{upFrom}
 use Rattle.cover_spec.specs.Cover.{Edge}
 use Rattle.cover_edges.specs.Chains.{Out}
 use Rattle.protein_groups_members.specs.Members.{Member}
-use Rattle.protein_groups_spec.specs.ProteinGroups.{pairAt, seen}
+use Rattle.protein_groups_spec.specs.ProteinGroups.{pairAt}
+use Rattle.protein_groups_spec.specs.PackedGroups.{seen}
 
 -- of n pairs the first i: peptides from a on, and what they show behind the n
 pub record Laid (pairs flags : List ℕ) (a n i : ℕ) (old new : List ℕ) : Type 0 where

@@ -9,7 +9,8 @@ use lib.Seq.{slice, slice-empty, slice-cons, getD-set-same, getD-set-other}
 use Rattle.records.specs.Tests.{same?, below?}
 use Rattle.sorting.specs.Counting.{upFrom}
 use Rattle.cover_edges.specs.Chains.{Out}
-use Rattle.protein_groups_spec.specs.ProteinGroups.{Pair, pairAt, seen}
+use Rattle.protein_groups_spec.specs.ProteinGroups.{Pair, pairAt}
+use Rattle.protein_groups_spec.specs.PackedGroups.{seen}
 use Rattle.protein_groups_copy.specs.Placing.{Laid}
 
 module _ (pairs flags : List ℕ) (a n : ℕ) where

@@ -5,7 +5,8 @@ ghost use mathlib.Core.Path.{_≡_};
 ghost use Prim.Native.Nat.{ℕ, _+_, _*_, _≤_, _<_};
 ghost use lib.ListN.{length, set};
 ghost use Rattle.records.specs.Le.{numberAt};
-ghost use Rattle.protein_groups_spec.specs.ProteinGroups.{pairAt, seen};
+ghost use Rattle.protein_groups_spec.specs.ProteinGroups.{pairAt};
+ghost use Rattle.protein_groups_spec.specs.PackedGroups.{seen};
 ghost use Rattle.protein_groups_copy.specs.Placing.{Laid};
 
 // What a pair shows: a protein seen from a target and a decoy peptide is two.

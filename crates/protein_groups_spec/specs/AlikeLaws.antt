@@ -18,7 +18,8 @@ use Rattle.sorting.specs.DistinctLaws.{same-refl}
 use Rattle.cover_spec.specs.Cover.{bit}
 use Rattle.protein_groups_members.specs.Numbers.{times}
 use Rattle.protein_groups_members.specs.Members.{Member}
-use Rattle.protein_groups_spec.specs.ProteinGroups.{Pair, pairsOf, shown, seen, proteins, metas, evidence, up, place, listFrom, member}
+use Rattle.protein_groups_spec.specs.ProteinGroups.{Pair, pairsOf, up, listFrom}
+use Rattle.protein_groups_spec.specs.PackedGroups.{shown, seen, proteins, metas, evidence, place, member}
 use Rattle.protein_groups_spec.specs.Standing.{many, showing, Fit}
 use Rattle.protein_groups_spec.specs.TheoremLaws.{is-in, map-in, keep-in, in-getD, some-in, many-times, many-sorted, times-in, times-append, replicate-in, list-in, getD-place, place-found, in-found, in-shown, own-meta, meta-has, taking-has, pair-is, iff}
 

@@ -9,7 +9,7 @@ use lib.Dec.{leb, eqb}
 use lib.ListN.{length}
 use Rattle.sorting_merge.specs.SortLaws.{clash}
 use Rattle.protein_groups_members.specs.Numbers.{has, times}
-use Rattle.protein_groups_spec.specs.ProteinGroups.{place, firsts}
+use Rattle.protein_groups_spec.specs.PackedGroups.{place, firsts}
 use Rattle.protein_groups_spec.specs.CountingLaws.{below, below-suc, below-zero, below-all, Under, chosen, counted}
 
 -- what is found stays, at its place

@@ -9,7 +9,7 @@ use Rattle.cover_spec.specs.Cover.{Edge}
 use Rattle.protein_groups_spec.specs.CountingLaws.{metasIn, groupsIn}
 use Rattle.protein_groups_spec.specs.LeaderLaws.{walkBy}
 
-map-shift : {A : Type 0} (f : ℕ → A) (a n : ℕ) → map f (upFrom (suc a) n) ≡ map (λ i. f (suc i)) (upFrom a n)
+pub map-shift : {A : Type 0} (f : ℕ → A) (a n : ℕ) → map f (upFrom (suc a) n) ≡ map (λ i. f (suc i)) (upFrom a n)
 map-shift f a zero = refl
 map-shift {A} f a (suc n) = ap (λ (l : List A). f (suc a) ∷ l) (map-shift f (suc a) n)
 

@@ -25,7 +25,8 @@ use Rattle.cover_spec.specs.CountLaws.{All}
 use Rattle.protein_groups_members.specs.Numbers.{has, times}
 use Rattle.protein_groups_members.specs.Members.{Member}
 use Rattle.protein_groups_members.specs.MemberLaws.{Ranged}
-use Rattle.protein_groups_spec.specs.ProteinGroups.{Pair, pairsOf, shown, seen, paired, taking, proteins, metas, evidence, up, place, firsts, listFrom, lists, edgesFrom, member, membersFrom, groupsOf, grouping}
+use Rattle.protein_groups_spec.specs.ProteinGroups.{Pair, pairsOf, paired, taking, up, listFrom, edgesFrom}
+use Rattle.protein_groups_spec.specs.PackedGroups.{shown, seen, proteins, metas, evidence, place, firsts, lists, member, membersFrom, groupsOf, packedGrouping}
 use Rattle.protein_groups_spec.specs.Standing.{many, standing, seenAs, Fit}
 use Rattle.protein_groups_spec.specs.NumberingLaws.{place-lt}
 use Rattle.protein_groups_spec.specs.LeaderLaws.{walkBy, tagged, gathered-walk, distinct-in, le}
@@ -576,8 +577,8 @@ module _ (flags : List ℕ) (peptides : ℕ) (qs : List Pair) where
       (r, u, v, (k, b, y, ap (λ (o : ℕ). getD ps o 0) w ∙ getD-place (seen flags r) ps f))
 
   -- a protein and flag stand in as many members as their number in what is found
-  pub standing-times : (p f : ℕ) → f ≤ 1 → standing p f (grouping flags peptides qs .members) ≡ times (p * 2 + f) ps
-  unfolding grouping groupsOf
+  pub standing-times : (p f : ℕ) → f ≤ 1 → standing p f (packedGrouping flags peptides qs .members) ≡ times (p * 2 + f) ps
+  unfolding packedGrouping groupsOf
   standing-times p f h =
       ap (standing p f) (members-tagged ps ms 0 ls ∙ gathered-walk list (member ps) (upFrom 0 (length ps)))
       ∙ many-walk (member ps) (λ (m : Member). eqb (m .protein) p && eqb (m .decoy) f) hit (λ g k. halves (getD ps k 0) p f h) (runNumbers (le list) order) order (length-numbers (le list) order)

@@ -18,14 +18,15 @@ use Rattle.cover_spec.specs.ChoiceLaws.{Under}
 use Rattle.cover_spec.specs.CoverLaws.{neighbour}
 use Rattle.protein_groups_members.specs.Members.{Member, memberBytes, firstBadMember}
 use Rattle.protein_groups_members.specs.MemberLaws.{members-accepted}
-use Rattle.protein_groups_spec.specs.ProteinGroups.{Pair, Groups, proteins, metas, lists, edgesFrom, member, membersFrom, groupsOf, grouping}
+use Rattle.protein_groups_spec.specs.ProteinGroups.{Pair, Groups, edgesFrom}
+use Rattle.protein_groups_spec.specs.PackedGroups.{proteins, metas, lists, member, membersFrom, groupsOf, packedGrouping}
 use Rattle.protein_groups_spec.specs.Standing.{standing, membersOf, seenAs, showing, Fit, Reached}
 use Rattle.protein_groups_spec.specs.TheoremLaws.{many-in, seen-is, edge-counts, edge-find, all-edges, all-members, list-in, edge-in, in-edge, member-in, in-member, is-in, some-meta, some-protein, list-group, group-list, standing-times, times-seen, protein-seen, own-meta, reached}
 use Rattle.protein_groups_spec.specs.AlikeLaws.{distinct-at, list-showing, showing-list}
 
 module _ (flags : List ℕ) (peptides : ℕ) (qs : List Pair) where
   abbrev G : Groups
-  G = grouping flags peptides qs
+  G = packedGrouping flags peptides qs
 
   -- its proteins, its meta-peptides and the lists of its groups
   abbrev ps : List ℕ
@@ -44,7 +45,7 @@ module _ (flags : List ℕ) (peptides : ℕ) (qs : List Pair) where
   -- Two members stand in one group exactly where each peptide shows them equally often.
   pub alike-together : Fit flags peptides qs → (m n : Member) → In m (G .members) → In n (G .members)
       → (m .group ≡ n .group) ↔ ((p : ℕ) → p < peptides → showing flags qs p m ≡ showing flags qs p n)
-  unfolding grouping groupsOf
+  unfolding packedGrouping groupsOf
   alike-together fit m n i j =
       let (g, a, (k, b, c, d)) = member-in ps ms m 0 ls i in
       let (h, e, (l, o, q, r)) = member-in ps ms n 0 ls j in
@@ -57,7 +58,7 @@ module _ (flags : List ℕ) (peptides : ℕ) (qs : List Pair) where
   -- A member's fields are in range.
   pub members-below : Fit flags peptides qs → (n : ℕ) → ((q : Pair) → In q qs → q .protein < n)
       → (m : Member) → In m (G .members) → (m .group < G .groups) × (m .protein < n) × (m .decoy ≤ 1)
-  unfolding grouping groupsOf
+  unfolding packedGrouping groupsOf
   members-below fit n b m h =
       let (g, c, (k, l, d, e)) = member-in ps ms m 0 ls h in
       let (q, i, z) = protein-seen flags peptides qs fit k l in
@@ -73,7 +74,7 @@ module _ (flags : List ℕ) (peptides : ℕ) (qs : List Pair) where
 
   -- An edge's fields are in range.
   pub edges-below : (e : Edge) → In e (G .edges) → (group e < G .groups) × (meta e < G .metas)
-  unfolding grouping groupsOf
+  unfolding packedGrouping groupsOf
   edges-below e h =
       let (g, l, z, i) = edge-in e 0 ls h in
       let (k, b, y) = group-list flags peptides qs g l in
@@ -86,7 +87,7 @@ module _ (flags : List ℕ) (peptides : ℕ) (qs : List Pair) where
 
   -- A group has a member, and an edge.
   pub no-empty-group : (g : ℕ) → g < G .groups → (0 < membersOf g (G .members)) × (0 < ofGroup g (G .edges))
-  unfolding grouping groupsOf
+  unfolding packedGrouping groupsOf
   no-empty-group g h =
       let (k, l, e) = group-list flags peptides qs g h in
       let (m, i) = some-meta flags peptides qs k l in (
@@ -96,7 +97,7 @@ module _ (flags : List ℕ) (peptides : ℕ) (qs : List Pair) where
 
   -- A meta-peptide has an edge.
   pub no-empty-meta : (m : ℕ) → m < G .metas → 0 < ofMeta m (G .edges)
-  unfolding grouping groupsOf
+  unfolding packedGrouping groupsOf
   no-empty-meta m h =
       let (k, l, i) = some-protein flags peptides qs m h in
       let (g, b, e) = list-group flags peptides qs k l in
@@ -104,7 +105,7 @@ module _ (flags : List ℕ) (peptides : ℕ) (qs : List Pair) where
 
   -- The cover of the edges marks for each peptide that has a pair a group with one of its proteins, seen with its flag.
   pub each-peptide-reached : Fit flags peptides qs → (q : Pair) → In q qs → Reached flags qs G (q .peptide)
-  unfolding grouping groupsOf
+  unfolding packedGrouping groupsOf
   each-peptide-reached fit q i =
       let (m, l, e) = own-meta flags peptides qs q i (fit .below q i) in
       let under : Under (length ls) (edgesFrom 0 ls) = all-map (λ d j. j .0) (edgesFrom 0 ls) edges-ranged in

@@ -16,7 +16,8 @@ use Rattle.sorting.specs.Distinct.{keep, same, distinct}
 use Rattle.sorting.specs.DistinctLaws.{count-distinct}
 use Rattle.protein_groups_members.specs.Members.{Member}
 use Rattle.protein_groups_members.specs.Numbers.{times}
-use Rattle.protein_groups_spec.specs.ProteinGroups.{Pair, pairsOf, proteins, metas, evidence, taking, paired, listFrom, lists, edgesFrom, member, membersFrom, groupsOf}
+use Rattle.protein_groups_spec.specs.ProteinGroups.{Pair, pairsOf, taking, paired, listFrom, edgesFrom}
+use Rattle.protein_groups_spec.specs.PackedGroups.{proteins, metas, evidence, lists, member, membersFrom, groupsOf}
 use Rattle.protein_groups_spec.specs.CountingLaws.{below, below-suc}
 use Rattle.protein_groups_spec.specs.LeaderLaws.{le, spread, walk, tagged, edges-spread, gathered-walk}
 
@@ -35,7 +36,7 @@ keep-alike {A} f g p a (suc n) h = go (p a) (keep-alike f g p (suc a) n (λ k q.
     go true r = rw (h a (omega arith), r)
     go false r = r
 
-same-alike : (f g : ℕ → List ℕ) (l : List ℕ) (a n : ℕ) → ((k : ℕ) → k < a + n → f k ≡ g k)
+pub same-alike : (f g : ℕ → List ℕ) (l : List ℕ) (a n : ℕ) → ((k : ℕ) → k < a + n → f k ≡ g k)
     → keep (λ k. same (f k) l) (upFrom a n) ≡ keep (λ k. same (g k) l) (upFrom a n)
 same-alike f g l a zero h = refl
 same-alike f g l a (suc n) h = rw (h a (omega arith), same-alike f g l (suc a) n (λ k q. h k (omega arith)))

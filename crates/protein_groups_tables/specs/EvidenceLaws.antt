@@ -16,7 +16,8 @@ use Rattle.sorting_merge.specs.Sort.{sorted}
 use Rattle.sorting_merge.specs.PartLaws.{at-slice, slice-same}
 use Rattle.sorting.specs.Each.{sortedTo, eachOutcome}
 use Rattle.sorting.specs.EachLaws.{Stretched, EachSorted, each-sorted}
-use Rattle.protein_groups_spec.specs.ProteinGroups.{place, firsts, up}
+use Rattle.protein_groups_spec.specs.ProteinGroups.{up}
+use Rattle.protein_groups_spec.specs.PackedGroups.{place, firsts}
 use Rattle.protein_groups_spec.specs.CountingLaws.{Under, counted, chosen, below, below-le, below-most, under-of, under-at, under-counted, under-sorted}
 use Rattle.protein_groups_spec.specs.NumberingLaws.{firsts-all, all-chosen, under-places}
 use Rattle.sorting_counting.specs.PlacingLaws.{Counted}

@@ -10,7 +10,8 @@ use Rattle.sorting_merge.specs.PartLaws.{at-slice, slice-same}
 use Rattle.sorting.specs.Counting.{upFrom}
 use Rattle.sorting.specs.Distinct.{keep}
 use Rattle.sorting.specs.Runs.{runNumbers}
-use Rattle.protein_groups_spec.specs.ProteinGroups.{Pair, seen, proteins, metas, evidence, taking, edgesFrom}
+use Rattle.protein_groups_spec.specs.ProteinGroups.{Pair, taking, edgesFrom}
+use Rattle.protein_groups_spec.specs.PackedGroups.{seen, proteins, metas, evidence}
 use Rattle.protein_groups_spec.specs.CountingLaws.{Under, metasIn, groupsIn, below-le, below-most, shown-chosen, all-shown, under-at, under-sorted, under-keep}
 use Rattle.protein_groups_spec.specs.LeaderLaws.{le, spread, spread-under}
 use Rattle.protein_groups_spec.specs.WholeLaws.{peptidesOf, taking-by, metas-spread, metas-count}

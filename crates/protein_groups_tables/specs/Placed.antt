@@ -6,7 +6,8 @@ use lib.ListN.{length, getD}
 use Rattle.sorting.specs.Counting.{upFrom}
 use Rattle.cover_spec.specs.Cover.{Edge}
 use Rattle.protein_groups_members.specs.Members.{Member}
-use Rattle.protein_groups_spec.specs.ProteinGroups.{Pair, grouping}
+use Rattle.protein_groups_spec.specs.ProteinGroups.{Pair}
+use Rattle.protein_groups_spec.specs.PackedGroups.{packedGrouping}
 
 -- the pairs' peptides, and behind them what the pairs show; the edges' meta-peptides, and behind them their groups
 abbrev pub keysAt : ℕ → ℕ → ℕ → ℕ
@@ -34,10 +35,10 @@ pub record Placeable (w : List ℕ) (k m n : ℕ) : Type 0 where
 
 -- the grouping of qs
 pub record Placed (flags : List ℕ) (qs : List Pair) (w : List ℕ) (k m n groups metas edges members : ℕ) : Type 0 where
-  pub edges-are : map (edgeIn w (keysAt k m n) (valuesAt k m n)) (upFrom 0 edges) ≡ grouping flags m qs .edges
-  pub members-are : map (memberIn w k (2 * k)) (upFrom 0 members) ≡ grouping flags m qs .members
-  pub groups-are : groups ≡ grouping flags m qs .groups
-  pub metas-are : metas ≡ grouping flags m qs .metas
+  pub edges-are : map (edgeIn w (keysAt k m n) (valuesAt k m n)) (upFrom 0 edges) ≡ packedGrouping flags m qs .edges
+  pub members-are : map (memberIn w k (2 * k)) (upFrom 0 members) ≡ packedGrouping flags m qs .members
+  pub groups-are : groups ≡ packedGrouping flags m qs .groups
+  pub metas-are : metas ≡ packedGrouping flags m qs .metas
 
 -- what a writer needs
 pub record Within (w : List ℕ) (k n edges members : ℕ) : Type 0 where

@@ -14,7 +14,8 @@ use Rattle.sorting.specs.CountingLaws.{length-up}
 use Rattle.sorting.specs.Runs.{runNumbers}
 use Rattle.sorting.specs.NumberLaws.{length-numbers}
 use Rattle.cover_spec.specs.Cover.{Edge}
-use Rattle.protein_groups_spec.specs.ProteinGroups.{Pair, Groups, seen, proteins, metas, listFrom, member, grouping}
+use Rattle.protein_groups_spec.specs.ProteinGroups.{Pair, Groups, listFrom}
+use Rattle.protein_groups_spec.specs.PackedGroups.{seen, proteins, metas, member, packedGrouping}
 use Rattle.protein_groups_spec.specs.CountingLaws.{Under, metasIn, groupsIn, list-chosen, under-at, under-sorted, under-up}
 use Rattle.protein_groups_spec.specs.LeaderLaws.{le, spread, walk}
 use Rattle.protein_groups_spec.specs.WholeLaws.{peptidesOf, map-alike, whole}
@@ -136,7 +137,7 @@ module _ (w₀ : List ℕ) (k m n o s c l a b : ℕ) (g : Placeable w₀ k m n) 
 
       pub placed : (flags : List ℕ) (qs : List Pair) → slice (keysAt k m n) (keysAt k m n + n) w₀ ≡ peptidesOf qs → slice (valuesAt k m n) (valuesAt k m n + n) w₀ ≡ map (seen flags) qs
           → Placed flags qs w₂ k m n u q e r
-      unfolding grouping
+      unfolding packedGrouping
       placed flags qs ks vs =
           let x = p .shown flags qs (rw keys-at at ks) (rw values-at at vs) in
           let ps = proteins flags m qs in

@@ -11,7 +11,7 @@ use lib.ListN.{length, getD, drop, set, length-append, length-set, drop-of-lengt
 use lib.Seq.{slice, slice-empty, length-slice, drop-cons, getD-set-same, getD-set-other}
 use Rattle.sorting_merge.specs.PartLaws.{at-slice, slice-same, slice-set}
 use Rattle.protein_groups_members.specs.Numbers.{has}
-use Rattle.protein_groups_spec.specs.ProteinGroups.{place, firsts}
+use Rattle.protein_groups_spec.specs.PackedGroups.{place, firsts}
 use Rattle.protein_groups_spec.specs.NumberingLaws.{learnt, has-learnt, place-firsts, Once, at-most, once-new, mark, mark-zero, mark-more, mark-other, mark-same}
 
 -- the f found of m stand from b on, and their table from t on

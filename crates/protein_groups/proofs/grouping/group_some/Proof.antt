@@ -93,7 +93,7 @@ returns c =
     let p = placed (c .before .before .before .before .before .before .before .before .before .before .before .before .before) in
     let g = c .before .before .before .before .before .before .before .before .before .before .before .before .before .group-in in
     let o = c .before .before .before .before .before .before .before .hand-out in
-    left-made (a .pairs .now) (a .flags .now) (a .peptides) (a .work .now) (a .edges .now) (a .members .now) (g .last .0) (o .last .0) (o .last .1 .1 .1 .1 .1 .1 .0) (o .last .1 .1 .1 .1 .1 .1 .1 .0)
+    left-made (a .pairs .now) (a .flags .now) (a .peptides) (a .proteins) (length (a .work .now)) (c .before .before .before .before .before .before .before .before .before .before .before .before .before .before .before .before .before .before .before .before .before .before .before .before .before .pre .0) (a .work .now) (a .edges .now) (a .members .now) (g .last .0) (o .last .0) (o .last .1 .1 .1 .1 .1 .1 .0) (o .last .1 .1 .1 .1 .1 .1 .1 .0)
     (c .before .before .before .before .before .before .before .before .before .before .before .before .before .before .before .before .before .before .before .keys-at .result) (c .before .before .before .before .before .before .before .before .before .before .before .before .before .before .before .before .before .before .before .keys-at .result + length (a .pairs .now) / 8) (g .result .edges) (2 * a .proteins) (g .result .members) (g .result .groups) (g .result .metas) (c .answer .result)
     (rw (c .before .before .before .before .before .before .before .before .before .before .before .before .before .before .before .before .before .before .before .keys-at .ensures) (p .edges-are)) (p .members-are) (p .groups-are) (p .metas-are) (o .ensures) (same (c .before .before .before .before .before .before .before .before .before .before .before .before .before)) (c .answer .ensures)
 

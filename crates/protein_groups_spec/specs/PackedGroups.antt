@@ -1,0 +1,63 @@
+-- How the code says the grouping: a protein seen from a peptide of a flag is one number, twice the protein's and the flag. The public
+-- statement does not cite this; PackingLaws says that it is the grouping of ProteinGroups.
+use Prim.Native.Nat.{ℕ, suc, _+_, _*_, _/_, _%_}
+use mathlib.Core.Bool.{cond}
+use mathlib.Core.List.{List, [], _∷_, _++_, flatten, map}
+use lib.Dec.{eqb}
+use lib.ListN.{length, getD}
+use Rattle.sorting_merge.specs.Sort.{sorted}
+use Rattle.sorting.specs.Counting.{upFrom}
+use Rattle.sorting.specs.Distinct.{keep, same, distinct}
+use Rattle.protein_groups_members.specs.Numbers.{has}
+use Rattle.protein_groups_members.specs.Members.{Member}
+use Rattle.protein_groups_spec.specs.ProteinGroups.{Pair, pairsOf, taking, up, listFrom, edgesFrom, Groups}
+
+-- where k first stands in a list
+abbrev pub place : ℕ → List ℕ → ℕ
+place k [] = 0
+place k (x ∷ xs) = cond (eqb x k) 0 (suc (place k xs))
+
+-- each number once, in the order of first appearance, behind those found before
+abbrev pub firsts : List ℕ → List ℕ → List ℕ
+firsts found [] = found
+firsts found (k ∷ ks) = firsts (cond (has k found) found (found ++ (k ∷ []))) ks
+
+-- a protein's number twice, and one more from a decoy
+abbrev pub seen : List ℕ → Pair → ℕ
+seen flags q = q .protein * 2 + getD flags (q .peptide) 0
+
+abbrev pub shown : List ℕ → List Pair → ℕ → List ℕ
+shown flags qs p = map (seen flags) (pairsOf qs p)
+
+unfoldable pub proteins : List ℕ → ℕ → List Pair → List ℕ
+unfolding flatten
+proteins flags peptides qs = firsts [] (flatten (map (shown flags qs) (upFrom 0 peptides)))
+
+abbrev pub evidence : List ℕ → List ℕ → List Pair → ℕ → List ℕ
+evidence ps flags qs p = sorted up (map (λ (k : ℕ). place k ps) (shown flags qs p))
+
+unfoldable pub metas : List ℕ → List ℕ → ℕ → List Pair → List (List ℕ)
+metas ps flags peptides qs = distinct (map (evidence ps flags qs) (taking peptides qs))
+
+-- the list of meta-peptides of each protein, by its number
+abbrev pub lists : List (List ℕ) → ℕ → List (List ℕ)
+lists ms n = map (listFrom 0 ms) (upFrom 0 n)
+
+-- the member of the protein with number k
+abbrev pub member : List ℕ → ℕ → ℕ → Member
+member ps g k = record { group = g; protein = getD ps k 0 / 2; decoy = getD ps k 0 % 2 }
+
+abbrev pub membersFrom : List ℕ → List (List ℕ) → ℕ → List (List ℕ) → List Member
+membersFrom ps ms g [] = []
+membersFrom ps ms g (l ∷ ls) =
+    map (member ps g) (keep (λ (k : ℕ). same (listFrom 0 ms k) l) (upFrom 0 (length ps))) ++ membersFrom ps ms (suc g) ls
+
+unfoldable pub groupsOf : List ℕ → List (List ℕ) → Groups
+groupsOf ps ms =
+    let ls = distinct (lists ms (length ps)) in
+    record { edges = edgesFrom 0 ls; members = membersFrom ps ms 0 ls; groups = length ls; metas = length ms }
+
+unfoldable pub packedGrouping : List ℕ → ℕ → List Pair → Groups
+packedGrouping flags peptides qs =
+    let ps = proteins flags peptides qs in
+    groupsOf ps (metas ps flags peptides qs)
