@@ -20,8 +20,8 @@ use Rattle.protein_groups_members.specs.Numbers.{times}
 use Rattle.protein_groups_members.specs.Members.{Member}
 use Rattle.protein_groups_spec.specs.ProteinGroups.{Pair, pairsOf, up, listFrom}
 use Rattle.protein_groups_spec.specs.PackedGroups.{shown, seen, proteins, metas, evidence, place, member}
-use Rattle.protein_groups_spec.specs.Standing.{many, showing, Fit}
-use Rattle.protein_groups_spec.specs.TheoremLaws.{is-in, map-in, keep-in, in-getD, some-in, many-times, many-sorted, times-in, times-append, replicate-in, list-in, getD-place, place-found, in-found, in-shown, own-meta, meta-has, taking-has, pair-is, iff}
+use Rattle.protein_groups_spec.specs.Standing.{many, showing}
+use Rattle.protein_groups_spec.specs.TheoremLaws.{Fit, is-in, map-in, keep-in, in-getD, some-in, many-times, many-sorted, times-in, times-append, replicate-in, list-in, getD-place, place-found, in-found, in-shown, own-meta, meta-has, taking-has, pair-is, iff}
 
 -- ---- distinct lists rise, so each stands at one place
 

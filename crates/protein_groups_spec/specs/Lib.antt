@@ -5,7 +5,8 @@ pub mod Standing
 pub mod Cases
 pub mod PackedGroups
 pub mod PackingLaws
-pub mod Theorems
+pub mod GroupingLaws
+pub mod SizeLaws
 pub mod TheoremLaws
 pub mod AlikeLaws
 pub mod CountingLaws

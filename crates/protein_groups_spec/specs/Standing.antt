@@ -1,10 +1,10 @@
 -- The words of the theorems on the grouping.
-use Prim.Native.Nat.{ℕ, _+_, _≤_, _<_}
+use Prim.Native.Nat.{ℕ, _+_}
 use mathlib.Core.Path.{_≡_}
 use mathlib.Core.Bool.{Bool, true, _&&_}
 use mathlib.Core.List.{List, [], _∷_}
 use lib.Dec.{ltb, eqb}
-use lib.ListN.{length, getD}
+use lib.ListN.{getD}
 use Rattle.sorting_merge.specs.SortLaws.{In}
 use Rattle.cover_spec.specs.Cover.{bit, cover}
 use Rattle.protein_groups_members.specs.Members.{Member}
@@ -30,11 +30,6 @@ seenAs flags qs p f = ltb 0 (many (λ (q : Pair). eqb (q .protein) p && eqb (get
 -- how often the pairs of peptide p name a member's protein, seen with its flag
 abbrev pub showing : List ℕ → List Pair → ℕ → Member → ℕ
 showing flags qs p m = many (λ (q : Pair). eqb (q .peptide) p && (eqb (q .protein) (m .protein) && eqb (getD flags (q .peptide) 0) (m .decoy))) qs
-
--- what is asked of the lists: flags are 0 or 1, and a pair's peptide is below the number of peptides
-pub record Fit (flags : List ℕ) (peptides : ℕ) (qs : List Pair) : Type 0 where
-  pub flag : (i : ℕ) → i < length flags → getD flags i 0 ≤ 1
-  pub below : (q : Pair) → In q qs → q .peptide < peptides
 
 -- a member of a marked group with one of peptide p's proteins and its flag
 pub record Reached (flags : List ℕ) (qs : List Pair) (G : Groups) (p : ℕ) : Type 0 where

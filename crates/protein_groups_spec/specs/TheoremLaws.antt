@@ -27,9 +27,14 @@ use Rattle.protein_groups_members.specs.Members.{Member}
 use Rattle.protein_groups_members.specs.MemberLaws.{Ranged}
 use Rattle.protein_groups_spec.specs.ProteinGroups.{Pair, pairsOf, paired, taking, up, listFrom, edgesFrom}
 use Rattle.protein_groups_spec.specs.PackedGroups.{shown, seen, proteins, metas, evidence, place, firsts, lists, member, membersFrom, groupsOf, packedGrouping}
-use Rattle.protein_groups_spec.specs.Standing.{many, standing, seenAs, Fit}
+use Rattle.protein_groups_spec.specs.Standing.{many, standing, seenAs}
 use Rattle.protein_groups_spec.specs.NumberingLaws.{place-lt}
 use Rattle.protein_groups_spec.specs.LeaderLaws.{walkBy, tagged, gathered-walk, distinct-in, le}
+
+-- what is asked of the lists: flags are 0 or 1, and a pair's peptide is below the number of peptides
+pub record Fit (flags : List ℕ) (peptides : ℕ) (qs : List Pair) : Type 0 where
+  pub flag : (i : ℕ) → i < length flags → getD flags i 0 ≤ 1
+  pub below : (q : Pair) → In q qs → q .peptide < peptides
 
 -- ---- what stands in a list
 
@@ -132,6 +137,9 @@ module _ {A : Type 0} (p : A → Bool) where
       go : (t : Bool) → p y ≡ t → 0 < bit t + many p xs → (0 < many p xs → (x : A) × In x xs × (p x ≡ true)) → (x : A) × In x (y ∷ xs) × (p x ≡ true)
       go true e h r = (y, inl refl, e)
       go false e h r = let (x, i, q) = r (omega arith) in (x, inr i, q)
+
+  pub many-none : (xs : List A) → ((x : A) → In x xs → p x ≡ true → ⊥) → many p xs ≡ 0
+  many-none xs h = ⊎-elim (λ (k : 0 < many p xs). let (x, i, e) = in-many xs k in absurd (h x i e)) (λ (k : many p xs ≤ 0). omega arith) (below? 0 (many p xs))
 
   many-insert : (le : A → A → Bool) (x : A) (s : List A) → many p (insert le x s) ≡ bit (p x) + many p s
   many-insert le x [] = refl
@@ -282,7 +290,7 @@ halves x p f h = go (eqb (x / 2) p) (eqb (x % 2) f) refl refl
     go true false a b = sym (ne-eqb x (p * 2 + f) (λ z. eqb-false (x % 2) f b (omega arith)))
     go false u a b = sym (ne-eqb x (p * 2 + f) (λ z. eqb-false (x / 2) p a (omega arith)))
 
-flag-le : (flags : List ℕ) → ((i : ℕ) → i < length flags → getD flags i 0 ≤ 1) → (i : ℕ) → getD flags i 0 ≤ 1
+pub flag-le : (flags : List ℕ) → ((i : ℕ) → i < length flags → getD flags i 0 ≤ 1) → (i : ℕ) → getD flags i 0 ≤ 1
 flag-le flags h i =
     ⊎-elim (λ (l : i < length flags). h i l) (λ (l : length flags ≤ i). let e : getD flags i 0 ≡ 0 = List·getD-eq-default flags 0 l in omega arith) (below? i (length flags))
 
@@ -489,14 +497,17 @@ module _ (flags : List ℕ) (peptides : ℕ) (qs : List Pair) where
   pub in-found : (x : ℕ) → In x all → In x ps
   in-found x h = let e : times x ps ≡ 1 = found-times x ∙ rw (in-has x all h) in times-in x ps (omega arith)
 
-  pub place-found : (k : ℕ) → k < length ps → place (getD ps k 0) ps ≡ k
-  place-found k h = place-at ps k h (rw (found-times (getD ps k 0)) (go (has (getD ps k 0) all)))
+  pub found-once : (x : ℕ) → times x ps ≤ 1
+  found-once x = rw (found-times x) (go (has x all))
     where
       go : (t : Bool) → bit t ≤ 1
       go true = omega arith
       go false = omega arith
 
-  member-seen : (k : ℕ) → k < length ps → (q : Pair) × In q qs × (getD ps k 0 ≡ seen flags q)
+  pub place-found : (k : ℕ) → k < length ps → place (getD ps k 0) ps ≡ k
+  place-found k h = place-at ps k h (found-once (getD ps k 0))
+
+  pub member-seen : (k : ℕ) → k < length ps → (q : Pair) × In q qs × (getD ps k 0 ≡ seen flags q)
   member-seen k h = let (q, i, e, l) = shown-in flags qs (getD ps k 0) 0 peptides (found-in (getD ps k 0) (in-getD 0 ps k h)) in (q, i, e)
 
   -- a pair's protein stands in the evidence of its peptide

@@ -52,7 +52,7 @@ abbrev pub peptidesOf : List Pair → List ℕ
 peptidesOf qs = map (λ (q : Pair). q .peptide) qs
 
 -- as many keys p as pairs of p
-times-pairs : (qs : List Pair) (p : ℕ) → times p (peptidesOf qs) ≡ length (pairsOf qs p)
+pub times-pairs : (qs : List Pair) (p : ℕ) → times p (peptidesOf qs) ≡ length (pairsOf qs p)
 times-pairs [] p = refl
 times-pairs (q ∷ qs) p = go (eqb (q .peptide) p) (times-pairs qs p)
   where

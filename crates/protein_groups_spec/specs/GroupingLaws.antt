@@ -1,27 +1,27 @@
--- What follows from the rules of the grouping. Assumes nothing.
+-- What follows from the rules of the grouping, of packed numbers; Theorems of protein_groups says it of a call that passes its tests.
+-- Assumes nothing.
 use mathlib.Core.Path.{_≡_, refl, sym, ap, _∙_}
 use mathlib.Core.Bool.{Bool, _&&_}
-use mathlib.Core.Logic.{_↔_}
-use mathlib.Core.List.{List, [], flatten, map}
+use mathlib.Core.Logic.{_↔_, ⊎-elim}
+use mathlib.Core.List.{List, []}
 use Prim.Native.Nat.{ℕ, _+_, _/_, _%_, _≤_, _<_}
 use native.Mathlib.Nat.{zero-add}
 use native.Mathlib.Omega.{arith}
 use borrow.Author.Tests.{ltb-true, eqb-true, eq-eqb}
-use lib.Dec.{eqb}
+use lib.Dec.{ltb, eqb}
 use lib.ListN.{length, getD}
-use Rattle.records.specs.Tests.{both}
+use Rattle.records.specs.Tests.{below?, both}
 use Rattle.sorting_merge.specs.SortLaws.{In}
 use Rattle.sorting.specs.Distinct.{distinct}
 use Rattle.cover_spec.specs.Cover.{Edge, group, meta, bit, count, ofGroup, ofMeta, cover}
 use Rattle.cover_spec.specs.CountLaws.{All, all-map}
 use Rattle.cover_spec.specs.ChoiceLaws.{Under}
 use Rattle.cover_spec.specs.CoverLaws.{neighbour}
-use Rattle.protein_groups_members.specs.Members.{Member, memberBytes, firstBadMember}
-use Rattle.protein_groups_members.specs.MemberLaws.{members-accepted}
+use Rattle.protein_groups_members.specs.Members.{Member}
 use Rattle.protein_groups_spec.specs.ProteinGroups.{Pair, Groups, edgesFrom}
 use Rattle.protein_groups_spec.specs.PackedGroups.{proteins, metas, lists, member, membersFrom, groupsOf, packedGrouping}
-use Rattle.protein_groups_spec.specs.Standing.{standing, membersOf, seenAs, showing, Fit, Reached}
-use Rattle.protein_groups_spec.specs.TheoremLaws.{many-in, seen-is, edge-counts, edge-find, all-edges, all-members, list-in, edge-in, in-edge, member-in, in-member, is-in, some-meta, some-protein, list-group, group-list, standing-times, times-seen, protein-seen, own-meta, reached}
+use Rattle.protein_groups_spec.specs.Standing.{standing, membersOf, seenAs, showing, Reached}
+use Rattle.protein_groups_spec.specs.TheoremLaws.{Fit, many-in, many-none, flag-le, seen-is, edge-counts, edge-find, all-edges, list-in, edge-in, in-edge, member-in, in-member, is-in, some-meta, some-protein, list-group, group-list, standing-times, times-seen, protein-seen, own-meta, reached}
 use Rattle.protein_groups_spec.specs.AlikeLaws.{distinct-at, list-showing, showing-list}
 
 module _ (flags : List ℕ) (peptides : ℕ) (qs : List Pair) where
@@ -38,9 +38,24 @@ module _ (flags : List ℕ) (peptides : ℕ) (qs : List Pair) where
   abbrev ls : List (List ℕ)
   ls = distinct (lists (metas (proteins flags peptides qs) flags peptides qs) (length (proteins flags peptides qs)))
 
+  flag-low : (m : Member) → In m (G .members) → m .decoy ≤ 1
+  unfolding packedGrouping groupsOf
+  flag-low m h =
+      let (g, c, (k, l, d, e)) = member-in ps ms m 0 ls h in
+      let x : m .decoy ≡ getD ps k 0 % 2 = ap (λ (n : Member). n .decoy) e in
+      omega arith
+
   -- A protein seen from peptides of a flag stands in exactly one group, in one record; one that is not so seen stands in none.
-  pub one-group : Fit flags peptides qs → (p f : ℕ) → f ≤ 1 → standing p f (G .members) ≡ bit (seenAs flags qs p f)
-  one-group fit p f h = standing-times flags peptides qs p f h ∙ times-seen flags peptides qs fit p f h
+  pub one-group : Fit flags peptides qs → (p f : ℕ) → standing p f (G .members) ≡ bit (seenAs flags qs p f)
+  one-group fit p f =
+      ⊎-elim (λ (h : f < 2). standing-times flags peptides qs p f (omega arith) ∙ times-seen flags peptides qs fit p f (omega arith))
+      (λ (h : 2 ≤ f).
+      many-none (λ (m : Member). eqb (m .protein) p && eqb (m .decoy) f) (G .members)
+      (λ m i e. omega (arith, flag-low m i, eqb-true (m .decoy) f (both (eqb (m .protein) p) (eqb (m .decoy) f) e .1)))
+      ∙ sym (ap (λ (n : ℕ). bit (ltb 0 n))
+      (many-none (λ (q : Pair). eqb (q .protein) p && eqb (getD flags (q .peptide) 0) f) qs
+      (λ q i e. omega (arith, flag-le flags (fit .flag) (q .peptide), eqb-true (getD flags (q .peptide) 0) f (both (eqb (q .protein) p) (eqb (getD flags (q .peptide) 0) f) e .1))))))
+      (below? f 2)
 
   -- Two members stand in one group exactly where each peptide shows them equally often.
   pub alike-together : Fit flags peptides qs → (m n : Member) → In m (G .members) → In n (G .members)
@@ -64,13 +79,7 @@ module _ (flags : List ℕ) (peptides : ℕ) (qs : List Pair) where
       let (q, i, z) = protein-seen flags peptides qs fit k l in
       let y : m .protein ≡ getD ps k 0 / 2 = ap (λ (n : Member). n .protein) e in
       let w : m .group ≡ 0 + g = ap (λ (n : Member). n .group) e in
-      let x : m .decoy ≡ getD ps k 0 % 2 = ap (λ (n : Member). n .decoy) e in
-      (omega arith, omega (arith, b q i), omega arith)
-
-  -- So none of the member records is bad.
-  pub members-good : Fit flags peptides qs → (n : ℕ) → ((q : Pair) → In q qs → q .protein < n) → n ≤ 4294967296 → G .groups ≤ 4294967296
-      → firstBadMember (flatten (map memberBytes (G .members))) (G .groups) n ≡ length (G .members)
-  members-good fit n b l k = members-accepted (G .groups) n k l (G .members) (all-members (G .groups) n (G .members) (members-below fit n b))
+      (omega arith, omega (arith, b q i), flag-low m h)
 
   -- An edge's fields are in range.
   pub edges-below : (e : Edge) → In e (G .edges) → (group e < G .groups) × (meta e < G .metas)
