@@ -10,12 +10,12 @@ use Rattle.records.specs.Outcome.{Outcome}
 use Rattle.records.specs.Refusals.{numberOf, placeOf}
 use Rattle.records.specs.Room.{written}
 use Rattle.records.specs.Search.{seek}
-use Rattle.cover_edges.specs.Edges.{edgeBytes, firstBadEdge, firstBadMark}
+use Rattle.cover_edges.specs.Edges.{edgeBytes}
 use Rattle.protein_groups_members.specs.Members.{memberBytes}
 use Rattle.protein_groups_spec.specs.ProteinGroups.{proteins, metas, groupsOf, grouping}
 use Rattle.protein_groups.specs.declared.grouping.Grouped.{Grouped}
 use Rattle.protein_groups.specs.declared.grouping.Grouped.the-variants.{Made, Refused}
-use Rattle.protein_groups.specs.ProteinGrouping.{groupOutcome}
+use Rattle.protein_groups.specs.ProteinGrouping.{firstBadPair, firstBadFlag, groupOutcome}
 
 -- groups, meta-peptides, edges, members; refusal 0 is none
 abbrev pub made : ℕ → ℕ → ℕ → ℕ → List ℕ
@@ -91,5 +91,5 @@ table =
     ∷ []
 
 pub cases : Hold table
-unfolding seek flatten numberAt written edgeBytes firstBadEdge firstBadMark memberBytes proteins metas groupsOf grouping pair member call pairs kept p10 flags4 two table
+unfolding seek flatten numberAt written edgeBytes memberBytes firstBadPair firstBadFlag proteins metas groupsOf grouping pair member call pairs kept p10 flags4 two table
 cases = refl

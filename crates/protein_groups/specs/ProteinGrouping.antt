@@ -3,17 +3,18 @@ use Prim.Native.Nat.{ℕ, _+_, _*_, _/_, _%_}
 use mathlib.Core.Path.{_≡_}
 use mathlib.Core.Bool.{Bool, cond, not, _&&_, _||_}
 use mathlib.Core.List.{List, [], _∷_, map}
-use lib.ListN.{length, replicate}
-use lib.Dec.{ltb, eqb}
-use Rattle.records.specs.declared.refusal.Refusal.the-variants.{Size, Length, Field, Work, Room}
+use lib.ListN.{length, getD, replicate}
+use lib.Dec.{leb, ltb, eqb}
+use Rattle.records.specs.declared.refusal.Refusal.the-variants.{Size, Length, Work, Room}
 use Rattle.records.specs.declared.refusal.Tested.{Tested}
-use Rattle.records.specs.declared.refusal.Tested.the-variants.{Passed, Refused}
+use Rattle.records.specs.declared.refusal.Tested.the-variants.{Refused}
 use Rattle.records.specs.Outcome.{Outcome, outcome, unlessRefused, only}
 use Rattle.records.specs.Room.{fits, fitted}
-use Rattle.records.specs.Tested.{andThen}
-use Rattle.cover_edges.specs.Edges.{edgeBytes, firstBadEdge, firstBadMark}
+use Rattle.records.specs.Search.{seek}
+use Rattle.records.specs.Tested.{andThen, fieldTested}
+use Rattle.cover_edges.specs.Edges.{edgeBytes}
 use Rattle.protein_groups_members.specs.Members.{memberBytes}
-use Rattle.protein_groups_spec.specs.ProteinGroups.{Groups, pairsIn, grouping}
+use Rattle.protein_groups_spec.specs.ProteinGroups.{Pair, pairAt, pairsIn, Groups, grouping}
 use Rattle.protein_groups.specs.declared.grouping.Sizes.{Sizes}
 use Rattle.protein_groups.specs.declared.grouping.Grouped.{Grouped}
 use Rattle.protein_groups.specs.declared.grouping.Grouped.the-variants.{Made, Refused as No}
@@ -30,14 +31,26 @@ uneven pairs flags peptides = not (eqb (length pairs % 8) 0 && eqb (length flags
 abbrev pub needed : List ℕ → ℕ → ℕ → ℕ
 needed pairs peptides proteins = 8 * proteins + 4 * peptides + 6 * (length pairs / 8)
 
--- 9 at the first pair with a number that is not below its count; a pair has the shape of an edge
-abbrev pub pairsTested : List ℕ → ℕ → ℕ → Tested
-pairsTested pairs peptides proteins =
-    cond (ltb (firstBadEdge pairs peptides proteins (length pairs / 8)) (length pairs / 8)) (Refused (Field (firstBadEdge pairs peptides proteins (length pairs / 8)))) Passed
+-- a pair whose peptide or protein is not below its count; the first such, or how many pairs there are
+abbrev pub badPair : ℕ → ℕ → Pair → Bool
+badPair peptides proteins q = leb peptides (q .peptide) || leb proteins (q .protein)
 
--- 9 at the first flag that is not 0 or 1, as a mark
+unfoldable pub firstBadPair : List ℕ → ℕ → ℕ → ℕ
+firstBadPair pairs peptides proteins = seek (λ (i : ℕ). badPair peptides proteins (pairAt pairs i)) 0 (length pairs / 8)
+
+-- a flag that is neither 0 nor 1; the first such, or how many flags there are
+abbrev pub badFlag : ℕ → Bool
+badFlag flag = ltb 1 flag
+
+unfoldable pub firstBadFlag : List ℕ → ℕ
+firstBadFlag flags = seek (λ (i : ℕ). badFlag (getD flags i 0)) 0 (length flags)
+
+-- 9 at the first bad pair, at the first bad flag
+abbrev pub pairsTested : List ℕ → ℕ → ℕ → Tested
+pairsTested pairs peptides proteins = fieldTested (firstBadPair pairs peptides proteins) (length pairs / 8)
+
 abbrev pub flagsTested : List ℕ → Tested
-flagsTested flags = cond (ltb (firstBadMark flags) (length flags)) (Refused (Field (firstBadMark flags))) Passed
+flagsTested flags = fieldTested (firstBadFlag flags) (length flags)
 
 abbrev pub tested : List ℕ → List ℕ → ℕ → ℕ → ℕ → Tested
 tested pairs flags peptides proteins words =

@@ -9,12 +9,12 @@ use lib.ListN.{length, getD, replicate, length-map, List·getD-eq-default}
 use lib.Seq.{take-nil}
 use lib.Dec.{ltb, leb}
 use borrow.Author.Tests.{ltb-false, le-leb}
-use Rattle.records.specs.declared.refusal.Refusal.the-variants.{Size, Length, Field, Work, Room}
+use Rattle.records.specs.declared.refusal.Refusal.the-variants.{Size, Length, Work, Room}
 use Rattle.records.specs.declared.refusal.Tested.the-variants.{Passed}
 use Rattle.records.specs.Outcome.{outcome}
 use Rattle.records.specs.Room.{roomOf, fitted}
 use Rattle.records.specs.RoomLaws.{written-none}
-use Rattle.records.specs.Tested.{passed-both, passed-first}
+use Rattle.records.specs.Tested.{passed-both, passed-first, passed-field}
 use Rattle.records.specs.Tests.{below?, neither}
 use Rattle.sorting.specs.Counting.{upFrom}
 use Rattle.sorting.specs.Distinct.{keep}
@@ -25,10 +25,19 @@ use Rattle.protein_groups_members.specs.Members.{Member, memberBytes}
 use Rattle.protein_groups_spec.specs.ProteinGroups.{Groups, shown, paired, proteins, metas, groupsOf, grouping}
 use Rattle.protein_groups.specs.declared.grouping.Grouped.{Grouped}
 use Rattle.protein_groups.specs.declared.grouping.Grouped.the-variants.{Made, Refused as No}
-use Rattle.protein_groups.specs.ProteinGrouping.{tooLarge, uneven, needed, pairsTested, flagsTested, tested, listed}
+use Rattle.protein_groups.specs.ProteinGrouping.{tooLarge, uneven, needed, firstBadPair, firstBadFlag, pairsTested, flagsTested, tested, listed}
 use Rattle.protein_groups.specs.Steps.{Ready}
 
 -- ---- the tests
+
+-- a pair has the shape of an edge, and a flag that of a mark: so the code tests them
+pub pairs-edges : (pairs : List ℕ) (peptides proteins : ℕ) → firstBadEdge pairs peptides proteins (length pairs / 8) ≡ firstBadPair pairs peptides proteins
+unfolding firstBadEdge firstBadPair
+pairs-edges pairs peptides proteins = refl
+
+pub flags-marks : (flags : List ℕ) → firstBadMark flags ≡ firstBadFlag flags
+unfolding firstBadMark firstBadFlag
+flags-marks flags = refl
 
 pub fair : (pairs : List ℕ) (peptides proteins : ℕ) → tooLarge pairs peptides proteins ≡ false → (length pairs / 8 ≤ 1048576) × (peptides ≤ 262144) × (proteins ≤ 65536)
 fair pairs peptides proteins e =
@@ -45,15 +54,15 @@ ready pairs flags peptides proteins words e =
     let c = passed-first (ltb words (needed pairs peptides proteins)) Work _ (b .1) in
     let d = passed-both (pairsTested pairs peptides proteins) (flagsTested flags) (c .1) in
     let f = fair pairs peptides proteins (a .0) in
-    let p = passed-first (ltb (firstBadEdge pairs peptides proteins n) n) (Field (firstBadEdge pairs peptides proteins n)) Passed (d .0) .0 in
-    let q = passed-first (ltb (firstBadMark flags) (length flags)) (Field (firstBadMark flags)) Passed (d .1) .0 in
-    let bits : (i : ℕ) → i < length flags → getD flags i 0 ≤ 1 = all-bits flags (ltb-false (firstBadMark flags) (length flags) q) in
+    let p = ltb-false (firstBadPair pairs peptides proteins) n (passed-field (firstBadPair pairs peptides proteins) n (d .0)) in
+    let q = ltb-false (firstBadFlag flags) (length flags) (passed-field (firstBadFlag flags) (length flags) (d .1)) in
+    let bits : (i : ℕ) → i < length flags → getD flags i 0 ≤ 1 = all-bits flags (rw (flags-marks flags) q) in
     record {
       few = f .0;
       peptides-max = f .1;
       proteins-max = f .2;
       enough = ltb-false words (needed pairs peptides proteins) (c .0);
-      inside = in-range pairs peptides proteins n (ltb-false (firstBadEdge pairs peptides proteins n) n p);
+      inside = in-range pairs peptides proteins n (rw (pairs-edges pairs peptides proteins) p);
       bits = λ i.
           ⊎-elim (λ (h : i < length flags). bits i h)
           (λ (h : length flags ≤ i). let z : getD flags i 0 ≡ 0 = List·getD-eq-default flags 0 h in omega arith) (below? i (length flags));

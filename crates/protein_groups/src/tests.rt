@@ -3,6 +3,7 @@ use cover_edges::first_bad_edge;
 use cover_edges::first_bad_mark;
 use records::Refusal;
 use records::Tested;
+use records::field_tested;
 ghost use mathlib.Core.Path.{_≡_};
 ghost use mathlib.Core.Bool.{false};
 ghost use Rattle.records.specs.Tested.{andThen};
@@ -30,23 +31,34 @@ fn work_needed(pairs: &[u8], peptides: u32, proteins: u32) -> usize
     8 * left + 4 * right + 6 * (pairs.len() / 8)
 }
 
-// The pairs, and then the flags.
-fn contents_tested(pairs: &[u8], flags: &[u8], peptides: u32, proteins: u32) -> Tested
+fn pairs_tested(pairs: &[u8], peptides: u32, proteins: u32) -> Tested
     requires { ⌜ tooLarge (now pairs) peptides proteins ≡ false ⌝ }
-    ensures { λ r. ⌜ r ≡ andThen (pairsTested (now (pairs .entry)) peptides proteins) (flagsTested (now (flags .entry))) ⌝ }
+    ensures { λ r. ⌜ r ≡ pairsTested (now (pairs .entry)) peptides proteins ⌝ }
 {
     let n = pairs.len() / 8;
     let peptide_count = peptides as usize;
     let protein_count = proteins as usize;
     let bad = first_bad_edge(pairs, n, peptide_count, protein_count);
-    if bad < n {
-        return Tested::Refused(Refusal::Field(bad));
-    }
-    let odd = first_bad_mark(flags);
-    if odd < flags.len() {
-        return Tested::Refused(Refusal::Field(odd));
-    }
-    Tested::Passed
+    field_tested(bad, n)
+}
+
+fn flags_tested(flags: &[u8]) -> Tested
+    ensures { λ r. ⌜ r ≡ flagsTested (now (flags .entry)) ⌝ }
+{
+    let bad = first_bad_mark(flags);
+    field_tested(bad, flags.len())
+}
+
+// The pairs, and then the flags.
+fn contents_tested(pairs: &[u8], flags: &[u8], peptides: u32, proteins: u32) -> Tested
+    requires { ⌜ tooLarge (now pairs) peptides proteins ≡ false ⌝ }
+    ensures { λ r. ⌜ r ≡ andThen (pairsTested (now (pairs .entry)) peptides proteins) (flagsTested (now (flags .entry))) ⌝ }
+{
+    let paired = pairs_tested(pairs, peptides, proteins);
+    let Tested::Passed = paired else {
+        return paired;
+    };
+    flags_tested(flags)
 }
 
 // The first refusal that applies before the groups are made.
