@@ -1,6 +1,3 @@
--- What a reader has to believe: Names, Book. The files named Laws say what follows from them; Cases has worked cases.
-pub mod Names
-pub mod NameLaws
-pub mod Book
-pub mod BookLaws
+-- What a reader has to believe: Books, and Names and Book of catalogue_contents. Cases has worked cases.
+pub mod Books
 pub mod Cases

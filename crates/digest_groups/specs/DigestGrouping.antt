@@ -5,16 +5,16 @@ use mathlib.Core.Bool.{Bool, cond, not, _&&_, _||_}
 use mathlib.Core.List.{List, [], _∷_}
 use lib.ListN.{length, getD}
 use lib.Dec.{ltb, leb, eqb}
-use Rattle.records.specs.declared.refusal.Refusal.the-variants.{Size, Length, Field, Work}
+use Rattle.records.specs.declared.refusal.Refusal.the-variants.{Size, Length, Work}
 use Rattle.records.specs.declared.refusal.Tested.{Tested}
 use Rattle.records.specs.declared.refusal.Tested.the-variants.{Passed, Refused}
 use Rattle.records.specs.declared.refusal.Counted.{Counted}
 use Rattle.records.specs.declared.refusal.Counted.the-variants.{Refused as No}
 use Rattle.records.specs.Outcome.{Outcome, outcome, unlessRefused, only}
-use Rattle.records.specs.Tested.{andThen}
+use Rattle.records.specs.Tested.{andThen, fieldTested}
 use Rattle.records.specs.Search.{seek}
-use Rattle.catalogue.specs.Names.{nameCount, tooManyNames, wholeNames, namesTested}
-use Rattle.catalogue.specs.Book.{tooManyLetters, boundsOf, boundsTested, lettersTested}
+use Rattle.catalogue_contents.specs.Names.{nameCount, tooManyNames, wholeNames, namesTested}
+use Rattle.catalogue_contents.specs.Book.{tooManyLetters, boundsOf, boundsTested, lettersTested}
 use Rattle.enzyme_keep.specs.Digests.{goodRecord}
 use Rattle.digest_groups_tables.specs.DigestGroups.{digestAt, digestsIn, end, protein, gathered, grouped}
 
@@ -44,7 +44,7 @@ firstBadDigest bounds proteins ds = seek (badDigest bounds proteins ds) 0 (lengt
 
 -- 9 there
 abbrev pub digestsTested : List ℕ → ℕ → List ℕ → Tested
-digestsTested bounds proteins ds = cond (ltb (firstBadDigest bounds proteins ds) (length ds / 16)) (Refused (Field (firstBadDigest bounds proteins ds))) Passed
+digestsTested bounds proteins ds = fieldTested (firstBadDigest bounds proteins ds) (length ds / 16)
 
 -- the contents, list by list: catalogue (12, 13), boundaries (9), letters (2), digests (9)
 abbrev pub contents : List ℕ → List ℕ → List ℕ → List ℕ → Tested

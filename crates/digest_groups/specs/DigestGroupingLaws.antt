@@ -16,9 +16,9 @@ use Rattle.records.specs.Search.{seek}
 use Rattle.records.specs.SearchLaws.{seek-before}
 use Rattle.records.specs.Tests.{both, neither}
 use Rattle.letters.specs.Letters.{isLetter, noLetter, firstBad}
-use Rattle.catalogue.specs.Names.{nameCount, tooManyNames, wholeNames, namesTested}
-use Rattle.catalogue.specs.Book.{tooManyLetters, boundsOf, boundsTested, lettersTested}
-use Rattle.catalogue.specs.BookLaws.{passed-bounds, bounds-within}
+use Rattle.catalogue_contents.specs.Names.{nameCount, tooManyNames, wholeNames, namesTested}
+use Rattle.catalogue_contents.specs.Book.{tooManyLetters, boundsOf, boundsTested, lettersTested}
+use Rattle.catalogue_contents.specs.BookLaws.{passed-bounds, bounds-within}
 use Rattle.enzyme_keep.specs.Digests.{goodRecord}
 use Rattle.digest_groups_tables.specs.DigestGroups.{digestAt, start, end, position, decoy, protein}
 use Rattle.digest_groups_tables.specs.Tables.{Book, Inside, Good}

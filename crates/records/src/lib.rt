@@ -12,6 +12,7 @@ pub use number::u32_at;
 pub use refusal::Counted;
 pub use refusal::Refusal;
 pub use refusal::Tested;
+pub use refusal::and_then;
 pub use refusal::field_tested;
 pub use room::room_for;
 pub use work::clear;

@@ -1,7 +1,7 @@
 // What a call says no with.
 ghost use mathlib.Core.Path.{_≡_};
 ghost use Rattle.records.specs.Refusals.{numberOf, placeOf};
-ghost use Rattle.records.specs.Tested.{fieldTested};
+ghost use Rattle.records.specs.Tested.{andThen, fieldTested};
 
 // One case for each number of document 01's table, its place where that is not always 0.
 pub enum Refusal {
@@ -87,6 +87,16 @@ pub enum Counted {
 pub enum Tested {
     Passed,
     Refused(Refusal),
+}
+
+// What a test found, or where it passed what the next one found.
+pub fn and_then(first: Tested, next: Tested) -> Tested
+    ensures { λ r. ⌜ r ≡ andThen first next ⌝ }
+{
+    match first {
+        Tested::Passed => next,
+        Tested::Refused(why) => Tested::Refused(why),
+    }
 }
 
 // What the first bad field of so many says: its place, or nothing where it is the count.

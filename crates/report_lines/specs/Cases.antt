@@ -11,7 +11,7 @@ use Rattle.records.specs.Outcome.{Outcome}
 use Rattle.records.specs.Room.{written}
 use Rattle.records.specs.Search.{seek}
 use Rattle.records.specs.Cases.{Case, Hold, refused}
-use Rattle.catalogue.specs.Names.{nameLength, zerosTo, namesTested}
+use Rattle.catalogue_contents.specs.Names.{nameLength, zerosTo, namesTested}
 use Rattle.cover_edges.specs.Edges.{firstBadMark}
 use Rattle.protein_groups_members.specs.Members.{firstBadMember}
 use Rattle.report_lines_spec.specs.Line.{lineText, lineCount}

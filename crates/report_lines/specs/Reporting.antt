@@ -5,14 +5,14 @@ use mathlib.Core.Bool.{Bool, cond, not, _&&_, _||_}
 use mathlib.Core.List.{List, [], _∷_}
 use lib.ListN.{length, getD}
 use lib.Dec.{ltb, leb, eqb}
-use Rattle.records.specs.declared.refusal.Refusal.the-variants.{Size, Length, Field, Room, Name}
+use Rattle.records.specs.declared.refusal.Refusal.the-variants.{Size, Length, Room, Name}
 use Rattle.records.specs.declared.refusal.Tested.{Tested}
 use Rattle.records.specs.declared.refusal.Tested.the-variants.{Passed, Refused}
 use Rattle.records.specs.Outcome.{Outcome, outcome, unlessRefused, only}
 use Rattle.records.specs.Room.{fitted, bytewise}
 use Rattle.records.specs.Search.{seek}
-use Rattle.records.specs.Tested.{andThen}
-use Rattle.catalogue.specs.Names.{visible, nameCount, tooManyNames, wholeNames, namesTested}
+use Rattle.records.specs.Tested.{andThen, fieldTested}
+use Rattle.catalogue_contents.specs.Names.{visible, nameCount, tooManyNames, wholeNames, namesTested}
 use Rattle.cover_edges.specs.Edges.{firstBadMark}
 use Rattle.protein_groups_members.specs.Members.{membersIn, firstBadMember}
 use Rattle.report_lines_spec.specs.Line.{lineText, lineCount}
@@ -29,11 +29,11 @@ uneven names members = not (wholeNames names && eqb (length members % 12) 0)
 
 -- 9 at the first member with a group that has no mark, a protein that has no name, a flag that is none, or no zeros behind it
 abbrev pub membersTested : List ℕ → ℕ → ℕ → Tested
-membersTested members groups proteins = cond (ltb (firstBadMember members groups proteins) (length members / 12)) (Refused (Field (firstBadMember members groups proteins))) Passed
+membersTested members groups proteins = fieldTested (firstBadMember members groups proteins) (length members / 12)
 
 -- 9 at the first mark that is not 0 or 1
 abbrev pub marksTested : List ℕ → Tested
-marksTested marks = cond (ltb (firstBadMark marks) (length marks)) (Refused (Field (firstBadMark marks))) Passed
+marksTested marks = fieldTested (firstBadMark marks) (length marks)
 
 -- 9 at the first protein of the list that has no name
 abbrev pub badProtein : List ℕ → ℕ → ℕ → Bool
@@ -44,7 +44,7 @@ unfolding seek
 firstBadProtein list proteins = seek (badProtein list proteins) 0 (length list)
 
 abbrev pub listTested : List ℕ → ℕ → Tested
-listTested list proteins = cond (ltb (firstBadProtein list proteins) (length list)) (Refused (Field (firstBadProtein list proteins))) Passed
+listTested list proteins = fieldTested (firstBadProtein list proteins) (length list)
 
 -- 12 at 0: "the tag (at most 16 bytes, each 33 to 126, else 12)"
 abbrev pub badTagByte : List ℕ → ℕ → Bool

@@ -11,7 +11,7 @@ ghost use Prim.Native.Nat.{_/_, _≤_};
 ghost use lib.Dec.{leb};
 ghost use lib.ListN.{length};
 ghost use Rattle.records.specs.Outcome.{outcome};
-ghost use Rattle.catalogue.specs.Names.{nameCount};
+ghost use Rattle.catalogue_contents.specs.Names.{nameCount};
 ghost use Rattle.report_lines_select.specs.Laying.{Given};
 ghost use Rattle.report_lines_write.specs.LineLaws.{Tag};
 ghost use Rattle.report_lines.specs.Reporting.{reportedOf, lineLined, lineOutcome, tested};
@@ -81,8 +81,8 @@ fn line_over(
     requires { ⌜ Fair (now names) (now members) (now marks) (now list) × Table (now names) (now members) (now marks) (now w) c ⌝ }
     ensures { λ r. ⌜ outcome r (now (out .exit) ∷ []) ≡ lineTold (now (names .entry)) (now (members .entry)) (now (marks .entry)) (now (list .entry)) decoy (now (tag .entry)) generated (now (out .entry)) ⌝ }
 {
-    let proteins = catalogue::name_count(names);
-    let named = catalogue::names_tested_in(names, w);
+    let proteins = catalogue_contents::name_count(names);
+    let named = catalogue_contents::names_tested_in(names, w);
     let found = lists_tested(named, members, marks, list, tag, proteins);
     match found {
         Tested::Refused(why) => Reported::Refused(why),

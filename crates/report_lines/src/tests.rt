@@ -1,16 +1,18 @@
 // The tests of a report line, in document 01's order.
 use records::Refusal;
 use records::Tested;
+use records::and_then;
+use records::field_tested;
 ghost use mathlib.Core.Path.{_≡_};
 ghost use mathlib.Core.Bool.{not};
 ghost use Rattle.records.specs.Tested.{andThen};
-ghost use Rattle.catalogue.specs.Names.{visible};
+ghost use Rattle.catalogue_contents.specs.Names.{visible};
 ghost use Rattle.report_lines.specs.Reporting.{tooLarge, uneven, membersTested, marksTested, firstBadProtein, listTested, firstBadTagByte, tagTested, listsTested};
 
 pub(crate) fn too_large(names: &[u8], members: &[u8], marks: &[u8], list: &[u32]) -> bool
     ensures { λ r. ⌜ r ≡ tooLarge (now (names .entry)) (now (members .entry)) (now (marks .entry)) (now (list .entry)) ⌝ }
 {
-    catalogue::too_many_names(names)
+    catalogue_contents::too_many_names(names)
         | (131072 < members.len() / 12)
         | (131072 < marks.len())
         | (1048576 < list.len())
@@ -19,27 +21,20 @@ pub(crate) fn too_large(names: &[u8], members: &[u8], marks: &[u8], list: &[u32]
 pub(crate) fn is_uneven(names: &[u8], members: &[u8]) -> bool
     ensures { λ r. ⌜ r ≡ uneven (now (names .entry)) (now (members .entry)) ⌝ }
 {
-    !(catalogue::are_whole_names(names) & (members.len() % 12 == 0))
+    !(catalogue_contents::are_whole_names(names) & (members.len() % 12 == 0))
 }
 
 fn members_tested(members: &[u8], groups: usize, proteins: usize) -> Tested
     ensures { λ r. ⌜ r ≡ membersTested (now (members .entry)) groups proteins ⌝ }
 {
     let bad = protein_groups_members::first_bad_member(members, groups, proteins);
-    if bad < members.len() / 12 {
-        return Tested::Refused(Refusal::Field(bad));
-    }
-    Tested::Passed
+    field_tested(bad, members.len() / 12)
 }
 
 fn marks_tested(marks: &[u8]) -> Tested
     ensures { λ r. ⌜ r ≡ marksTested (now (marks .entry)) ⌝ }
 {
-    let bad = cover_edges::first_bad_mark(marks);
-    if bad < marks.len() {
-        return Tested::Refused(Refusal::Field(bad));
-    }
-    Tested::Passed
+    field_tested(cover_edges::first_bad_mark(marks), marks.len())
 }
 
 // The first protein of the list that has no name, or how many there are.
@@ -60,11 +55,7 @@ fn first_bad_protein(list: &[u32], proteins: usize) -> usize
 fn list_tested(list: &[u32], proteins: usize) -> Tested
     ensures { λ r. ⌜ r ≡ listTested (now (list .entry)) proteins ⌝ }
 {
-    let bad = first_bad_protein(list, proteins);
-    if bad < list.len() {
-        return Tested::Refused(Refusal::Field(bad));
-    }
-    Tested::Passed
+    field_tested(first_bad_protein(list, proteins), list.len())
 }
 
 fn is_hidden(b: u8) -> bool
@@ -95,16 +86,6 @@ fn tag_tested(tag: &[u8]) -> Tested
         return Tested::Refused(Refusal::Name(0));
     }
     Tested::Passed
-}
-
-// What a test found, or where it passed what the next one found.
-fn and_then(first: Tested, next: Tested) -> Tested
-    ensures { λ r. ⌜ r ≡ andThen first next ⌝ }
-{
-    match first {
-        Tested::Passed => next,
-        Tested::Refused(why) => Tested::Refused(why),
-    }
 }
 
 // What was found of the names, and then the other contents list by list: members, marks, list, tag.

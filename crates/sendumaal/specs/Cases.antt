@@ -7,7 +7,7 @@ use lib.ListN.{length, getD, replicate}
 use lib.Dec.{eqb}
 use Rattle.records.specs.Cases.{Case, Hold, joined}
 use Rattle.records.specs.Search.{seek}
-use Rattle.catalogue.specs.Names.{nameLength, zerosTo, namesTested}
+use Rattle.catalogue_contents.specs.Names.{nameLength, zerosTo, namesTested}
 use Rattle.sorting.specs.Distinct.{keep}
 use Rattle.cover_spec.specs.Cover.{count, keep as keepEdges, markForced, coverMarked, stays, pass, passes, greatest, mark, choose, turn, turns, cover, listed, coverList}
 use Rattle.protein_groups_members.specs.Members.{Member}

@@ -1,12 +1,9 @@
-// Letters and their sets.
+// Sets of letters.
 use letters::LetterSet;
-use records::Refusal;
 ghost use mathlib.Core.Path.{_≡_};
-ghost use mathlib.Core.List.{List, [], _∷_};
 ghost use mathlib.Core.Bool.{cond};
 ghost use Rattle.letters.specs.Letters.{has, inserted};
-ghost use Rattle.records.specs.Outcome.{outcome};
-ghost use Rattle.sendumaal_calls.specs.Calls.{setOf, lettersCall};
+ghost use Rattle.sendumaal_calls.specs.Calls.{setOf};
 
 #[no_mangle]
 pub extern "C" fn sendumaal_set_insert(set: u32, letter: u8) -> u32
@@ -23,18 +20,4 @@ pub extern "C" fn sendumaal_set_contains(set: u32, letter: u8) -> u32
 {
     let s = LetterSet { mask: set };
     if s.contains(letter) { 1 } else { 0 }
-}
-
-#[no_mangle]
-pub extern "C" fn sendumaal_letters_test(letters: &[u8], place: &mut usize) -> u32
-    ensures { λ r. ⌜ outcome r ((now (place .exit) ∷ []) ∷ []) ≡ lettersCall (now (letters .entry)) ⌝ }
-{
-    let bad = letters::first_bad(letters);
-    if bad < letters.len() {
-        let why = Refusal::Letter(bad);
-        *place = why.place();
-        return why.number();
-    }
-    *place = 0;
-    0
 }

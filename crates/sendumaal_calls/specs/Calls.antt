@@ -4,10 +4,8 @@
 use Prim.Native.Nat.{ℕ}
 use mathlib.Core.Bool.{Bool, cond, _&&_}
 use mathlib.Core.List.{List, [], _∷_, _++_}
-use lib.ListN.{length}
-use lib.Dec.{leb, ltb}
+use lib.Dec.{leb}
 use Rattle.letters.specs.declared.letter_set.LetterSet.{LetterSet}
-use Rattle.letters.specs.Letters.{firstBad}
 use Rattle.modification.specs.declared.text.Parsed.{Parsed}
 use Rattle.modification.specs.declared.rule.Read.{Read}
 use Rattle.modification.specs.declared.table.Entered.{Entered}
@@ -16,7 +14,7 @@ use Rattle.modification.specs.Specificities.{kindOf, letterOf, specificity}
 use Rattle.modification.specs.Texts.{writeOutcome}
 use Rattle.modification.specs.Rules.{writeRuleOutcome}
 use Rattle.records.specs.declared.refusal.Refusal.{Refusal}
-use Rattle.records.specs.declared.refusal.Refusal.the-variants.{Letter, Field}
+use Rattle.records.specs.declared.refusal.Refusal.the-variants.{Field}
 use Rattle.records.specs.declared.refusal.Tested.{Tested}
 use Rattle.records.specs.declared.refusal.Counted.{Counted}
 use Rattle.records.specs.Refusals.{numberOf, placeOf}
@@ -45,9 +43,6 @@ countCall (Counted.Refused r) count = refused r ((count ∷ []) ∷ [])
 -- with the buffer that they were written to
 abbrev pub countedCall : Outcome Counted → ℕ → Outcome ℕ
 countedCall o count = withLent (countCall (o .answer) count) (o .lent)
-
-abbrev pub lettersCall : List ℕ → Outcome ℕ
-lettersCall letters = cond (ltb (firstBad letters) (length letters)) (refused (Letter (firstBad letters)) []) (accepted [])
 
 abbrev pub testCall : Tested → Outcome ℕ
 testCall Tested.Passed = accepted []

@@ -1,0 +1,29 @@
+-- `repeat_over` meets its contract. Assumes nothing.
+use mathlib.Core.Path.{_∙_}
+use denote.Ref.{now}
+use Rattle.catalogue_contents.specs.NameLaws.{place-found, table-left}
+use borrow.Author.Needs.{needs}
+use Rattle.catalogue_contents.proofs.repeat.repeat_over.Statement.{statement}
+use Rattle.catalogue_contents.proofs.repeat.repeat_over.Tie as tie
+
+first-repeated-requires : tie.Need-first-repeated-requires
+first-repeated-requires c κs = search needs
+
+place-in-requires : tie.Need-place-in-requires
+place-in-requires c κs = search needs
+
+same-length : tie.Need-same-length
+same-length c = search needs
+
+returns : tie.Need-returns
+returns c =
+    let a = c .before .before .before .before .before .before .before .args in
+    let p = c .before .before .before .before .before .before .before .pre in
+    let f = c .before .before .before .first-repeated in (
+      c .place-in .ensures ∙ place-found (now (a .names)) (now (a .tab)) (f .result) _ (p .0) (p .1) (f .ensures),
+      table-left (now (a .names)) (now (a .tab)) (f .result) (f .last .1 .0) (p .0) (p .1) (f .ensures),
+    )
+
+pub repeat-over-spec : {M : Type 1} → statement M
+repeat-over-spec =
+    tie.close (tie.spec first-repeated-requires place-in-requires same-length returns)
