@@ -16,16 +16,18 @@ use Rattle.records.specs.Outcome.{Outcome, outcome}
 use Rattle.records.specs.Search.{seek}
 use Rattle.records.specs.SearchLaws.{seek-to, seek-passes, seek-before}
 use Rattle.records.specs.Tests.{below?, both, neither}
-use Rattle.sorting_merge.specs.Text.{nameOf}
+use Rattle.sorting_merge.specs.Joined.{nameOf}
 use Rattle.sorting_merge.specs.TextLaws.{stands}
 use Rattle.sorting.specs.Distinct.{same}
 use Rattle.sorting.specs.DistinctLaws.{same-refl}
 use Rattle.sorting_merge.specs.SortLaws.{clash}
-use Rattle.sorting.specs.Repeats.{repeats, firstRepeat, repeatedAt, repeatOutcome}
+use Rattle.sorting.specs.Repeats.{repeats, firstRepeat}
+use Rattle.sorting.specs.Repeating.{repeatedAt, repeatOutcome}
 use Rattle.sorting.specs.declared.repeats.Repeated.{Repeated}
 use Rattle.sorting.specs.declared.repeats.Repeated.the-variants.{At, Never, Unfit}
 use Rattle.records.specs.Tested.{passed-first, passed-second}
-use Rattle.catalogue_contents.specs.Names.{hidden, filled, nameLength, zerosTo, isName, nameCount, tooManyNames, wholeNames, badName, wrongName, wrongAt, namesTested, catalogueTested, cleared, namesOutcome}
+use Rattle.catalogue_contents.specs.Names.{hidden, filled, nameLength, zerosTo, isName, nameCount, tooManyNames, wholeNames, badName, wrongName, wrongAt, namesTested, catalogueTested}
+use Rattle.catalogue_contents.specs.NamesIn.{cleared, namesOutcome}
 
 -- what the first bad name and the first that repeats tell of n names: the lower place, at one place 12 before 13
 abbrev pub lowerOf : ℕ → ℕ → ℕ → Tested

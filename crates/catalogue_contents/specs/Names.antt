@@ -1,17 +1,15 @@
 -- Document 01, "Sizes and records": a name is 64 bytes, 1 to 64 bytes from 33 to 126, then zeros. A catalogue is names in a row.
-use Prim.Native.Nat.{ℕ, _+_, _-_, _/_, _%_}
-use mathlib.Core.Path.{_≡_}
+use Prim.Native.Nat.{ℕ, _-_, _/_, _%_}
 use mathlib.Core.Bool.{Bool, cond, not, _&&_, _||_}
-use mathlib.Core.List.{List, [], _∷_, _++_}
-use lib.ListN.{length, getD, drop, replicate}
+use mathlib.Core.List.{List}
+use lib.ListN.{length, getD}
 use lib.Dec.{leb, ltb, eqb}
 use Rattle.records.specs.declared.refusal.Refusal.{Refusal}
 use Rattle.records.specs.declared.refusal.Refusal.the-variants.{Size, Length, Name, Repeat}
 use Rattle.records.specs.declared.refusal.Tested.{Tested}
 use Rattle.records.specs.declared.refusal.Tested.the-variants.{Passed, Refused}
-use Rattle.records.specs.Outcome.{Outcome, outcome, only}
 use Rattle.records.specs.Search.{seek}
-use Rattle.sorting_merge.specs.Text.{nameOf}
+use Rattle.sorting_merge.specs.Joined.{nameOf}
 use Rattle.sorting.specs.Repeats.{repeats}
 
 -- ---- one record
@@ -79,17 +77,3 @@ abbrev pub catalogueTested : List ℕ → Tested
 catalogueTested names =
     cond (tooManyNames names) (Refused Size)
     (cond (wholeNames names) (namesTested names) (Refused Length))
-
--- a table of which two numbers a name were used
-abbrev pub cleared : ℕ → List ℕ → List ℕ
-cleared n tab = replicate (n + n) 0 ++ drop (n + n) tab
-
--- the same tests with a lent table, which is used where there are names to compare and it has two numbers for each
-abbrev pub namesOutcome : List ℕ → List ℕ → Outcome Tested
-namesOutcome names tab =
-    outcome (catalogueTested names)
-    (cond (not (tooManyNames names) && wholeNames names && leb (nameCount names + nameCount names) (length tab)) (cleared (nameCount names) tab) tab ∷ [])
-
--- no second answer and no second contents meet the contract of `names_tested_in`
-pub names-only : (names tab : List ℕ) (r q : Tested) (k l : List (List ℕ)) → outcome r k ≡ namesOutcome names tab → outcome q l ≡ namesOutcome names tab → (r ≡ q) × (k ≡ l)
-names-only names tab r q k l = only r q k l (namesOutcome names tab)

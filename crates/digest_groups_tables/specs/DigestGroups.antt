@@ -14,7 +14,7 @@ use Rattle.records.specs.Room.{fits, fitted, bytewise}
 use Rattle.letters.specs.Reversal.{lettersOf}
 use Rattle.sorting_merge.specs.Sort.{sorted}
 use Rattle.sorting_merge.specs.Lex.{lexLe}
-use Rattle.sorting_merge.specs.Text.{nameOf}
+use Rattle.sorting_merge.specs.Joined.{nameOf}
 use Rattle.sorting.specs.Counting.{upFrom}
 use Rattle.sorting.specs.Distinct.{keep, same, distinct}
 

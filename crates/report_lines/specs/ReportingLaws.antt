@@ -16,7 +16,8 @@ use Rattle.records.specs.Tested.{andThen, passed-both, passed-first}
 use Rattle.records.specs.Search.{seek}
 use Rattle.records.specs.SearchLaws.{seek-before}
 use Rattle.records.specs.Tests.{below?, both, neither}
-use Rattle.catalogue_contents.specs.Names.{visible, nameCount, tooManyNames, wholeNames, badName, wrongName, wrongAt, namesTested, cleared, namesOutcome}
+use Rattle.catalogue_contents.specs.Names.{visible, nameCount, tooManyNames, wholeNames, badName, wrongName, wrongAt, namesTested}
+use Rattle.catalogue_contents.specs.NamesIn.{cleared, namesOutcome}
 use Rattle.catalogue_contents.specs.NameLaws.{names-in, length-cleared, cleared-zeros}
 use Rattle.cover_edges.specs.Edges.{badMark, firstBadMark}
 use Rattle.records.specs.Outcome.{Outcome, outcome, unlessRefused}

@@ -8,7 +8,8 @@ use lib.ListN.{length, getD, drop}
 use lib.Seq.{slice}
 use Rattle.sorting_merge.specs.Sort.{sorted}
 use Rattle.sorting_merge.specs.Lex.{lexLe}
-use Rattle.sorting_merge.specs.Text.{join, entryText}
+use Rattle.sorting_merge.specs.Joined.{join}
+use Rattle.sorting_merge.specs.Text.{entryText}
 use Rattle.sorting.specs.Counting.{upFrom}
 use Rattle.sorting.specs.Distinct.{keep}
 use Rattle.report_lines_spec.specs.Line.{countOf}

@@ -14,7 +14,8 @@ use Rattle.records.specs.Tests.{below?, both, truth?}
 use Rattle.sorting_merge.specs.Sort.{insert, sorted}
 use Rattle.sorting_merge.specs.SortLaws.{length-sorted, sorted-map}
 use Rattle.sorting_merge.specs.Lex.{lexLe}
-use Rattle.sorting_merge.specs.Text.{untilZero, nameOf, entryText, join}
+use Rattle.sorting_merge.specs.Joined.{untilZero, nameOf, join}
+use Rattle.sorting_merge.specs.Text.{entryText}
 use Rattle.sorting_merge.specs.PartLaws.{at-slice}
 use Rattle.sorting_merge.specs.EntryLaws.{Whole, until-padded}
 use Rattle.sorting.specs.Counting.{upFrom}

@@ -12,7 +12,8 @@ use Rattle.sorting_merge.specs.declared.text.By.the-variants.{Joined}
 use Rattle.sorting_merge.specs.Sort.{sorted}
 use Rattle.sorting_merge.specs.SortLaws.{sorted-map, length-sorted}
 use Rattle.sorting_merge.specs.Lex.{lexLe}
-use Rattle.sorting_merge.specs.Text.{joinedText, join, leBy}
+use Rattle.sorting_merge.specs.Joined.{join}
+use Rattle.sorting_merge.specs.Text.{joinedText, leBy}
 use Rattle.sorting_merge.specs.PartLaws.{rest-all}
 use Rattle.sorting.specs.Sorting.{fitting, arranged}
 use Rattle.sorting.specs.SortingLaws.{order-fitting, length-arranged, arranged-sorted, arranged-drop}

@@ -9,7 +9,8 @@ use lib.Dec.{eqb}
 use borrow.Author.Tests.{ltb-true}
 use lib.ListN.{length, getD, take, drop, length-drop, take-append-drop}
 use lib.Seq.{slice, drop-drop, getD-take, getD-drop, ext-getD, length-slice, length-take-le}
-use Rattle.sorting_merge.specs.Text.{untilZero, nameOf, entryText, join, joinedText}
+use Rattle.sorting_merge.specs.Joined.{untilZero, nameOf, join}
+use Rattle.sorting_merge.specs.Text.{entryText, joinedText}
 use Rattle.sorting_merge.specs.PartLaws.{at-drop, at-slice, slice-same}
 use Rattle.sorting.specs.Counting.{upFrom}
 use Rattle.sorting.specs.CountingLaws.{up-in}

@@ -13,7 +13,8 @@ use lib.Seq.{getD-take}
 use Rattle.records.specs.Tests.{below?}
 use Rattle.sorting_merge.specs.Sort.{insert, sorted}
 use Rattle.sorting_merge.specs.Lex.{lexLe}
-use Rattle.sorting_merge.specs.Text.{untilZero, nameOf, tagIn, entryText, joinAfter, join, upToLast, joinedText}
+use Rattle.sorting_merge.specs.Joined.{untilZero, nameOf, joinAfter, join}
+use Rattle.sorting_merge.specs.Text.{tagIn, entryText, upToLast, joinedText}
 use Rattle.sorting_merge.specs.SortLaws.{In}
 use Rattle.sorting_merge.specs.PartLaws.{at-slice}
 use Rattle.sorting_merge.specs.EntryLaws.{entry-short}

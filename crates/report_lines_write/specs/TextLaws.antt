@@ -7,7 +7,8 @@ use native.Mathlib.Numerals.{add-one}
 use borrow.Author.Tests.{eq-eqb, ne-eqb}
 use lib.ListN.{length, take, drop, length-append, take-append-drop}
 use lib.Seq.{take-append-le, drop-at, take-all}
-use Rattle.sorting_merge.specs.Text.{entryText, join, upToLast, joinedText}
+use Rattle.sorting_merge.specs.Joined.{join}
+use Rattle.sorting_merge.specs.Text.{entryText, upToLast, joinedText}
 use Rattle.sorting_merge.specs.EntryLaws.{entry-suc}
 use Rattle.sorting.specs.Counting.{upFrom}
 use Rattle.report_lines_spec.specs.Stretches.{lasted}

@@ -14,7 +14,8 @@ use Rattle.records.specs.Tests.{below?}
 use Rattle.records.specs.Room.{roomOf, written, fitted, bytewise}
 use Rattle.records.specs.RoomLaws.{stored-text}
 use Rattle.records.specs.LeLaws.{sets-append}
-use Rattle.sorting_merge.specs.Text.{joinAfter, join, joinedText}
+use Rattle.sorting_merge.specs.Joined.{joinAfter, join}
+use Rattle.sorting_merge.specs.Text.{joinedText}
 use Rattle.protein_groups_members.specs.Numbers.{times}
 use Rattle.report_lines_spec.specs.Line.{countOf}
 use Rattle.report_lines_write.specs.SizeLaws.{times-length}

@@ -21,14 +21,16 @@ use Rattle.sorting_merge.specs.Sort.{sorted}
 use Rattle.sorting_merge.specs.SortLaws.{Orders, clash}
 use Rattle.sorting_merge.specs.Lex.{lexLe}
 use Rattle.sorting_merge.specs.LexLaws.{lex-antisym, lex-refl, by-list}
-use Rattle.sorting_merge.specs.Text.{leBy, nameOf}
+use Rattle.sorting_merge.specs.Joined.{nameOf}
+use Rattle.sorting_merge.specs.Text.{leBy}
 use Rattle.sorting.specs.Distinct.{same}
 use Rattle.sorting.specs.DistinctLaws.{same-refl, same-eq}
 use Rattle.sorting.specs.Counting.{upFrom}
 use Rattle.sorting.specs.CountingLaws.{in-up, up-in}
 use Rattle.sorting.specs.declared.repeats.Repeated.{Repeated}
 use Rattle.sorting.specs.declared.repeats.Repeated.the-variants.{At, Never, Unfit}
-use Rattle.sorting.specs.Repeats.{repeats, firstRepeat, roomy, repeatOutcome}
+use Rattle.sorting.specs.Repeats.{repeats, firstRepeat}
+use Rattle.sorting.specs.Repeating.{roomy, repeatOutcome}
 use Rattle.sorting_merge.specs.PartLaws.{drop-same, at-drop}
 use Rattle.sorting.specs.RepeatLaws.{After, Second, Later, sound, complete}
 use Rattle.sorting_merge.specs.RangeLaws.{Ranged}

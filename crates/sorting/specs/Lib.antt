@@ -1,5 +1,5 @@
--- What a reader has to believe: Sorting, Runs, Distinct, Counting, Repeats, Each, and what `sorting_merge` says of sorting, words and
--- texts. The files named Laws say what follows from them.
+-- What a reader has to believe: Distinct, Counting, Repeats, and what `sorting_merge` says of sorting, words and names. Sorting, Runs, Each and
+-- Repeating say what the contracts of these parts mean; no entry's contract cites them. The files named Laws say what follows.
 pub mod Sorting
 pub mod SortingLaws
 pub mod Runs
@@ -11,6 +11,7 @@ pub mod DistinctLaws
 pub mod Counting
 pub mod CountingLaws
 pub mod Repeats
+pub mod Repeating
 pub mod RepeatLaws
 pub mod LeastLaws
 pub mod Each

@@ -1,14 +1,9 @@
--- The first of n things that has the text of an earlier one, and what `first_repeated` makes of a lent slice.
-use Prim.Native.Nat.{ℕ, _+_, _/_}
-use mathlib.Core.Bool.{Bool, cond, _&&_}
-use mathlib.Core.List.{List, [], _∷_, _++_}
-use lib.Dec.{leb, ltb}
-use lib.ListN.{length, drop, replicate}
-use Rattle.records.specs.Outcome.{Outcome, outcome}
+-- The first of n things that has the text of an earlier one.
+use Prim.Native.Nat.{ℕ}
+use mathlib.Core.Bool.{Bool}
+use mathlib.Core.List.{List}
+use lib.Dec.{ltb}
 use Rattle.records.specs.Search.{seek}
-use Rattle.sorting.specs.declared.repeats.Repeated.{Repeated}
-use Rattle.sorting.specs.declared.repeats.Repeated.the-variants.{At, Never, Unfit}
-use Rattle.sorting_merge.specs.Text.{nameOf}
 use Rattle.sorting.specs.Distinct.{same}
 
 -- whether one before i has i's text
@@ -18,18 +13,3 @@ repeats text i = ltb (seek (λ j. same (text j) (text i)) 0 i) i
 -- the first that repeats, or n where none does
 abbrev pub firstRepeat : (ℕ → List ℕ) → ℕ → ℕ
 firstRepeat text n = seek (repeats text) 0 n
-
--- n names are counted by u32, and need two numbers each
-abbrev pub roomy : ℕ → List ℕ → Bool
-roomy n w = leb n 4294967295 && leb (n + n) (length w)
-
-abbrev pub repeatedAt : ℕ → ℕ → Repeated
-repeatedAt n r = cond (ltb r n) (At r) Never
-
--- the numbers that were needed are zero
-abbrev pub repeatOutcome : List ℕ → List ℕ → Outcome Repeated
-repeatOutcome names w =
-    let n = length names / 64 in
-    cond (roomy n w)
-    (outcome (repeatedAt n (firstRepeat (nameOf names) n)) ((replicate (n + n) 0 ++ drop (n + n) w) ∷ []))
-    (outcome Unfit (w ∷ []))

@@ -1,4 +1,4 @@
-// One stable sort inside one lent slice of numbers, and what is read off a sorted stretch.
+// One stable sort inside one lent slice of numbers, and what is read off a sorted stretch. Only crates of this repository call these.
 mod repeats;
 mod runs;
 mod slices;

@@ -7,9 +7,11 @@ ghost use Prim.Native.Nat.{_+_, _≤_};
 ghost use lib.ListN.{length, take, drop, replicate};
 ghost use lib.Seq.{slice};
 ghost use Rattle.records.specs.Outcome.{outcome};
-ghost use Rattle.sorting_merge.specs.Text.{leBy, nameOf};
+ghost use Rattle.sorting_merge.specs.Joined.{nameOf};
+ghost use Rattle.sorting_merge.specs.Text.{leBy};
 ghost use Rattle.sorting.specs.Counting.{upFrom};
-ghost use Rattle.sorting.specs.Repeats.{firstRepeat, repeatOutcome};
+ghost use Rattle.sorting.specs.Repeats.{firstRepeat};
+ghost use Rattle.sorting.specs.Repeating.{repeatOutcome};
 ghost use Rattle.sorting.specs.LeastLaws.{lesser, least};
 
 // Where a name first stands again, or that none does, or that the lent slice is too short.

@@ -1,8 +1,10 @@
--- What a reader has to believe: Sort, Lex, Text, Walk. The files named Laws say what follows from them.
+-- What a reader has to believe: Sort, Lex, Joined. Text and Walk say what the contracts of these parts mean; no entry's contract cites
+-- them. The files named Laws say what follows.
 pub mod Sort
 pub mod SortLaws
 pub mod Lex
 pub mod LexLaws
+pub mod Joined
 pub mod Text
 pub mod TextLaws
 pub mod Walk

@@ -5,7 +5,8 @@ ghost use mathlib.Core.Bool.{cond};
 ghost use Prim.Native.Nat.{_/_, _%_, _≤_};
 ghost use lib.Dec.{eqb};
 ghost use lib.ListN.{length, getD};
-ghost use Rattle.sorting_merge.specs.Text.{nameOf, tagIn, entryText};
+ghost use Rattle.sorting_merge.specs.Joined.{nameOf};
+ghost use Rattle.sorting_merge.specs.Text.{tagIn, entryText};
 ghost use Rattle.sorting_merge.specs.Walk.{Stood, Walked};
 
 // A number, and where the walk goes on.

@@ -4,7 +4,8 @@ ghost use Prim.Native.Nat.{_+_, _*_, _/_, _%_, min};
 ghost use lib.Dec.{eqb};
 ghost use lib.ListN.{getD};
 ghost use lib.Seq.{slice};
-ghost use Rattle.sorting_merge.specs.Text.{listOf, nameOf};
+ghost use Rattle.sorting_merge.specs.Joined.{nameOf};
+ghost use Rattle.sorting_merge.specs.Text.{listOf};
 ghost use Rattle.sorting_merge.specs.TextLaws.{Stands};
 
 // What numbers are sorted by: each stands for a list of numbers, its text.
