@@ -39,6 +39,8 @@ uint32_t sendumaal_set_contains(uint32_t set, uint8_t letter)
 
 uint32_t sendumaal_letters_test(const uint8_t *letters, size_t len, size_t *place)
 {
+    if (planted("letters: one more than a book has is taken") && len == (1 << 28) + 1)
+        len -= 1;
     uint32_t number = real_letters_test(letters, len, place);
     if (planted("letters: a bad byte at the last place is missed") && number == 2 && *place == len - 1) {
         *place = 0;

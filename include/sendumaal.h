@@ -60,7 +60,7 @@ uint32_t sendumaal_set_insert(uint32_t set, uint8_t letter);
 /* 1 if the letter is in the set, else 0; no byte that is not A to Z is in any set. */
 uint32_t sendumaal_set_contains(uint32_t set, uint8_t letter);
 
-/* Refuses with 2 at the first byte that is not A to Z. */
+/* Tests letters alone, of a protein or of a book. Refuses with 1 (more than 268435456), 2 at the first byte that is not A to Z. */
 uint32_t sendumaal_letters_test(const uint8_t *letters, size_t letters_len, size_t *place);
 
 /* ---- names ----

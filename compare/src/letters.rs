@@ -57,7 +57,23 @@ pub fn first_bad_byte(context: &Context) -> Tally {
     let pairs = (0..=u16::MAX).map(|pair| pair.to_be_bytes().to_vec());
     let single = (0..=255).map(|byte| vec![byte]);
     for letters in single.chain(pairs).chain(stretches(&mut context.rng("stretches of letters"))) {
-        tally.case(&letters, &calls::letters_test(&letters), &model::letters_test(&letters));
+        tally.case(&letters, &calls::letters_test(&letters), &model::letters_alone(&letters));
+    }
+    tally
+}
+
+/// As many letters as a book may have, and one more, each without a bad byte, with one in front and with one at the end. A case is
+/// shown by its length and by where the bad byte stands.
+pub fn longest(_: &Context) -> Tally {
+    let mut tally = Tally::new("letters: the longest", Against::Model);
+    for len in [model::MOST_BOOK, model::MOST_BOOK + 1] {
+        for place in [None, Some(0), Some(len - 1)] {
+            let mut letters = vec![b'Q'; len];
+            if let Some(place) = place {
+                letters[place] = b'q';
+            }
+            tally.case(&(len, place), &calls::letters_test(&letters), &model::letters_alone(&letters));
+        }
     }
     tally
 }

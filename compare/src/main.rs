@@ -37,7 +37,7 @@ use std::process::ExitCode;
 
 /// The entries by subject. A new entry is a function of this type, with its line here; quick ones stand first.
 const SUBJECTS: &[(&str, &[Entry])] = &[
-    ("letters", &[letters::set_operations, letters::first_bad_byte]),
+    ("letters", &[letters::set_operations, letters::first_bad_byte, letters::longest]),
     ("names", &[names::catalogues, names::large_catalogues]),
     (
         "rule texts",

@@ -19,6 +19,9 @@ pub struct Record {
 pub const NO_NAME: u32 = u32::MAX;
 pub const NO_LIMIT: u32 = u32::MAX;
 /// The bytes of a rule record, and of a modification.
+/// Letters of a book, and of any list of letters.
+pub const MOST_BOOK: usize = 1 << 28;
+
 pub const RECORD: usize = 8;
 /// The marks of kinds 1 to 4.
 pub const MARKS: [u8; 4] = *b"^$[]";
@@ -42,6 +45,14 @@ pub fn letters_test(letters: &[u8]) -> Answer<()> {
     match letters.iter().position(|byte| !is_letter((*byte).into())) {
         Some(place) => refuse(LETTER, place),
         None => Ok(()),
+    }
+}
+
+/// Letters that are tested alone: no list of letters is longer than a book's.
+pub fn letters_alone(letters: &[u8]) -> Answer<()> {
+    match letters.len() <= MOST_BOOK {
+        true => letters_test(letters),
+        false => refuse(SIZE, 0),
     }
 }
 

@@ -1,5 +1,6 @@
 //! The catalogues, books and digests that are tried.
-use super::model::{work_for, Call, Digest, MOST_BOOK, MOST_NAMES, NAME};
+use super::model::{work_for, Call, Digest, MOST_NAMES, NAME};
+use crate::model::MOST_BOOK;
 use crate::digest::model::{MOST_DIGESTS, MOST_LETTERS, MOST_MISSED};
 use crate::rng::Rng;
 use std::collections::HashSet;

@@ -11,8 +11,6 @@ use std::fmt;
 pub const NAME: usize = 64;
 pub const GROUP: usize = 24;
 pub const MOST_NAMES: usize = 65_536;
-/// The most letters of a book.
-pub const MOST_BOOK: usize = 1 << 28;
 
 /// A call of `group_digests` but for its two lists.
 #[derive(Clone, PartialEq)]
@@ -167,7 +165,7 @@ pub fn work_for(names: usize, digests: usize) -> usize {
 /// 1, 8, 10, then names, boundaries, letters and digests.
 fn test(call: &Call) -> Answer<()> {
     let (names, digests) = (call.names.len() / NAME, call.digests.len() / DIGEST);
-    if names > MOST_NAMES || call.letters.len() > MOST_BOOK || digests > MOST_DIGESTS {
+    if names > MOST_NAMES || call.letters.len() > model::MOST_BOOK || digests > MOST_DIGESTS {
         return refuse(SIZE, 0);
     }
     let whole = call.names.len() % NAME == 0 && call.digests.len() % DIGEST == 0;

@@ -1,6 +1,7 @@
 //! Every refusal of `group_digests`, alone and with others: which one is given, and what it leaves of the memory.
 use super::cases::{self, work};
-use super::model::{self, work_for, Call, MOST_BOOK, MOST_NAMES, NAME};
+use super::model::{self, work_for, Call, MOST_NAMES, NAME};
+use crate::model::MOST_BOOK;
 use super::{hold, rooms};
 use crate::digest::model::{DIGEST, MOST_DIGESTS, MOST_LETTERS};
 use crate::entry::{Against, Context, Tally};
