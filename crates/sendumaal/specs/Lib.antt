@@ -2,4 +2,5 @@
 pub mod GroupCalls
 pub mod NameCalls
 pub mod ProteinCalls
+pub mod ProteinCallLaws
 pub mod Cases

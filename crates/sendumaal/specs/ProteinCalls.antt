@@ -1,13 +1,11 @@
 -- What the calls on groups of proteins and on report lines leave: as in Calls, *place first, then the other results, then the work memory
 -- and the lists in argument order.
 use Prim.Native.Nat.{ℕ}
-use mathlib.Core.Path.{_≡_, sym, ap, _∙_}
-use mathlib.Core.Bool.{Bool, true, false, cond, _&&_}
+use mathlib.Core.Path.{_≡_}
+use mathlib.Core.Bool.{Bool, cond, _&&_}
 use mathlib.Core.List.{List, [], _∷_}
 use lib.Dec.{leb, eqb}
-use Rattle.records.specs.declared.refusal.Refusal.{Refusal}
 use Rattle.records.specs.Outcome.{Outcome, outcome, only}
-use Rattle.protein_groups.specs.declared.grouping.Sizes.{Sizes}
 use Rattle.protein_groups.specs.declared.grouping.Grouped.{Grouped}
 use Rattle.protein_groups.specs.declared.grouping.Grouped.the-variants.{Made, Refused as No}
 use Rattle.protein_groups.specs.ProteinGrouping.{groupOutcome}
@@ -17,15 +15,41 @@ use Rattle.report_lines.specs.Reporting.{tested, lineOutcome}
 use Rattle.sendumaal_calls.specs.Calls.{accepted, refused, withLent}
 use Rattle.sendumaal_calls.specs.DigestCalls.{fieldCall}
 
--- how many groups, meta-peptides, edges and members were made
-abbrev pub sizesCall : Grouped → ℕ → ℕ → ℕ → ℕ → Outcome ℕ
-sizesCall (Made s) groups metas links held = accepted ((s .groups ∷ []) ∷ (s .metas ∷ []) ∷ (s .edges ∷ []) ∷ (s .members ∷ []) ∷ [])
-sizesCall (No r) groups metas links held = refused r ((groups ∷ []) ∷ (metas ∷ []) ∷ (links ∷ []) ∷ (held ∷ []) ∷ [])
+-- the arguments in their order, and what the lent slices and the results hold at entry
+pub record ProteinsArguments : Type 0 where
+  pub pairs : List ℕ
+  pub flags : List ℕ
+  pub peptides : ℕ
+  pub proteins : ℕ
+  pub work : List ℕ
+  pub edges : List ℕ
+  pub members : List ℕ
+  pub groups : ℕ
+  pub metas : ℕ
+  pub edge-count : ℕ
+  pub member-count : ℕ
 
-abbrev pub proteinsCall : List ℕ → List ℕ → ℕ → ℕ → List ℕ → List ℕ → List ℕ → ℕ → ℕ → ℕ → ℕ → Outcome ℕ
-proteinsCall pairs flags peptides proteins work edges members groups metas links held =
-    let o = groupOutcome pairs flags peptides proteins work edges members in
-    withLent (sizesCall (o .answer) groups metas links held) (o .lent)
+-- how many groups, meta-peptides, edges and members were made
+abbrev pub sizesCall : Grouped → ProteinsArguments → Outcome ℕ
+sizesCall (Made s) a = accepted ((s .groups ∷ []) ∷ (s .metas ∷ []) ∷ (s .edges ∷ []) ∷ (s .members ∷ []) ∷ [])
+sizesCall (No r) a = refused r ((a .groups ∷ []) ∷ (a .metas ∷ []) ∷ (a .edge-count ∷ []) ∷ (a .member-count ∷ []) ∷ [])
+
+abbrev pub proteinsCall : ProteinsArguments → Outcome ℕ
+proteinsCall a =
+    let o = groupOutcome (a .pairs) (a .flags) (a .peptides) (a .proteins) (a .work) (a .edges) (a .members) in
+    withLent (sizesCall (o .answer) a) (o .lent)
+
+pub record LineArguments : Type 0 where
+  pub names : List ℕ
+  pub members : List ℕ
+  pub marks : List ℕ
+  pub proteins : List ℕ
+  pub decoy : ℕ
+  pub tag : List ℕ
+  pub generated : ℕ
+  pub line : List ℕ
+  pub bytes : ℕ
+  pub groups : ℕ
 
 -- a line's length and its group count
 abbrev pub reportCall : Reported → ℕ → ℕ → Outcome ℕ
@@ -36,47 +60,15 @@ abbrev pub areFlags : ℕ → ℕ → Bool
 areFlags a b = leb a 1 && leb b 1
 
 -- a flag that is neither 0 nor 1 is a field out of range, after what the tests find
-abbrev pub lineCall : List ℕ → List ℕ → List ℕ → List ℕ → ℕ → List ℕ → ℕ → List ℕ → ℕ → ℕ → Outcome ℕ
-lineCall names members marks list decoy tag generated line bytes groups =
-    let o = lineOutcome names members marks list (eqb decoy 1) tag (eqb generated 1) line in
-    cond (areFlags decoy generated) (withLent (reportCall (o .answer) bytes groups) (o .lent))
-    (withLent (fieldCall (tested names members marks list tag)) ((bytes ∷ []) ∷ (groups ∷ []) ∷ line ∷ []))
+abbrev pub lineCall : LineArguments → Outcome ℕ
+lineCall a =
+    let o = lineOutcome (a .names) (a .members) (a .marks) (a .proteins) (eqb (a .decoy) 1) (a .tag) (eqb (a .generated) 1) (a .line) in
+    cond (areFlags (a .decoy) (a .generated)) (withLent (reportCall (o .answer) (a .bytes) (a .groups)) (o .lent))
+    (withLent (fieldCall (tested (a .names) (a .members) (a .marks) (a .proteins) (a .tag))) ((a .bytes ∷ []) ∷ (a .groups ∷ []) ∷ a .line ∷ []))
 
 -- no second number and no second results meet the contracts
-pub proteins-call-only : (pairs flags : List ℕ) (peptides proteins : ℕ) (work edges members : List ℕ) (groups metas links held : ℕ) (n m : ℕ) (k l : List (List ℕ))
-    → outcome n k ≡ proteinsCall pairs flags peptides proteins work edges members groups metas links held → outcome m l ≡ proteinsCall pairs flags peptides proteins work edges members groups metas links held → (n ≡ m) × (k ≡ l)
-proteins-call-only pairs flags peptides proteins work edges members groups metas links held n m k l = only n m k l (proteinsCall pairs flags peptides proteins work edges members groups metas links held)
+pub proteins-call-only : (a : ProteinsArguments) (n m : ℕ) (k l : List (List ℕ)) → outcome n k ≡ proteinsCall a → outcome m l ≡ proteinsCall a → (n ≡ m) × (k ≡ l)
+proteins-call-only a n m k l = only n m k l (proteinsCall a)
 
-pub line-call-only : (names members marks list : List ℕ) (decoy : ℕ) (tag : List ℕ) (generated : ℕ) (line : List ℕ) (bytes groups : ℕ) (n m : ℕ) (k l : List (List ℕ))
-    → outcome n k ≡ lineCall names members marks list decoy tag generated line bytes groups → outcome m l ≡ lineCall names members marks list decoy tag generated line bytes groups → (n ≡ m) × (k ≡ l)
-line-call-only names members marks list decoy tag generated line bytes groups n m k l = only n m k l (lineCall names members marks list decoy tag generated line bytes groups)
-
--- ---- from the answer of `group_proteins` to what the call leaves. Assumes nothing
-
-module _ (pairs flags : List ℕ) (peptides proteins : ℕ) (work edges members : List ℕ) (groups metas links held : ℕ) (a : Grouped) (lent : List (List ℕ))
-    (e : outcome a lent ≡ groupOutcome pairs flags peptides proteins work edges members) where
-  whole : withLent (sizesCall a groups metas links held) lent ≡ proteinsCall pairs flags peptides proteins work edges members groups metas links held
-  whole = ap (λ (o : Outcome Grouped). withLent (sizesCall (o .answer) groups metas links held) (o .lent)) e
-
-  pub proteins-made : (s : Sizes) → a ≡ Made s
-      → outcome 0 ((0 ∷ []) ∷ (s .groups ∷ []) ∷ (s .metas ∷ []) ∷ (s .edges ∷ []) ∷ (s .members ∷ []) ∷ lent) ≡ proteinsCall pairs flags peptides proteins work edges members groups metas links held
-  proteins-made s f = ap (λ (x : Grouped). withLent (sizesCall x groups metas links held) lent) (sym f) ∙ whole
-
-  pub proteins-no : (r : Refusal) → a ≡ No r
-      → refused r ((groups ∷ []) ∷ (metas ∷ []) ∷ (links ∷ []) ∷ (held ∷ []) ∷ lent) ≡ proteinsCall pairs flags peptides proteins work edges members groups metas links held
-  proteins-no r f = ap (λ (x : Grouped). withLent (sizesCall x groups metas links held) lent) (sym f) ∙ whole
-
--- ---- from the answer of `report_line` and of its tests to what the call leaves
-
-module _ (names members marks list : List ℕ) (decoy : ℕ) (tag : List ℕ) (generated : ℕ) (line : List ℕ) (bytes groups : ℕ) (n p : ℕ) where
-  pub line-done : areFlags decoy generated ≡ true → (q s : ℕ) (a : Reported) (b : List ℕ) → outcome n ((p ∷ []) ∷ (q ∷ []) ∷ (s ∷ []) ∷ []) ≡ reportCall a bytes groups
-      → outcome a (b ∷ []) ≡ lineOutcome names members marks list (eqb decoy 1) tag (eqb generated 1) line
-      → outcome n ((p ∷ []) ∷ (q ∷ []) ∷ (s ∷ []) ∷ b ∷ []) ≡ lineCall names members marks list decoy tag generated line bytes groups
-  line-done h q s a b e f =
-      ap (λ (x : Outcome ℕ). withLent x (b ∷ [])) e
-      ∙ ap (λ (o : Outcome Reported). withLent (reportCall (o .answer) bytes groups) (o .lent)) f
-      ∙ rw h
-
-  pub line-field : areFlags decoy generated ≡ false → outcome n ((p ∷ []) ∷ []) ≡ fieldCall (tested names members marks list tag)
-      → outcome n ((p ∷ []) ∷ (bytes ∷ []) ∷ (groups ∷ []) ∷ line ∷ []) ≡ lineCall names members marks list decoy tag generated line bytes groups
-  line-field h e = ap (λ (o : Outcome ℕ). withLent o ((bytes ∷ []) ∷ (groups ∷ []) ∷ line ∷ [])) e ∙ rw h
+pub line-call-only : (a : LineArguments) (n m : ℕ) (k l : List (List ℕ)) → outcome n k ≡ lineCall a → outcome m l ≡ lineCall a → (n ≡ m) × (k ≡ l)
+line-call-only a n m k l = only n m k l (lineCall a)

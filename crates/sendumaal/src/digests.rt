@@ -60,7 +60,7 @@ pub extern "C" fn sendumaal_digest(
     count: &mut u32,
     place: &mut usize,
 ) -> u32
-    ensures { λ r. ⌜ outcome r ((now (place .exit) ∷ []) ∷ (now (count .exit) ∷ []) ∷ now (out .exit) ∷ []) ≡ digestCall (now (letters .entry)) alphabet kind cleave skip side semi missed minimum maximum protein (now (out .entry)) (now (count .entry)) ⌝ }
+    ensures { λ r. ⌜ outcome r ((now (place .exit) ∷ []) ∷ (now (count .exit) ∷ []) ∷ now (out .exit) ∷ []) ≡ digestCall (record { letters = now (letters .entry); alphabet = alphabet; kind = kind; cleave = cleave; skip = skip; side = side; semi = semi; missed = missed; minimum = minimum; maximum = maximum; protein = protein; out = now (out .entry); count = now (count .entry) }) ⌝ }
 {
     if 16 < missed {
         *place = 0;

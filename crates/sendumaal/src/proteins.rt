@@ -18,11 +18,11 @@ pub extern "C" fn sendumaal_group_proteins(
     members: &mut [u8],
     groups: &mut u32,
     metas: &mut u32,
-    links: &mut u32,
-    held: &mut u32,
+    edge_count: &mut u32,
+    member_count: &mut u32,
     place: &mut usize,
 ) -> u32
-    ensures { λ r. ⌜ outcome r ((now (place .exit) ∷ []) ∷ (now (groups .exit) ∷ []) ∷ (now (metas .exit) ∷ []) ∷ (now (links .exit) ∷ []) ∷ (now (held .exit) ∷ []) ∷ now (work .exit) ∷ now (edges .exit) ∷ now (members .exit) ∷ []) ≡ proteinsCall (now (pairs .entry)) (now (flags .entry)) peptides proteins (now (work .entry)) (now (edges .entry)) (now (members .entry)) (now (groups .entry)) (now (metas .entry)) (now (links .entry)) (now (held .entry)) ⌝ }
+    ensures { λ r. ⌜ outcome r ((now (place .exit) ∷ []) ∷ (now (groups .exit) ∷ []) ∷ (now (metas .exit) ∷ []) ∷ (now (edge-count .exit) ∷ []) ∷ (now (member-count .exit) ∷ []) ∷ now (work .exit) ∷ now (edges .exit) ∷ now (members .exit) ∷ []) ≡ proteinsCall (record { pairs = now (pairs .entry); flags = now (flags .entry); peptides = peptides; proteins = proteins; work = now (work .entry); edges = now (edges .entry); members = now (members .entry); groups = now (groups .entry); metas = now (metas .entry); edge-count = now (edge-count .entry); member-count = now (member-count .entry) }) ⌝ }
 {
     let answer = protein_groups::group_proteins(
         pairs,
@@ -37,8 +37,8 @@ pub extern "C" fn sendumaal_group_proteins(
         Grouped::Made(sizes) => {
             *groups = sizes.groups;
             *metas = sizes.metas;
-            *links = sizes.edges;
-            *held = sizes.members;
+            *edge_count = sizes.edges;
+            *member_count = sizes.members;
             *place = 0;
             0
         }
@@ -88,7 +88,7 @@ pub extern "C" fn sendumaal_report_line(
     groups: &mut u32,
     place: &mut usize,
 ) -> u32
-    ensures { λ r. ⌜ outcome r ((now (place .exit) ∷ []) ∷ (now (bytes .exit) ∷ []) ∷ (now (groups .exit) ∷ []) ∷ now (line .exit) ∷ []) ≡ lineCall (now (names .entry)) (now (members .entry)) (now (marks .entry)) (now (proteins .entry)) decoy (now (tag .entry)) generated (now (line .entry)) (now (bytes .entry)) (now (groups .entry)) ⌝ }
+    ensures { λ r. ⌜ outcome r ((now (place .exit) ∷ []) ∷ (now (bytes .exit) ∷ []) ∷ (now (groups .exit) ∷ []) ∷ now (line .exit) ∷ []) ≡ lineCall (record { names = now (names .entry); members = now (members .entry); marks = now (marks .entry); proteins = now (proteins .entry); decoy = decoy; tag = now (tag .entry); generated = generated; line = now (line .entry); bytes = now (bytes .entry); groups = now (groups .entry) }) ⌝ }
 {
     if are_flags(decoy, generated) {
         let answer = report_lines::report_line(

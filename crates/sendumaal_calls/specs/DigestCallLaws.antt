@@ -11,23 +11,23 @@ use Rattle.records.specs.declared.refusal.Refusal.the-variants.{Size}
 use Rattle.records.specs.Outcome.{Outcome, outcome}
 use Rattle.sendumaal_calls.specs.Calls.{setOf, refused, withLent, countCall}
 use Rattle.sendumaal_calls.specs.CallLaws.{count-said}
-use Rattle.sendumaal_calls.specs.DigestCalls.{isEnzyme, enzymeNumbered, settingsOf, fieldCall, digestCall}
+use Rattle.sendumaal_calls.specs.DigestCalls.{isEnzyme, fieldCall, DigestArguments, enzymeOf, settingsIn, digestCall}
 
-module _ (letters : List ℕ) (alphabet kind cleave skip side semi missed minimum maximum protein : ℕ) (out : List ℕ) (count : ℕ) where
-  pub digest-size : 16 < missed → refused Size ((count ∷ []) ∷ out ∷ []) ≡ digestCall letters alphabet kind cleave skip side semi missed minimum maximum protein out count
-  digest-size h = rw (lt-ltb 16 missed h)
+module _ (a : DigestArguments) where
+  pub digest-size : 16 < a .missed → refused Size ((a .count ∷ []) ∷ a .out ∷ []) ≡ digestCall a
+  digest-size h = rw (lt-ltb 16 (a .missed) h)
 
-  module _ (few : missed ≤ 16) (cutter : Enzyme) (is : cutter ≡ enzymeNumbered kind cleave skip side semi) (n p : ℕ) where
-    pub digest-done : isEnzyme kind side semi ≡ true → (q : ℕ) (a : Counted) (b : List ℕ) → outcome n ((p ∷ []) ∷ (q ∷ []) ∷ []) ≡ countCall a count
-        → outcome a (b ∷ []) ≡ digestOutcome letters (setOf alphabet) cutter (settingsOf missed minimum maximum) protein out
-        → outcome n ((p ∷ []) ∷ (q ∷ []) ∷ b ∷ []) ≡ digestCall letters alphabet kind cleave skip side semi missed minimum maximum protein out count
-    digest-done h q a b e f =
-        count-said a n p q count e (b ∷ []) (digestOutcome letters (setOf alphabet) (enzymeNumbered kind cleave skip side semi) (settingsOf missed minimum maximum) protein out)
-        (f ∙ ap (λ (x : Enzyme). digestOutcome letters (setOf alphabet) x (settingsOf missed minimum maximum) protein out) is)
-        ∙ rw (le-ltb 16 missed few, h)
+  module _ (few : a .missed ≤ 16) (cutter : Enzyme) (is : cutter ≡ enzymeOf a) (n p : ℕ) where
+    pub digest-done : isEnzyme (a .kind) (a .side) (a .semi) ≡ true → (q : ℕ) (r : Counted) (b : List ℕ) → outcome n ((p ∷ []) ∷ (q ∷ []) ∷ []) ≡ countCall r (a .count)
+        → outcome r (b ∷ []) ≡ digestOutcome (a .letters) (setOf (a .alphabet)) cutter (settingsIn a) (a .protein) (a .out)
+        → outcome n ((p ∷ []) ∷ (q ∷ []) ∷ b ∷ []) ≡ digestCall a
+    digest-done h q r b e f =
+        count-said r n p q (a .count) e (b ∷ []) (digestOutcome (a .letters) (setOf (a .alphabet)) (enzymeOf a) (settingsIn a) (a .protein) (a .out))
+        (f ∙ ap (λ (x : Enzyme). digestOutcome (a .letters) (setOf (a .alphabet)) x (settingsIn a) (a .protein) (a .out)) is)
+        ∙ rw (le-ltb 16 (a .missed) few, h)
 
-    pub digest-field : isEnzyme kind side semi ≡ false → outcome n ((p ∷ []) ∷ []) ≡ fieldCall (tested letters (setOf alphabet) cutter (settingsOf missed minimum maximum))
-        → outcome n ((p ∷ []) ∷ (count ∷ []) ∷ out ∷ []) ≡ digestCall letters alphabet kind cleave skip side semi missed minimum maximum protein out count
+    pub digest-field : isEnzyme (a .kind) (a .side) (a .semi) ≡ false → outcome n ((p ∷ []) ∷ []) ≡ fieldCall (tested (a .letters) (setOf (a .alphabet)) cutter (settingsIn a))
+        → outcome n ((p ∷ []) ∷ (a .count ∷ []) ∷ a .out ∷ []) ≡ digestCall a
     digest-field h e =
-        ap (λ (o : Outcome ℕ). withLent o ((count ∷ []) ∷ out ∷ [])) (e ∙ ap (λ (x : Enzyme). fieldCall (tested letters (setOf alphabet) x (settingsOf missed minimum maximum))) is)
-        ∙ rw (le-ltb 16 missed few, h)
+        ap (λ (o : Outcome ℕ). withLent o ((a .count ∷ []) ∷ a .out ∷ [])) (e ∙ ap (λ (x : Enzyme). fieldCall (tested (a .letters) (setOf (a .alphabet)) x (settingsIn a))) is)
+        ∙ rw (le-ltb 16 (a .missed) few, h)

@@ -36,11 +36,31 @@ abbrev pub fieldCall : Tested → Outcome ℕ
 fieldCall Tested.Passed = refused (Field 0) []
 fieldCall (Tested.Refused r) = refused r []
 
+-- the arguments in their order, and what `out` and `*count` hold at entry
+pub record DigestArguments : Type 0 where
+  pub letters : List ℕ
+  pub alphabet : ℕ
+  pub kind : ℕ
+  pub cleave : ℕ
+  pub skip : ℕ
+  pub side : ℕ
+  pub semi : ℕ
+  pub missed : ℕ
+  pub minimum : ℕ
+  pub maximum : ℕ
+  pub protein : ℕ
+  pub out : List ℕ
+  pub count : ℕ
+
+abbrev pub enzymeOf : DigestArguments → Enzyme
+enzymeOf a = enzymeNumbered (a .kind) (a .cleave) (a .skip) (a .side) (a .semi)
+
+abbrev pub settingsIn : DigestArguments → Settings
+settingsIn a = settingsOf (a .missed) (a .minimum) (a .maximum)
+
 -- 1 comes first, and missed cleavages above 16 are 1
-abbrev pub digestCall : List ℕ → ℕ → ℕ → ℕ → ℕ → ℕ → ℕ → ℕ → ℕ → ℕ → ℕ → List ℕ → ℕ → Outcome ℕ
-digestCall letters alphabet kind cleave skip side semi missed minimum maximum protein out count =
-    let cutter = enzymeNumbered kind cleave skip side semi in
-    let settings = settingsOf missed minimum maximum in
-    cond (ltb 16 missed) (refused Size ((count ∷ []) ∷ out ∷ []))
-    (cond (isEnzyme kind side semi) (countedCall (digestOutcome letters (setOf alphabet) cutter settings protein out) count)
-    (withLent (fieldCall (tested letters (setOf alphabet) cutter settings)) ((count ∷ []) ∷ out ∷ [])))
+abbrev pub digestCall : DigestArguments → Outcome ℕ
+digestCall a =
+    cond (ltb 16 (a .missed)) (refused Size ((a .count ∷ []) ∷ a .out ∷ []))
+    (cond (isEnzyme (a .kind) (a .side) (a .semi)) (countedCall (digestOutcome (a .letters) (setOf (a .alphabet)) (enzymeOf a) (settingsIn a) (a .protein) (a .out)) (a .count))
+    (withLent (fieldCall (tested (a .letters) (setOf (a .alphabet)) (enzymeOf a) (settingsIn a))) ((a .count ∷ []) ∷ a .out ∷ [])))
