@@ -5,19 +5,23 @@ use mathlib.Core.Path.{refl}
 use mathlib.Core.List.{List, [], _∷_, _++_, flatten, map}
 use lib.ListN.{length, getD, replicate}
 use lib.Dec.{eqb}
-use Rattle.records.specs.Cases.{Case, Hold, joined}
+use Rattle.records.specs.Cases.{Case, Hold, Table, holding, allOf}
 use Rattle.records.specs.Search.{seek}
 use Rattle.catalogue_contents.specs.Names.{nameLength, zerosTo, namesTested}
 use Rattle.sorting.specs.Distinct.{keep}
 use Rattle.cover_spec.specs.Cover.{count, keep as keepEdges, markForced, coverMarked, stays, pass, passes, greatest, mark, choose, turn, turns, cover, listed, coverList}
 use Rattle.protein_groups_members.specs.Members.{Member}
 use Rattle.protein_groups_spec.specs.ProteinGroups.{Pair, Groups, proteins, metas, groupsOf, grouping}
+use Rattle.sorting.specs.Cases.{table as orders, cases as orders-hold}
+use Rattle.catalogue.specs.Cases.{table as books, cases as books-hold}
 use Rattle.modification.specs.Cases.{table as rules, cases as rules-hold}
 use Rattle.enzyme.specs.Cases.{table as digests, cases as digests-hold}
+use Rattle.peptide_choices.specs.Cases.{table as choices, cases as choices-hold}
 use Rattle.peptide.specs.Cases.{table as forms, cases as forms-hold}
 use Rattle.digest_groups.specs.Cases.{table as gathered, cases as gathered-hold}
 use Rattle.protein_groups_spec.specs.Cases.{table as groups, cases as groups-hold}
 use Rattle.protein_groups.specs.Cases.{table as grouped, cases as grouped-hold}
+use Rattle.cover_spec.specs.Cases.{table as marks, cases as marks-hold}
 use Rattle.cover.specs.Cases.{table as covers, cases as covers-hold}
 use Rattle.report_lines_spec.specs.Cases.{table as lines, cases as lines-hold}
 use Rattle.report_lines.specs.Cases.{table as reports, cases as reports-hold}
@@ -74,35 +78,28 @@ names-hold : Hold names
 unfolding seek nameLength zerosTo namesTested name three test names
 names-hold = refl
 
--- the tables from one of them on
-abbrev fromCovers : List Case
-fromCovers = covers ++ (lines ++ (reports ++ names))
-
-abbrev fromWhole : List Case
-fromWhole = whole ++ fromCovers
-
-abbrev fromGrouped : List Case
-fromGrouped = grouped ++ fromWhole
-
-abbrev fromGathered : List Case
-fromGathered = gathered ++ (groups ++ fromGrouped)
-
-abbrev fromDigests : List Case
-fromDigests = digests ++ (forms ++ fromGathered)
+tables : List Table
+tables =
+    holding orders orders-hold
+    ∷ holding books books-hold
+    ∷ holding rules rules-hold
+    ∷ holding digests digests-hold
+    ∷ holding choices choices-hold
+    ∷ holding forms forms-hold
+    ∷ holding gathered gathered-hold
+    ∷ holding groups groups-hold
+    ∷ holding grouped grouped-hold
+    ∷ holding whole whole-holds
+    ∷ holding marks marks-hold
+    ∷ holding covers covers-hold
+    ∷ holding lines lines-hold
+    ∷ holding reports reports-hold
+    ∷ holding names names-hold
+    ∷ []
 
 pub table : List Case
-table = rules ++ fromDigests
+table = allOf tables .cases
 
 pub cases : Hold table
 unfolding table
-cases =
-    joined rules fromDigests rules-hold
-    (joined digests (forms ++ fromGathered) digests-hold
-    (joined forms fromGathered forms-hold
-    (joined gathered (groups ++ fromGrouped) gathered-hold
-    (joined groups fromGrouped groups-hold
-    (joined grouped fromWhole grouped-hold
-    (joined whole fromCovers whole-holds
-    (joined covers (lines ++ (reports ++ names)) covers-hold
-    (joined lines (reports ++ names) lines-hold
-    (joined reports names reports-hold names-hold)))))))))
+cases = allOf tables .hold
