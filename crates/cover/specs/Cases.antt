@@ -10,7 +10,7 @@ use Rattle.records.specs.Room.{written}
 use Rattle.records.specs.Search.{seek}
 use Rattle.cover_spec.specs.Cover.{count, keep, markForced, coverMarked, stays, pass, passes, greatest, mark, choose, turn, turns, cover, listed, coverList}
 use Rattle.cover_edges.specs.Edges.{edgesTo, firstBadEdge, firstBadMark}
-use Rattle.cover_spec.specs.Update.{spread, touchedEdges, touched, update, updateList}
+use Rattle.cover_spec.specs.Update.{reached, touched, update, updateList}
 use Rattle.cover.specs.Covering.{coverOutcome}
 use Rattle.cover.specs.Updating.{updateOutcome}
 
@@ -96,5 +96,5 @@ table =
     ∷ []
 
 pub cases : Hold table
-unfolding seek numberAt flatten written count keep markForced coverMarked stays pass passes greatest mark choose turn turns cover listed coverList edgesTo firstBadEdge firstBadMark spread touchedEdges touched update updateList edge covering updating before after table
+unfolding seek numberAt flatten written count keep markForced coverMarked stays pass passes greatest mark choose turn turns cover listed coverList edgesTo firstBadEdge firstBadMark reached touched update updateList edge covering updating before after table
 cases = refl

@@ -38,3 +38,8 @@ eqb-sym x y = go (eqb y x) refl
     go : (t : Bool) → eqb y x ≡ t → eqb x y ≡ t
     go true e = eq-eqb x y (sym (eqb-true y x e))
     go false e = ne-eqb x y (λ q. eqb-false y x e (sym q))
+
+pub iff : (a b : Bool) → (a ≡ true → b ≡ true) → (b ≡ true → a ≡ true) → a ≡ b
+iff true b f h = sym (f refl)
+iff false true f h = h refl
+iff false false f h = refl

@@ -1,5 +1,6 @@
--- The update of marks from the old edges to the new ones: groups of touched parts get the mark of the new cover, all others keep
--- theirs.
+-- The update of marks from the old edges to the new ones: join both lists; a connected part is touched if some edge of it stands a
+-- different number of times in the two; groups of touched parts get the mark of the cover of the new edges, every other group keeps
+-- the mark given.
 use mathlib.Core.Bool.{Bool, not, _||_, cond}
 use mathlib.Core.List.{List, _++_}
 use Prim.Native.Nat.{ℕ, zero, suc}
@@ -7,24 +8,25 @@ use lib.Dec.{eqb}
 use lib.ListN.{length, getD}
 use Rattle.cover_spec.specs.Cover.{Edge, group, meta, bit, same, count, some, keep, cover, listed}
 
+-- the edge shares its group or its meta-peptide with one of the list
+abbrev pub meets : List Edge → Edge → Bool
+meets l e = some (λ d. eqb (group d) (group e) || eqb (meta d) (meta e)) l
+
+-- what so many steps from group g reach: its edges, then those that share a group or a meta-peptide with one of them, and so on
+unfoldable pub reached : ℕ → List Edge → ℕ → List Edge
+reached zero all g = keep (λ e. eqb (group e) g) all
+reached (suc k) all g = keep (meets (reached k all g)) all
+
+-- the edges of the connected part that holds group g: no more are reached after as many steps as there are edges
+abbrev pub part : List Edge → ℕ → List Edge
+part all g = reached (length all) all g
+
 -- the edge stands a different number of times in the two lists
 abbrev pub differs : List Edge → List Edge → Edge → Bool
 differs old new e = not (eqb (count (same e) old) (count (same e) new))
 
--- The touched edges, of both lists: those that differ, then those that share a group or a meta-peptide with a touched one, and so
--- on. No more are touched after as many steps as there are edges.
-abbrev pub meets : List Edge → Edge → Bool
-meets l e = some (λ d. eqb (group d) (group e) || eqb (meta d) (meta e)) l
-
-unfoldable pub spread : ℕ → List Edge → List Edge → List Edge
-spread zero all l = l
-spread (suc k) all l = spread k all (keep (meets l) all)
-
-unfoldable pub touchedEdges : List Edge → List Edge → List Edge
-touchedEdges old new = spread (length (old ++ new)) (old ++ new) (keep (differs old new) (old ++ new))
-
 unfoldable pub touched : List Edge → List Edge → ℕ → Bool
-touched old new g = some (λ e. eqb (group e) g) (touchedEdges old new)
+touched old new g = some (differs old new) (part (old ++ new) g)
 
 unfoldable pub update : ℕ → List Edge → List Edge → (ℕ → Bool) → ℕ → Bool
 update n old new marks g = cond (touched old new g) (cover n new g) (marks g)

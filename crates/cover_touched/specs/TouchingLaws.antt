@@ -12,11 +12,11 @@ use lib.Dec.{eqb, ltb}
 use borrow.Author.Tests.{eqb-true, eq-eqb, ne-eqb, ltb-true, lt-ltb, le-ltb}
 use Rattle.records.specs.Le.{numberAt}
 use Rattle.records.specs.Tests.{same?, below?, truth?, both}
-use Rattle.cover_spec.specs.Cover.{Edge, group, meta, same, count, some}
-use Rattle.cover_spec.specs.Update.{differs, touchedEdges, touched}
-use Rattle.cover_spec.specs.CountLaws.{All, all-map, all-at, all-has, all-append, all-two, count-append, none, find}
-use Rattle.cover_spec.specs.UpdateLaws.{linked, fixed}
-use Rattle.cover_spec.specs.TouchedLaws.{Touched, here, touched-to, touched-of, flags-touched}
+use Rattle.cover_spec.specs.Cover.{Edge, group, meta, same, count}
+use Rattle.cover_spec.specs.Update.{differs, touched}
+use Rattle.cover_spec.specs.CountLaws.{All, all-map, all-has, all-append, all-two, count-append, none, find}
+use Rattle.cover_spec.specs.ConnectedLaws.{here, has}
+use Rattle.cover_spec.specs.TouchedLaws.{Touched, touchedMeta, touched-to, touched-of, touched-linked, flags-touched}
 use Rattle.cover_edges.specs.Chains.{Out}
 use Rattle.cover_edges.specs.ChainLaws.{chains-same}
 use Rattle.cover_edges.specs.Edges.{edgeAt, edgesTo, InRange}
@@ -109,9 +109,7 @@ module _ (old new : List Edge) where
 
   differing-has : (e : Edge) → 0 < count (same e) J → differs old new e ≡ true → differing old new (group e) ≡ true
   unfolding differing
-  differing-has e i q =
-      lt-ltb 0 (count (λ d. eqb (group d) (group e) && differs old new d) J)
-      (all-at (λ d. (p : Edge → Bool) → p d ≡ true → 0 < count p J) e J (all-has J) i (λ d. eqb (group d) (group e) && differs old new d) (rw (eq-eqb (group e) (group e) refl) q))
+  differing-has e i q = has (λ d. eqb (group d) (group e) && differs old new d) e J i (rw (eq-eqb (group e) (group e) refl) q)
 
   pub differing-yes : (g m : ℕ) → (count (same (g, m)) old ≡ count (same (g, m)) new → ⊥) → differing old new g ≡ true
   differing-yes g m u =
@@ -138,13 +136,13 @@ module _ (old new : List Edge) where
   -- what is touched, node by node
   label : ℕ → ℕ → Bool
   label groups zero = true
-  label groups (suc x) = cond (ltb x groups) (touched old new x) (some (λ d. eqb (meta d) (x - groups)) (touchedEdges old new))
+  label groups (suc x) = cond (ltb x groups) (touched old new x) (touchedMeta old new (x - groups))
 
   label-group : (groups g : ℕ) → g < groups → label groups (1 + g) ≡ touched old new g
   unfolding label
   label-group groups g l = let z : 1 + g ≡ suc g = omega arith in rw (z, lt-ltb g groups l)
 
-  label-meta : (groups m : ℕ) → label groups (1 + groups + m) ≡ some (λ d. eqb (meta d) m) (touchedEdges old new)
+  label-meta : (groups m : ℕ) → label groups (1 + groups + m) ≡ touchedMeta old new m
   unfolding label
   label-meta groups m =
       let z : 1 + groups + m ≡ suc (groups + m) = omega arith in
@@ -152,9 +150,8 @@ module _ (old new : List Edge) where
       rw (z, le-ltb (groups + m) groups (omega arith), y)
 
   label-edges : (groups metas : ℕ) → All (λ e. (group e < groups) × (meta e < metas)) J → All (λ e. label groups (1 + group e) ≡ label groups (1 + groups + meta e)) J
-  unfolding touched
   label-edges groups metas h =
-      all-map (λ e r. label-group groups (group e) (r .0 .0) ∙ r .1 ∙ sym (label-meta groups (meta e))) J (all-two _ _ J h (linked J (touchedEdges old new) (fixed 0 old new)))
+      all-map (λ e r. label-group groups (group e) (r .0 .0) ∙ r .1 ∙ sym (label-meta groups (meta e))) J (all-two _ _ J h (touched-linked old new))
 
 -- ---- the parts tell what is touched
 
