@@ -18,8 +18,8 @@ use Rattle.cover_spec.specs.Cover.{coverList, listed}
 use Rattle.cover_spec.specs.ListedLaws.{length-cover}
 use Rattle.cover_spec.specs.Marks.{workNeeded, handed}
 use Rattle.cover_spec.specs.MarkLaws.{handed-all, handed-short}
-use Rattle.cover_edges.specs.Edges.{edgesOf, firstBadEdge, InRange}
-use Rattle.cover_edges.specs.RangeLaws.{in-range}
+use Rattle.cover_edges.specs.Edges.{edgesOf, firstBadEdge}
+use Rattle.cover_edges.specs.RangeLaws.{InRange, in-range}
 use Rattle.cover_walk.specs.Tables.{Fit}
 use Rattle.cover.specs.Covering.{tooLarge, coverTested, coverMarks}
 

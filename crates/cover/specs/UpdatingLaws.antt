@@ -24,8 +24,8 @@ use Rattle.cover_spec.specs.Cover.{bit, coverList}
 use Rattle.cover_spec.specs.ListedLaws.{length-listed, getD-listed, length-cover}
 use Rattle.cover_spec.specs.Marks.{workNeeded, handed}
 use Rattle.cover_spec.specs.Update.{touched, update, updateList}
-use Rattle.cover_edges.specs.Edges.{edgesOf, firstBadEdge, firstBadMark, InRange}
-use Rattle.cover_edges.specs.RangeLaws.{in-range, all-bits}
+use Rattle.cover_edges.specs.Edges.{edgesOf, firstBadEdge, firstBadMark}
+use Rattle.cover_edges.specs.RangeLaws.{InRange, in-range, all-bits}
 use Rattle.cover_touched.specs.Touching.{Sized, Mixed}
 use Rattle.cover.specs.Covering.{tooLarge, coverMarks}
 use Rattle.cover.specs.CoveringLaws.{passed, Ready, Small, small}

@@ -7,7 +7,8 @@ use lib.ListN.{length, length-append}
 use Rattle.cover_spec.specs.ChoiceLaws.{Under}
 use Rattle.cover_spec.specs.Cover.{Edge, group, meta}
 use Rattle.cover_spec.specs.CountLaws.{All, all-map}
-use Rattle.cover_edges.specs.Edges.{edgeAt, edgesTo, InRange}
+use Rattle.cover_edges.specs.Edges.{edgeAt, edgesTo}
+use Rattle.cover_edges.specs.RangeLaws.{InRange}
 
 all-snoc : (P : Edge → Type 0) (l : List Edge) (e : Edge) → All P l → P e → All P (l ++ (e ∷ []))
 all-snoc P [] e h p = (p, tt)

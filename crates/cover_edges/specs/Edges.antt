@@ -1,6 +1,6 @@
 -- Document 01, "Sizes and records": an edge is 8 bytes, group u32 and meta-peptide u32, both below their counts; a mark is one byte,
 -- 0 or 1, and so is a decoy flag.
-use Prim.Native.Nat.{ℕ, zero, suc, _+_, _*_, _/_, _<_}
+use Prim.Native.Nat.{ℕ, zero, suc, _+_, _*_, _/_}
 use mathlib.Core.Bool.{Bool, _||_}
 use mathlib.Core.List.{List, [], _∷_, _++_}
 use lib.Dec.{leb, ltb}
@@ -33,10 +33,6 @@ badEdge bs groups metas i = leb groups (numberAt 4 bs (8 * i)) || leb metas (num
 -- the first such of n records, or n
 unfoldable pub firstBadEdge : List ℕ → ℕ → ℕ → ℕ → ℕ
 firstBadEdge bs groups metas n = seek (badEdge bs groups metas) 0 n
-
--- the fields of n records are below their counts
-abbrev pub InRange : List ℕ → ℕ → ℕ → ℕ → Type 0
-InRange bs n groups metas = (i : ℕ) → i < n → (numberAt 4 bs (8 * i) < groups) × (numberAt 4 bs (8 * i + 4) < metas)
 
 -- a mark that is not 0 or 1
 abbrev pub badMark : List ℕ → ℕ → Bool

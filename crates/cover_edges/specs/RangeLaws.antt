@@ -10,7 +10,11 @@ use borrow.Author.Tests.{leb-false, ltb-false}
 use Rattle.records.specs.Le.{numberAt}
 use Rattle.records.specs.SearchLaws.{seek-before}
 use Rattle.records.specs.Tests.{neither}
-use Rattle.cover_edges.specs.Edges.{badEdge, firstBadEdge, InRange, badMark, firstBadMark}
+use Rattle.cover_edges.specs.Edges.{badEdge, firstBadEdge, badMark, firstBadMark}
+
+-- the fields of n records are below their counts
+abbrev pub InRange : List ℕ → ℕ → ℕ → ℕ → Type 0
+InRange bs n groups metas = (i : ℕ) → i < n → (numberAt 4 bs (8 * i) < groups) × (numberAt 4 bs (8 * i + 4) < metas)
 
 pub in-range : (bs : List ℕ) (groups metas n : ℕ) → n ≤ firstBadEdge bs groups metas n → InRange bs n groups metas
 unfolding firstBadEdge

@@ -16,7 +16,8 @@ use Rattle.cover_spec.specs.CountLaws.{count-keep, count-le, count-append, some
 use Rattle.cover_spec.specs.TestLaws.{eqb-sym}
 use Rattle.cover_spec.specs.TrimLaws.{iter}
 use Rattle.cover_spec.specs.LevelLaws.{Order, degree}
-use Rattle.cover_edges.specs.Edges.{edgeAt, edgesTo, InRange}
+use Rattle.cover_edges.specs.Edges.{edgeAt, edgesTo}
+use Rattle.cover_edges.specs.RangeLaws.{InRange}
 use Rattle.cover_edges.specs.EdgeLaws.{edges-all, length-edges}
 use Rattle.cover_index.specs.PlaceLaws.{among, equals, belows, pairs, belows-ext, belows-next, belows-le, spot, spot-in, spot-ext, sorted-lists, sorted-order}
 use Rattle.cover_index.specs.SortLaws.{Regions, Indexed, from}

@@ -2,7 +2,7 @@
 use crate::filling::clear_part;
 use crate::filling::copy_field;
 use cover_index::index;
-ghost use Rattle.cover_edges.specs.Edges.{InRange};
+ghost use Rattle.cover_edges.specs.RangeLaws.{InRange};
 ghost use Rattle.cover_levels.specs.PrepareLaws.{Layout, Listed, Gathered};
 
 // The edges into w, and zero where the lists go.

@@ -2,7 +2,8 @@
 use crate::listing::lists;
 use crate::marking::first;
 use crate::ordering::order;
-ghost use Rattle.cover_edges.specs.Edges.{edgesTo, InRange};
+ghost use Rattle.cover_edges.specs.Edges.{edgesTo};
+ghost use Rattle.cover_edges.specs.RangeLaws.{InRange};
 ghost use Rattle.cover_levels.specs.StepLaws.{Levels};
 ghost use Rattle.cover_levels.specs.PrepareLaws.{Layout};
 

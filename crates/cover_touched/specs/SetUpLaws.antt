@@ -9,7 +9,7 @@ use lib.ListN.{length, getD, replicate, length-replicate}
 use Rattle.records.specs.Le.{numberAt}
 use Rattle.cover_edges.specs.Chains.{Out, Chains}
 use Rattle.cover_edges.specs.ChainLaws.{chains-same}
-use Rattle.cover_edges.specs.Edges.{InRange}
+use Rattle.cover_edges.specs.RangeLaws.{InRange}
 use Rattle.cover_edges.specs.TableLaws.{zero-at}
 use Rattle.cover_touched.specs.Touching.{nodes, atOld, atNew, nextOld, nextNew, Sized, Linked}
 

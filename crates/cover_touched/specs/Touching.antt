@@ -8,7 +8,7 @@ use lib.Dec.{eqb}
 use Rattle.records.specs.Le.{numberAt}
 use Rattle.cover_spec.specs.Cover.{Edge}
 use Rattle.cover_spec.specs.Update.{touched}
-use Rattle.cover_edges.specs.Edges.{InRange}
+use Rattle.cover_edges.specs.RangeLaws.{InRange}
 use Rattle.cover_touched.specs.Joining.{Forest, Reps}
 use Rattle.cover_touched.specs.Walking.{Walkable}
 

@@ -19,7 +19,8 @@ use Rattle.cover_spec.specs.ConnectedLaws.{here, has}
 use Rattle.cover_spec.specs.TouchedLaws.{Touched, touchedMeta, touched-to, touched-of, touched-linked, flags-touched}
 use Rattle.cover_edges.specs.Chains.{Out}
 use Rattle.cover_edges.specs.ChainLaws.{chains-same}
-use Rattle.cover_edges.specs.Edges.{edgeAt, edgesTo, InRange}
+use Rattle.cover_edges.specs.Edges.{edgeAt, edgesTo}
+use Rattle.cover_edges.specs.RangeLaws.{InRange}
 use Rattle.cover_edges.specs.EdgeLaws.{edges-all}
 use Rattle.cover_touched.specs.Joining.{Forest, Held, Joined}
 use Rattle.cover_touched.specs.Walking.{differing, ofPair, Walkable, Tallied, Taken, Swept}

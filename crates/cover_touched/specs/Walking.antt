@@ -9,7 +9,8 @@ use lib.Dec.{eqb}
 use Rattle.cover_spec.specs.Cover.{Edge, group, same, count, some}
 use Rattle.cover_spec.specs.Update.{differs}
 use Rattle.cover_edges.specs.Chains.{Chains}
-use Rattle.cover_edges.specs.Edges.{edgesTo, InRange}
+use Rattle.cover_edges.specs.Edges.{edgesTo}
+use Rattle.cover_edges.specs.RangeLaws.{InRange}
 
 -- some edge of the group stands a different number of times in the two lists
 unfoldable pub differing : List Edge → List Edge → ℕ → Bool

@@ -6,7 +6,7 @@ ghost use mathlib.Core.List.{_∷_};
 ghost use Prim.Native.Nat.{ℕ, _+_, _≤_, _<_};
 ghost use lib.ListN.{length, getD};
 ghost use Rattle.cover_edges.specs.Chains.{Out};
-ghost use Rattle.cover_edges.specs.Edges.{InRange};
+ghost use Rattle.cover_edges.specs.RangeLaws.{InRange};
 ghost use Rattle.cover_touched.specs.Joining.{Forest, Found, Joined};
 ghost use Rattle.cover_touched.specs.Touching.{nodes, edgeLinks};
 

@@ -3,7 +3,7 @@ use Prim.Native.Nat.{ℕ, _≤_}
 use mathlib.Core.Path.{_≡_}
 use mathlib.Core.List.{List}
 use Rattle.cover_spec.specs.Marks.{workNeeded}
-use Rattle.cover_edges.specs.Edges.{InRange}
+use Rattle.cover_edges.specs.RangeLaws.{InRange}
 
 pub record Fit (bs : List ℕ) (n groups metas marks work : ℕ) : Type 0 where
   pub few : n ≤ 1048576

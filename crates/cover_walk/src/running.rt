@@ -6,7 +6,8 @@ ghost use mathlib.Core.Path.{_≡_};
 ghost use lib.Dec.{eqb};
 ghost use lib.ListN.{getD, length};
 ghost use Rattle.cover_spec.specs.Cover.{cover};
-ghost use Rattle.cover_edges.specs.Edges.{edgesTo, InRange};
+ghost use Rattle.cover_edges.specs.Edges.{edgesTo};
+ghost use Rattle.cover_edges.specs.RangeLaws.{InRange};
 
 // The marks of the cover, from w[groups + metas] on; there are edges.
 pub(crate) fn run(edges: &[u8], n: usize, w: &mut [u32], groups: usize, metas: usize)
