@@ -1,16 +1,15 @@
 -- What is known where the tests passed. Assumes nothing.
 use Prim.Native.Nat.{ℕ, _/_, _%_, _≤_, _<_}
 use mathlib.Core.Path.{_≡_, refl, sym, ap, _∙_}
-use mathlib.Core.Bool.{Bool, true, false, cond, not, _||_}
+use mathlib.Core.Bool.{false, not, _||_}
 use mathlib.Core.List.{List, [], _∷_, _++_}
 use native.Mathlib.Omega.{arith}
 use lib.ListN.{length, take, drop, replicate}
 use lib.Dec.{eqb, ltb}
 use borrow.Author.Tests.{ltb-false}
-use Rattle.records.specs.declared.refusal.Refusal.{Refusal}
-use Rattle.records.specs.declared.refusal.Refusal.the-variants.{Size, Length, Field, Work, Room}
-use Rattle.records.specs.declared.refusal.Tested.{Tested}
-use Rattle.records.specs.declared.refusal.Tested.the-variants.{Passed, Refused}
+use Rattle.records.specs.declared.refusal.Refusal.the-variants.{Size, Length, Work, Room}
+use Rattle.records.specs.declared.refusal.Tested.the-variants.{Passed}
+use Rattle.records.specs.Tested.{passed-first, passed-field}
 use Rattle.records.specs.Tests.{neither}
 use Rattle.records.specs.declared.refusal.Counted.the-variants.{Count, Refused as No}
 use Rattle.records.specs.Outcome.{outcome}
@@ -21,12 +20,7 @@ use Rattle.cover_spec.specs.MarkLaws.{handed-all, handed-short}
 use Rattle.cover_edges.specs.Edges.{edgesOf, firstBadEdge}
 use Rattle.cover_edges.specs.RangeLaws.{InRange, in-range}
 use Rattle.cover_walk.specs.Tables.{Fit}
-use Rattle.cover.specs.Covering.{tooLarge, coverTested, coverMarks}
-
--- a test that refuses did not
-pub passed : (t : Bool) (why : Refusal) (rest : Tested) → cond t (Refused why) rest ≡ Passed → (t ≡ false) × (rest ≡ Passed)
-passed true why rest e = let z : _≡_ {A = ℕ} 0 1 = cc in absurd (omega arith)
-passed false why rest e = (refl, e)
+use Rattle.cover.specs.Covering.{tooLarge, edgesTested, coverTested, coverMarks}
 
 pub record Ready (bs : List ℕ) (groups metas words : ℕ) : Type 0 where
   pub groups-max : groups ≤ 131072
@@ -46,23 +40,23 @@ small n groups metas h =
     let z = neither (ltb 131072 groups) (ltb 262144 metas) (y .0) in
     record { groups-max = ltb-false 131072 groups (z .0); metas-max = ltb-false 262144 metas (z .1); few = ltb-false 1048576 n (y .1) }
 
+pub edges-inside : (bs : List ℕ) (groups metas : ℕ) → edgesTested bs groups metas ≡ Passed → InRange bs (length bs / 8) groups metas
+edges-inside bs groups metas e =
+    in-range bs groups metas (ltb-false (firstBadEdge bs groups metas) (length bs / 8) (passed-field (firstBadEdge bs groups metas) (length bs / 8) e))
+
 pub ready : (bs : List ℕ) (groups metas words : ℕ) → coverTested bs groups metas words ≡ Passed → Ready bs groups metas words
 ready bs groups metas words e =
     let n : ℕ = length bs / 8 in
-    let t9 : Tested = cond (ltb (firstBadEdge bs groups metas n) n) (Refused (Field (firstBadEdge bs groups metas n))) Passed in
-    let t10 : Tested = cond (ltb words (workNeeded groups metas n)) (Refused Work) t9 in
-    let t8 : Tested = cond (not (eqb (length bs % 8) 0)) (Refused Length) t10 in
-    let p1 = passed (tooLarge n groups metas) Size t8 e in
-    let p8 = passed (not (eqb (length bs % 8) 0)) Length t10 (p1 .1) in
-    let p10 = passed (ltb words (workNeeded groups metas n)) Work t9 (p8 .1) in
-    let p9 = passed (ltb (firstBadEdge bs groups metas n) n) (Field (firstBadEdge bs groups metas n)) Passed (p10 .1) in
+    let p1 = passed-first (tooLarge n groups metas) Size _ e in
+    let p8 = passed-first (not (eqb (length bs % 8) 0)) Length _ (p1 .1) in
+    let p10 = passed-first (ltb words (workNeeded groups metas n)) Work _ (p8 .1) in
     let s = small n groups metas (p1 .0) in
     record {
       groups-max = s .groups-max;
       metas-max = s .metas-max;
       few = s .few;
       enough = ltb-false words (workNeeded groups metas n) (p10 .0);
-      inside = in-range bs groups metas n (ltb-false (firstBadEdge bs groups metas n) n (p9 .0));
+      inside = edges-inside bs groups metas (p10 .1);
     }
 
 pub fit : {bs : List ℕ} {groups metas words : ℕ} → Ready bs groups metas words → (groups ≡ 0 → ⊥) → Fit bs (length bs / 8) groups metas groups words

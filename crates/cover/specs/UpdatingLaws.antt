@@ -10,25 +10,26 @@ use lib.ListN.{length, getD, set, replicate, length-set}
 use lib.Seq.{sets, length-sets, ext-getD, getD-set-same}
 use lib.Dec.{eqb, ltb}
 use borrow.Author.Tests.{ltb-false, eqb-true, eqb-false}
-use Rattle.records.specs.declared.refusal.Refusal.the-variants.{Size, Length, Field, Work, Room}
+use Rattle.records.specs.declared.refusal.Refusal.the-variants.{Size, Length, Work, Room}
 use Rattle.records.specs.declared.refusal.Tested.{Tested}
-use Rattle.records.specs.declared.refusal.Tested.the-variants.{Passed, Refused}
+use Rattle.records.specs.declared.refusal.Tested.the-variants.{Passed}
 use Rattle.records.specs.declared.refusal.Counted.{Counted}
 use Rattle.records.specs.declared.refusal.Counted.the-variants.{Count, Refused as No}
 use Rattle.records.specs.LeLaws.{getD-sets-other}
 use Rattle.records.specs.Outcome.{Outcome, outcome}
 use Rattle.records.specs.Room.{fits, fitted, bytewise}
 use Rattle.records.specs.RoomLaws.{stored-text, fits-text}
+use Rattle.records.specs.Tested.{andThen, fieldTested, passed-both, passed-first, passed-field}
 use Rattle.records.specs.Tests.{below?, neither, truth?}
 use Rattle.cover_spec.specs.Cover.{bit, coverList}
 use Rattle.cover_spec.specs.ListedLaws.{length-listed, getD-listed, length-cover}
 use Rattle.cover_spec.specs.Marks.{workNeeded, handed}
 use Rattle.cover_spec.specs.Update.{touched, update, updateList}
-use Rattle.cover_edges.specs.Edges.{edgesOf, firstBadEdge, firstBadMark}
-use Rattle.cover_edges.specs.RangeLaws.{InRange, in-range, all-bits}
+use Rattle.cover_edges.specs.Edges.{edgesOf, firstBadMark}
+use Rattle.cover_edges.specs.RangeLaws.{InRange, all-bits}
 use Rattle.cover_touched.specs.Touching.{Sized, Mixed}
-use Rattle.cover.specs.Covering.{tooLarge, coverMarks}
-use Rattle.cover.specs.CoveringLaws.{passed, Ready, Small, small}
+use Rattle.cover.specs.Covering.{tooLarge, edgesTested, coverMarks}
+use Rattle.cover.specs.CoveringLaws.{Ready, Small, small, edges-inside}
 use Rattle.cover.specs.Updating.{eitherTooLarge, lengthsWrong, updateTested, updateMarks}
 
 pub record UpdateReady (old new : List ℕ) (groups metas : ℕ) (given : List ℕ) (words : ℕ) : Type 0 where
@@ -53,17 +54,12 @@ pub update-ready : (old new : List ℕ) (groups metas : ℕ) (given : List ℕ) 
 update-ready old new groups metas given words e =
     let on : ℕ = length old / 8 in
     let nn : ℕ = length new / 8 in
-    let tm : Tested = cond (ltb (firstBadMark given) (length given)) (Refused (Field (firstBadMark given))) Passed in
-    let tn : Tested = cond (ltb (firstBadEdge new groups metas nn) nn) (Refused (Field (firstBadEdge new groups metas nn))) tm in
-    let to : Tested = cond (ltb (firstBadEdge old groups metas on) on) (Refused (Field (firstBadEdge old groups metas on))) tn in
-    let t10 : Tested = cond (ltb words (workNeeded groups metas (on + nn))) (Refused Work) to in
-    let t8 : Tested = cond (lengthsWrong old new groups given) (Refused Length) t10 in
-    let p1 = passed (eitherTooLarge on nn groups metas) Size t8 e in
-    let p8 = passed (lengthsWrong old new groups given) Length t10 (p1 .1) in
-    let p10 = passed (ltb words (workNeeded groups metas (on + nn))) Work to (p8 .1) in
-    let po = passed (ltb (firstBadEdge old groups metas on) on) (Field (firstBadEdge old groups metas on)) tn (p10 .1) in
-    let pn = passed (ltb (firstBadEdge new groups metas nn) nn) (Field (firstBadEdge new groups metas nn)) tm (po .1) in
-    let pm = passed (ltb (firstBadMark given) (length given)) (Field (firstBadMark given)) Passed (pn .1) in
+    let marked : Tested = fieldTested (firstBadMark given) (length given) in
+    let p1 = passed-first (eitherTooLarge on nn groups metas) Size _ e in
+    let p8 = passed-first (lengthsWrong old new groups given) Length _ (p1 .1) in
+    let p10 = passed-first (ltb words (workNeeded groups metas (on + nn))) Work _ (p8 .1) in
+    let po = passed-both (edgesTested old groups metas) (andThen (edgesTested new groups metas) marked) (p10 .1) in
+    let pn = passed-both (edgesTested new groups metas) marked (po .1) in
     let s = both-small on nn groups metas (p1 .0) in
     let enough : workNeeded groups metas (on + nn) ≤ words = ltb-false words (workNeeded groups metas (on + nn)) (p10 .0) in
     record {
@@ -72,13 +68,13 @@ update-ready old new groups metas given words e =
         metas-max = s .1 .metas-max;
         few = s .1 .few;
         enough = omega arith;
-        inside = in-range new groups metas nn (ltb-false (firstBadEdge new groups metas nn) nn (pn .0));
+        inside = edges-inside new groups metas (pn .0);
       };
       old-few = s .0 .few;
-      old-inside = in-range old groups metas on (ltb-false (firstBadEdge old groups metas on) on (po .0));
+      old-inside = edges-inside old groups metas (po .0);
       enough = enough;
       as-many = as-many-as given groups (not (eqb (length old % 8) 0) || not (eqb (length new % 8) 0)) (p8 .0);
-      bits = all-bits given (ltb-false (firstBadMark given) (length given) (pm .0));
+      bits = all-bits given (ltb-false (firstBadMark given) (length given) (passed-field (firstBadMark given) (length given) (pn .1)));
     }
 
 pub sized : {old new given : List ℕ} {groups metas words : ℕ} → UpdateReady old new groups metas given words → 1 ≤ groups → Sized old (length old / 8) new (length new / 8) groups metas words

@@ -2,10 +2,12 @@
 use cover_edges::first_bad_edge;
 use records::Refusal;
 use records::Tested;
+use records::field_tested;
 ghost use mathlib.Core.Path.{_≡_};
-ghost use Prim.Native.Nat.{_≤_};
+ghost use Prim.Native.Nat.{_/_, _≤_};
+ghost use lib.ListN.{length};
 ghost use Rattle.cover_spec.specs.Marks.{workNeeded};
-ghost use Rattle.cover.specs.Covering.{tooLarge, coverTested};
+ghost use Rattle.cover.specs.Covering.{tooLarge, edgesTested, coverTested};
 
 pub(crate) fn too_large(n: usize, groups: usize, metas: usize) -> bool
     ensures { λ r. ⌜ r ≡ tooLarge n groups metas ⌝ }
@@ -18,6 +20,15 @@ pub(crate) fn work_needed(n: usize, groups: usize, metas: usize) -> usize
     ensures { λ r. ⌜ r ≡ workNeeded groups metas n ⌝ }
 {
     4 * groups + 4 * metas + 6 * n
+}
+
+// The first record whose group or meta-peptide is not below its count.
+pub(crate) fn edges_tested(edges: &[u8], groups: usize, metas: usize) -> Tested
+    requires { ⌜ length (now edges) / 8 ≤ 1048576 ⌝ }
+    ensures { λ r. ⌜ r ≡ edgesTested (now (edges .entry)) groups metas ⌝ }
+{
+    let bad = first_bad_edge(edges, groups, metas);
+    field_tested(bad, edges.len() / 8)
 }
 
 // The first refusal that applies before the cover is made, where the work slice has so many words.
@@ -34,9 +45,5 @@ pub(crate) fn tested(edges: &[u8], groups: usize, metas: usize, words: usize) ->
     if words < work_needed(n, groups, metas) {
         return Tested::Refused(Refusal::Work);
     }
-    let bad = first_bad_edge(edges, n, groups, metas);
-    if bad < n {
-        return Tested::Refused(Refusal::Field(bad));
-    }
-    Tested::Passed
+    edges_tested(edges, groups, metas)
 }

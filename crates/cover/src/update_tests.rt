@@ -1,10 +1,11 @@
 // The tests of an update, in document 01's order.
+use crate::tests::edges_tested;
 use crate::tests::too_large;
 use crate::tests::work_needed;
-use cover_edges::first_bad_edge;
 use cover_edges::first_bad_mark;
 use records::Refusal;
 use records::Tested;
+use records::field_tested;
 ghost use mathlib.Core.Path.{_≡_};
 ghost use Prim.Native.Nat.{_/_, _≤_};
 ghost use lib.ListN.{length};
@@ -29,21 +30,16 @@ fn contents(old: &[u8], new: &[u8], groups: usize, metas: usize, given: &[u8]) -
     requires { ⌜ (length (now old) / 8 ≤ 1048576) × (length (now new) / 8 ≤ 1048576) ⌝ }
     ensures { λ r. ⌜ r ≡ contentsTested (now (old .entry)) (now (new .entry)) groups metas (now (given .entry)) ⌝ }
 {
-    let on = old.len() / 8;
-    let bad_old = first_bad_edge(old, on, groups, metas);
-    if bad_old < on {
-        return Tested::Refused(Refusal::Field(bad_old));
-    }
-    let nn = new.len() / 8;
-    let bad_new = first_bad_edge(new, nn, groups, metas);
-    if bad_new < nn {
-        return Tested::Refused(Refusal::Field(bad_new));
-    }
-    let bad_mark = first_bad_mark(given);
-    if bad_mark < given.len() {
-        return Tested::Refused(Refusal::Field(bad_mark));
-    }
-    Tested::Passed
+    let of_old = edges_tested(old, groups, metas);
+    let Tested::Passed = of_old else {
+        return of_old;
+    };
+    let of_new = edges_tested(new, groups, metas);
+    let Tested::Passed = of_new else {
+        return of_new;
+    };
+    let bad = first_bad_mark(given);
+    field_tested(bad, given.len())
 }
 
 // The first refusal that applies before the update is made, where the work slice has so many words.

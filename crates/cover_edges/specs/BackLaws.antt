@@ -90,20 +90,21 @@ module _ (groups metas : ℕ) (g : groups ≤ 4294967296) (m : metas ≤ 4294967
   at-range (e ∷ es) h zero l = h .0
   at-range (e ∷ es) h (suc i) l = at-range es (h .1) i (omega arith)
 
-  all-good : (es : List Edge) → All (λ e. (group e < groups) × (meta e < metas)) es → (i : ℕ) → i < length es → badEdge (flatten (map edgeBytes es)) groups metas i ≡ false
+  all-good : (es : List Edge) → All (λ e. (group e < groups) × (meta e < metas)) es → (i : ℕ) → i < length es → badEdge groups metas (edgeAt (flatten (map edgeBytes es)) i) ≡ false
   all-good es h i l =
-      let e = edge-back es (ranged-storable es h) i l in
       let r = at-range es h i l in
-      rw (ap group e, ap meta e, lt-leb groups (group (getD es i (0, 0))) (r .0), lt-leb metas (meta (getD es i (0, 0))) (r .1))
+      ap (badEdge groups metas) (edge-back es (ranged-storable es h) i l)
+      ∙ rw (lt-leb groups (group (getD es i (0, 0))) (r .0), lt-leb metas (meta (getD es i (0, 0))) (r .1))
 
-  pub edges-accepted : (es : List Edge) → All (λ e. (group e < groups) × (meta e < metas)) es → firstBadEdge (flatten (map edgeBytes es)) groups metas (length es) ≡ length es
+  pub edges-accepted : (es : List Edge) → All (λ e. (group e < groups) × (meta e < metas)) es → firstBadEdge (flatten (map edgeBytes es)) groups metas ≡ length es
   unfolding firstBadEdge
   edges-accepted es h =
-      ⊎-elim (λ (l : seek bad 0 n < 0 + n). absurd (true≢false (sym (seek-passes bad 0 n l) ∙ all-good es h (seek bad 0 n) (omega arith))))
-      (λ (l : 0 + n ≤ seek bad 0 n). omega (arith, seek-to bad 0 n)) (below? (seek bad 0 n) (0 + n))
+      ap (seek bad 0) (count-edges es)
+      ∙ ⊎-elim (λ (l : seek bad 0 n < 0 + n). absurd (true≢false (sym (seek-passes bad 0 n l) ∙ all-good es h (seek bad 0 n) (omega arith))))
+      (λ (l : 0 + n ≤ seek bad 0 n). let e : seek bad 0 n ≡ n = omega (arith, seek-to bad 0 n) in e) (below? (seek bad 0 n) (0 + n))
     where
       n : ℕ
       n = length es
 
       bad : ℕ → Bool
-      bad = badEdge (flatten (map edgeBytes es)) groups metas
+      bad i = badEdge groups metas (edgeAt (flatten (map edgeBytes es)) i)

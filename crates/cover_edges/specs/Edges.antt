@@ -9,6 +9,10 @@ use Rattle.records.specs.Le.{le, numberAt}
 use Rattle.records.specs.Search.{seek}
 use Rattle.cover_spec.specs.Cover.{Edge, group, meta}
 
+-- how many whole records there are
+abbrev pub edgeCount : List ℕ → ℕ
+edgeCount bs = length bs / 8
+
 -- record i: group, meta-peptide
 abbrev pub edgeAt : List ℕ → ℕ → Edge
 edgeAt bs i = (numberAt 4 bs (8 * i), numberAt 4 bs (8 * i + 4))
@@ -18,21 +22,21 @@ unfoldable pub edgesTo : List ℕ → ℕ → List Edge
 edgesTo bs zero = []
 edgesTo bs (suc n) = edgesTo bs n ++ (edgeAt bs n ∷ [])
 
--- all whole records
+-- all of them
 abbrev pub edgesOf : List ℕ → List Edge
-edgesOf bs = edgesTo bs (length bs / 8)
+edgesOf bs = edgesTo bs (edgeCount bs)
 
 -- an edge as a record
 unfoldable pub edgeBytes : Edge → List ℕ
 edgeBytes e = le 4 (group e) ++ le 4 (meta e)
 
--- a group or a meta-peptide that is not below its count
-abbrev pub badEdge : List ℕ → ℕ → ℕ → ℕ → Bool
-badEdge bs groups metas i = leb groups (numberAt 4 bs (8 * i)) || leb metas (numberAt 4 bs (8 * i + 4))
+-- an edge whose group or meta-peptide is not below its count
+abbrev pub badEdge : ℕ → ℕ → Edge → Bool
+badEdge groups metas e = leb groups (group e) || leb metas (meta e)
 
--- the first such of n records, or n
-unfoldable pub firstBadEdge : List ℕ → ℕ → ℕ → ℕ → ℕ
-firstBadEdge bs groups metas n = seek (badEdge bs groups metas) 0 n
+-- the first record that is one, or how many records there are
+unfoldable pub firstBadEdge : List ℕ → ℕ → ℕ → ℕ
+firstBadEdge bs groups metas = seek (λ i. badEdge groups metas (edgeAt bs i)) 0 (edgeCount bs)
 
 -- a mark that is not 0 or 1
 abbrev pub badMark : List ℕ → ℕ → Bool

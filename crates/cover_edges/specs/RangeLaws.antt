@@ -1,5 +1,5 @@
 -- Where no record is bad, all fields are below their counts. Assumes nothing.
-use Prim.Native.Nat.{ℕ, _+_, _*_, _≤_, _<_}
+use Prim.Native.Nat.{ℕ, _+_, _*_, _/_, _≤_, _<_}
 use mathlib.Core.Path.{_≡_}
 use mathlib.Core.Bool.{false}
 use mathlib.Core.List.{List}
@@ -10,18 +10,19 @@ use borrow.Author.Tests.{leb-false, ltb-false}
 use Rattle.records.specs.Le.{numberAt}
 use Rattle.records.specs.SearchLaws.{seek-before}
 use Rattle.records.specs.Tests.{neither}
-use Rattle.cover_edges.specs.Edges.{badEdge, firstBadEdge, badMark, firstBadMark}
+use Rattle.cover_spec.specs.Cover.{group, meta}
+use Rattle.cover_edges.specs.Edges.{edgeAt, badEdge, firstBadEdge, badMark, firstBadMark}
 
 -- the fields of n records are below their counts
 abbrev pub InRange : List ℕ → ℕ → ℕ → ℕ → Type 0
 InRange bs n groups metas = (i : ℕ) → i < n → (numberAt 4 bs (8 * i) < groups) × (numberAt 4 bs (8 * i + 4) < metas)
 
-pub in-range : (bs : List ℕ) (groups metas n : ℕ) → n ≤ firstBadEdge bs groups metas n → InRange bs n groups metas
+pub in-range : (bs : List ℕ) (groups metas : ℕ) → length bs / 8 ≤ firstBadEdge bs groups metas → InRange bs (length bs / 8) groups metas
 unfolding firstBadEdge
-in-range bs groups metas n h i l =
-    let e : badEdge bs groups metas i ≡ false = seek-before (badEdge bs groups metas) 0 n i (omega arith) (omega arith) in
-    let t = neither (leb groups (numberAt 4 bs (8 * i))) (leb metas (numberAt 4 bs (8 * i + 4))) e in
-    (leb-false groups (numberAt 4 bs (8 * i)) (t .0), leb-false metas (numberAt 4 bs (8 * i + 4)) (t .1))
+in-range bs groups metas h i l =
+    let e : badEdge groups metas (edgeAt bs i) ≡ false = seek-before (λ j. badEdge groups metas (edgeAt bs j)) 0 (length bs / 8) i (omega arith) (omega arith) in
+    let t = neither (leb groups (group (edgeAt bs i))) (leb metas (meta (edgeAt bs i))) e in
+    (leb-false groups (group (edgeAt bs i)) (t .0), leb-false metas (meta (edgeAt bs i)) (t .1))
 
 -- where no mark is bad, all are 0 or 1
 pub all-bits : (marks : List ℕ) → length marks ≤ firstBadMark marks → (i : ℕ) → i < length marks → getD marks i 0 ≤ 1

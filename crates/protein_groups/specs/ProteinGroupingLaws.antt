@@ -31,7 +31,7 @@ use Rattle.protein_groups.specs.Steps.{Ready}
 -- ---- the tests
 
 -- a pair has the shape of an edge, and a flag that of a mark: so the code tests them
-pub pairs-edges : (pairs : List ℕ) (peptides proteins : ℕ) → firstBadEdge pairs peptides proteins (length pairs / 8) ≡ firstBadPair pairs peptides proteins
+pub pairs-edges : (pairs : List ℕ) (peptides proteins : ℕ) → firstBadEdge pairs peptides proteins ≡ firstBadPair pairs peptides proteins
 unfolding firstBadEdge firstBadPair
 pairs-edges pairs peptides proteins = refl
 
@@ -62,7 +62,7 @@ ready pairs flags peptides proteins words e =
       peptides-max = f .1;
       proteins-max = f .2;
       enough = ltb-false words (needed pairs peptides proteins) (c .0);
-      inside = in-range pairs peptides proteins n (rw (pairs-edges pairs peptides proteins) p);
+      inside = in-range pairs peptides proteins (rw (pairs-edges pairs peptides proteins) p);
       bits = λ i.
           ⊎-elim (λ (h : i < length flags). bits i h)
           (λ (h : length flags ≤ i). let z : getD flags i 0 ≡ 0 = List·getD-eq-default flags 0 h in omega arith) (below? i (length flags));

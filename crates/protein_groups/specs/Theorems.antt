@@ -99,7 +99,7 @@ module _ (pairs flags : List ℕ) (peptides proteins words : ℕ) (p : tested pa
   members-good = members-accepted (G .groups) proteins (omega (arith, groups-most, known .proteins-max)) (omega (arith, known .proteins-max)) (G .members) (all-members (G .groups) proteins (G .members) members-below)
 
   -- None of the edge records is bad.
-  pub edges-good : firstBadEdge (flatten (map edgeBytes (G .edges))) (G .groups) (G .metas) (length (G .edges)) ≡ length (G .edges)
+  pub edges-good : firstBadEdge (flatten (map edgeBytes (G .edges))) (G .groups) (G .metas) ≡ length (G .edges)
   edges-good = edges-accepted (G .groups) (G .metas) (omega (arith, groups-most, known .proteins-max)) (omega (arith, metas-most, known .peptides-max)) (G .edges) (rw as-packed (laws.edges-ranged flags peptides qs))
 
   -- ---- nothing is empty

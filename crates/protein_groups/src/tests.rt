@@ -3,6 +3,7 @@ use cover_edges::first_bad_edge;
 use cover_edges::first_bad_mark;
 use records::Refusal;
 use records::Tested;
+use records::and_then;
 use records::field_tested;
 ghost use mathlib.Core.Path.{_≡_};
 ghost use mathlib.Core.Bool.{false};
@@ -38,7 +39,7 @@ fn pairs_tested(pairs: &[u8], peptides: u32, proteins: u32) -> Tested
     let n = pairs.len() / 8;
     let peptide_count = peptides as usize;
     let protein_count = proteins as usize;
-    let bad = first_bad_edge(pairs, n, peptide_count, protein_count);
+    let bad = first_bad_edge(pairs, peptide_count, protein_count);
     field_tested(bad, n)
 }
 
@@ -55,10 +56,7 @@ fn contents_tested(pairs: &[u8], flags: &[u8], peptides: u32, proteins: u32) -> 
     ensures { λ r. ⌜ r ≡ andThen (pairsTested (now (pairs .entry)) peptides proteins) (flagsTested (now (flags .entry))) ⌝ }
 {
     let paired = pairs_tested(pairs, peptides, proteins);
-    let Tested::Passed = paired else {
-        return paired;
-    };
-    flags_tested(flags)
+    and_then(paired, flags_tested(flags))
 }
 
 // The first refusal that applies before the groups are made.

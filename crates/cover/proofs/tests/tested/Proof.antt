@@ -8,7 +8,6 @@ use borrow.Author.Tests.{lt-ltb, le-ltb, eq-eqb, ne-eqb}
 use native.Mathlib.Omega.{arith}
 use borrow.Author.Needs.{needs}
 use Rattle.cover_spec.specs.Marks.{workNeeded}
-use Rattle.cover_edges.specs.Edges.{firstBadEdge}
 use Rattle.cover.specs.Covering.{tooLarge}
 use Rattle.cover.specs.CoveringLaws.{Small, small}
 use Rattle.cover.proofs.tests.tested.Statement.{statement}
@@ -43,20 +42,11 @@ enough c = rw (c .before .work-needed .ensures) at (le-ltb _ _ (c .if3 .left))
 returns-3 : tie.Need-returns-3
 returns-3 c = rw (sizes (c .before .before .before), eq-eqb _ _ (c .before .before .if2 .left), short c)
 
-first-bad-edge-requires : tie.Need-first-bad-edge-requires
-first-bad-edge-requires c κs = limits (c .before .before .before) .few
+edges-tested-requires : tie.Need-edges-tested-requires
+edges-tested-requires c κs = limits (c .before .before .before) .few
 
 returns-4 : tie.Need-returns-4
-returns-4 c =
-    let a = c .before .before .before .before .before .before .before .before .args in
-    let g : ltb (firstBadEdge (a .edges .now) (a .groups) (a .metas) (length (a .edges .now) / 8)) (length (a .edges .now) / 8) ≡ true = rw (c .before .first-bad-edge .ensures) at (lt-ltb _ _ (c .if4 .taken)) in
-    rw (sizes (c .before .before .before .before .before), eq-eqb _ _ (c .before .before .before .before .if2 .left), enough (c .before .before), g, c .before .first-bad-edge .ensures)
-
-returns-5 : tie.Need-returns-5
-returns-5 c =
-    let a = c .before .before .before .before .before .before .before .before .args in
-    let g : ltb (firstBadEdge (a .edges .now) (a .groups) (a .metas) (length (a .edges .now) / 8)) (length (a .edges .now) / 8) ≡ false = rw (c .before .first-bad-edge .ensures) at (le-ltb _ _ (c .if4 .left)) in
-    rw (sizes (c .before .before .before .before .before), eq-eqb _ _ (c .before .before .before .before .if2 .left), enough (c .before .before), g)
+returns-4 c = rw (sizes (c .before .before .before .before), eq-eqb _ _ (c .before .before .before .if2 .left), enough (c .before)) (c .edges-tested .ensures)
 
 pub tested-spec : {M : Type 1} → statement M
 tested-spec =
@@ -67,6 +57,5 @@ tested-spec =
     returns-2
     work-needed-requires
     returns-3
-    first-bad-edge-requires
-    returns-4
-    returns-5)
+    edges-tested-requires
+    returns-4)

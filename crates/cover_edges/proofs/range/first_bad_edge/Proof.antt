@@ -1,28 +1,31 @@
 -- `first_bad_edge` meets its contract. Assumes nothing.
-use Prim.Native.Nat.{_≤_, _-_}
+use Prim.Native.Nat.{ℕ, _/_, _≤_, _-_}
 use mathlib.Core.Path.{_≡_, sym, _∙_}
+use mathlib.Core.Bool.{Bool}
+use mathlib.Core.List.{List}
 use native.Mathlib.Omega.{arith}
+use lib.ListN.{length}
 use borrow.Author.Needs.{needs}
 use Rattle.records.specs.Search.{seek}
 use Rattle.records.specs.SearchLaws.{seek-start, seek-on, seek-stop, seek-end}
-use Rattle.cover_edges.specs.Edges.{badEdge, firstBadEdge}
+use Rattle.cover_edges.specs.Edges.{edgeAt, badEdge, firstBadEdge}
 use Rattle.cover_edges.proofs.range.first_bad_edge.Statement.{statement}
 use Rattle.cover_edges.proofs.range.first_bad_edge.Tie as tie
-use Rattle.cover_edges.proofs.range.first_bad_edge.Reads as reads
-use Rattle.cover_edges.proofs.range.first_bad_edge.Lts as lts
-use Rattle.cover_edges.proofs.range.is_bad_edge.Reads as is-bad-edge-reads
+
+abbrev bad : List ℕ → ℕ → ℕ → ℕ → Bool
+bad edges groups metas i = badEdge groups metas (edgeAt edges i)
 
 abbrev Inv-loop : tie.InvT-loop
-Inv-loop edges n groups metas i₀ i = (i ≤ n) × (seek (badEdge edges groups metas) i (n - i) ≡ firstBadEdge edges groups metas n)
+Inv-loop edges groups metas n i₀ i = (i ≤ n) × (seek (bad edges groups metas) i (n - i) ≡ firstBadEdge edges groups metas)
 
 abbrev μ-loop : tie.MeasureT-loop
-μ-loop edges n groups metas i₀ i = n - i
+μ-loop edges groups metas n i₀ i = n - i
 
 loop-holds : tie.Need-loop-holds Inv-loop μ-loop
 unfolding firstBadEdge
 loop-holds c =
     let a = c .before .args in
-    (omega arith, seek-start (badEdge (a .edges .now) (a .groups) (a .metas)) (a .n))
+    (omega arith, seek-start (bad (a .edges .now) (a .groups) (a .metas)) (length (a .edges .now) / 8))
 
 is-bad-edge-requires : tie.Need-is-bad-edge-requires Inv-loop μ-loop
 is-bad-edge-requires c κs = search needs
@@ -30,8 +33,8 @@ is-bad-edge-requires c κs = search needs
 returns : tie.Need-returns Inv-loop μ-loop
 returns c =
     let a = c .before .before .before .before .before .args in
-    let i = c .before .before .before .loop .i in
-    sym (seek-stop (badEdge (a .edges .now) (a .groups) (a .metas)) i (a .n) (c .before .before .loop-test .taken) (sym (c .before .is-bad-edge .ensures) ∙ c .if1 .taken)) ∙ c .before .before .before .loop .inv .1
+    let lp = c .before .before .before .loop in
+    sym (seek-stop (bad (a .edges .now) (a .groups) (a .metas)) (lp .i) (length (a .edges .now) / 8) (c .before .before .loop-test .taken) (sym (c .before .is-bad-edge .ensures) ∙ c .if1 .taken)) ∙ lp .inv .1
 
 add-i : tie.Need-add-i Inv-loop μ-loop
 add-i c = search needs
@@ -42,15 +45,15 @@ loop-less c = search needs
 loop-again : tie.Need-loop-again Inv-loop μ-loop
 loop-again c =
     let a = c .before .before .before .before .before .args in
-    let i = c .before .before .before .loop .i in
-    (omega arith, sym (seek-on (badEdge (a .edges .now) (a .groups) (a .metas)) i (a .n) (c .before .before .loop-test .taken) (sym (c .before .is-bad-edge .ensures) ∙ c .if1 .left)) ∙ c .before .before .before .loop .inv .1)
+    let lp = c .before .before .before .loop in
+    (omega arith, sym (seek-on (bad (a .edges .now) (a .groups) (a .metas)) (lp .i) (length (a .edges .now) / 8) (c .before .before .loop-test .taken) (sym (c .before .is-bad-edge .ensures) ∙ c .if1 .left)) ∙ lp .inv .1)
 
 returns-2 : tie.Need-returns-2 Inv-loop μ-loop
 returns-2 c =
     let a = c .before .before .before .args in
-    let i = c .before .loop .i in
-    let e : i ≡ a .n = omega arith in
-    sym e ∙ sym (seek-end (badEdge (a .edges .now) (a .groups) (a .metas)) i (a .n) (c .loop-test .left)) ∙ c .before .loop .inv .1
+    let lp = c .before .loop in
+    let e : lp .i ≡ length (a .edges .now) / 8 = omega arith in
+    sym e ∙ sym (seek-end (bad (a .edges .now) (a .groups) (a .metas)) (lp .i) (length (a .edges .now) / 8) (c .loop-test .left)) ∙ lp .inv .1
 
 pub first-bad-edge-spec : {M : Type 1} → statement M
 first-bad-edge-spec =
