@@ -11,7 +11,7 @@ use borrow.Author.Tests.{lt-ltb, le-ltb, eq-eqb, ne-eqb}
 use Rattle.records.specs.declared.refusal.Refusal.{Refusal}
 use Rattle.records.specs.declared.refusal.Refusal.the-variants.{Size, Length, Field, Room}
 use Rattle.records.specs.declared.refusal.Tested.{Tested}
-use Rattle.records.specs.Tested.{first-refuses}
+use Rattle.records.specs.Tested.{fieldTested, first-refuses}
 use Rattle.records.specs.Tests.{both}
 use Rattle.records.specs.Le.{le, numberAt}
 use Rattle.records.specs.LeLaws.{value-le}
@@ -46,14 +46,9 @@ module _ (fixed : Bool) (rules : List ℕ) where
     unfolding testedRules
     tested-refused why e = first-refuses (testedLength fixed rules) _ why (sym is ∙ e)
 
-    module _ (passed : t ≡ Tested.Passed) (bad : ℕ) (first : bad ≡ firstBadRule fixed rules) where
-      pub tested-field : bad < length rules / 8 → Tested.Refused (Field bad) ≡ testedRules fixed rules
-      unfolding testedRules
-      tested-field h = rw (first, ← is, passed, lt-ltb (firstBadRule fixed rules) (length rules / 8) (rw first at h))
-
-      pub tested-passed : length rules / 8 ≤ bad → Tested.Passed ≡ testedRules fixed rules
-      unfolding testedRules
-      tested-passed h = rw (← is, passed, le-ltb (firstBadRule fixed rules) (length rules / 8) (rw first at h))
+    pub tested-on : t ≡ Tested.Passed → (bad : ℕ) → bad ≡ firstBadRule fixed rules → fieldTested bad (length rules / 8) ≡ testedRules fixed rules
+    unfolding testedRules
+    tested-on e bad first = rw (first, ← is, e)
 
 -- ---- a record that is read
 

@@ -8,7 +8,7 @@ use lib.Dec.{ltb, eqb}
 use Rattle.records.specs.declared.refusal.Refusal.the-variants.{Size, Length, Field, Room}
 use Rattle.records.specs.declared.refusal.Tested.{Tested}
 use Rattle.records.specs.Le.{le, numberAt}
-use Rattle.records.specs.Tested.{andThen}
+use Rattle.records.specs.Tested.{andThen, fieldTested}
 use Rattle.records.specs.Search.{seek}
 use Rattle.records.specs.Outcome.{Outcome, outcome}
 use Rattle.records.specs.Room.{fits, fitted}
@@ -56,9 +56,7 @@ testedLength fixed rules =
 
 -- then 9: the first that is no rule
 unfoldable pub testedRules : Bool → List ℕ → Tested
-testedRules fixed rules =
-    andThen (testedLength fixed rules)
-    (cond (ltb (firstBadRule fixed rules) (length rules / 8)) (Tested.Refused (Field (firstBadRule fixed rules))) Tested.Passed)
+testedRules fixed rules = andThen (testedLength fixed rules) (fieldTested (firstBadRule fixed rules) (length rules / 8))
 
 abbrev pub readOr : Tested → Read → Read
 readOr Tested.Passed found = found

@@ -83,10 +83,7 @@ pub fn test_rules(rules: &[u8], fixed: bool) -> Tested
         return Tested::Refused(why);
     }
     let bad = first_bad_rule(rules, fixed);
-    if bad < rules.len() / 8 {
-        return Tested::Refused(Refusal::Field(bad));
-    }
-    Tested::Passed
+    records::field_tested(bad, rules.len() / 8)
 }
 
 // Reads record r of a list of variable or of fixed rules.

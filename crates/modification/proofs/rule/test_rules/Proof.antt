@@ -1,6 +1,7 @@
 -- `test_rules` meets its contract. Assumes nothing.
+use mathlib.Core.Path.{_∙_}
 use denote.Ref.{now}
-use Rattle.modification.specs.RuleLaws.{tested-refused, tested-field, tested-passed}
+use Rattle.modification.specs.RuleLaws.{tested-refused, tested-on}
 use borrow.Author.Needs.{needs}
 use Rattle.modification.proofs.rule.test_rules.Statement.{statement}
 use Rattle.modification.proofs.rule.test_rules.Tie as tie
@@ -23,19 +24,16 @@ enum-told c = search needs
 first-bad-rule-requires : tie.Need-first-bad-rule-requires
 first-bad-rule-requires c κs = search needs
 
+field-tested-requires : tie.Need-field-tested-requires
+field-tested-requires c κs = search needs
+
 returns-2 : tie.Need-returns-2
 returns-2 c =
     let a = c .before .before .before .before .before .before .args in
     let t = c .before .before .before .before .test-length in
     let f = c .before .first-bad-rule in
-    tested-field (a .fixed) (now (a .rules)) (t .result) (t .ensures) (c .before .before .enum-told .given .1) (f .result) (f .ensures) (c .if1 .taken)
-
-returns-3 : tie.Need-returns-3
-returns-3 c =
-    let a = c .before .before .before .before .before .before .args in
-    let t = c .before .before .before .before .test-length in
-    let f = c .before .first-bad-rule in
-    tested-passed (a .fixed) (now (a .rules)) (t .result) (t .ensures) (c .before .before .enum-told .given .1) (f .result) (f .ensures) (c .if1 .left)
+    c .field-tested .ensures
+    ∙ tested-on (a .fixed) (now (a .rules)) (t .result) (t .ensures) (c .before .before .enum-told .given .1) (f .result) (f .ensures)
 
 pub test-rules-spec : {M : Type 1} → statement M
 test-rules-spec =
@@ -46,5 +44,5 @@ test-rules-spec =
     returns
     enum-told
     first-bad-rule-requires
-    returns-2
-    returns-3)
+    field-tested-requires
+    returns-2)
