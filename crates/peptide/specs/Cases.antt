@@ -4,7 +4,7 @@
 use Prim.Native.Nat.{ℕ}
 use mathlib.Core.Path.{refl}
 use mathlib.Core.Bool.{false}
-use mathlib.Core.List.{List, [], _∷_, _++_, map}
+use mathlib.Core.List.{List, [], _∷_, _++_, map, flatten}
 use lib.ListN.{take, replicate}
 use Rattle.records.specs.Le.{numberAt}
 use Rattle.records.specs.Cases.{Case, Hold, refused}
@@ -12,16 +12,14 @@ use Rattle.records.specs.Refusals.{numberOf, placeOf}
 use Rattle.records.specs.declared.refusal.Tested.{Tested}
 use Rattle.records.specs.Search.{seek}
 use Rattle.letters.specs.Letters.{isLetter, firstBad}
-use Rattle.peptide_choices.specs.Choices.{choicesOf, bySize, keep}
-use Rattle.peptide_slots.specs.Sites.{ifHit, hitFrom, placesOf, slotsOf, sitesFrom, allSites}
-use Rattle.peptide_slots.specs.Filling.{apply}
+use Rattle.peptide_choices.specs.Choices.{choicesOf, bySize}
 use Rattle.peptide_slots.specs.Mirror.{allZero}
-use Rattle.peptide_forms.specs.Passing.{free, uses, slotsOnce, inLimits, passes}
-use Rattle.peptide_forms.specs.Enumeration.{noCap, accepted, choices, chosen, formOf}
+use Rattle.peptide_forms.specs.Enumeration.{noCap, accepted}
 use Rattle.peptide.specs.declared.making.Peptide.{Peptide}
 use Rattle.peptide.specs.declared.making.Made.{Made}
 use Rattle.peptide.specs.Peptides.{clear, testedContents, testedForm, given, madeOfForm}
-use Rattle.peptide.specs.Forms.{formsOf}
+use Rattle.peptide.specs.Sites.{sitesOf, passes, filled}
+use Rattle.peptide.specs.Forms.{choices, formOf, formsOf}
 
 abbrev MAM : List ℕ
 MAM = 77 ∷ 65 ∷ 77 ∷ []
@@ -94,5 +92,5 @@ table =
     ∷ []
 
 pub cases : Hold table
-unfolding seek isLetter firstBad allZero clear testedContents testedForm formsOf choices accepted keep bySize choicesOf passes slotsOnce inLimits free uses numberAt allSites sitesFrom slotsOf placesOf hitFrom ifHit formOf apply chosen
+unfolding seek isLetter firstBad flatten allZero clear testedContents testedForm formsOf choices accepted bySize choicesOf passes numberAt sitesOf formOf filled
 cases = refl

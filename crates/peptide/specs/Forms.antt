@@ -1,21 +1,25 @@
--- Document 01, "Peptides and their forms": what a call of `forms` answers, and what its buffer holds then. Of its refusals
--- the order is 1, 8, 2 and 9 of the peptide, 9 of the variable rules, 9 of the fixed ones, 11.
+-- Document 01: "The first form is the unchanged peptide. Then for n = 1 to the combination limit, all n-element choices of
+-- sites in lexicographic order, skipping those that .. Fixed rules then go over every form, in list order." What a call of
+-- `forms` answers, and what its buffer holds then; the order of its refusals is 1, 8, 2 and 9 of the peptide, 9 of the
+-- variable rules, 9 of the fixed ones, 11.
 use Prim.Native.Nat.{ℕ, _/_, _%_}
 use mathlib.Core.Bool.{Bool, true, false, cond, not, _&&_, _||_}
 use mathlib.Core.List.{List, [], _∷_, map}
-use lib.ListN.{length}
+use lib.ListN.{length, getD}
 use lib.Dec.{ltb, eqb}
-use Rattle.records.specs.declared.refusal.Refusal.the-variants.{Size, Length, Field, Room}
+use Rattle.records.specs.declared.refusal.Refusal.the-variants.{Size, Length, Room}
 use Rattle.records.specs.declared.refusal.Tested.{Tested}
 use Rattle.records.specs.Outcome.{Outcome, outcome, unlessRefused}
 use Rattle.records.specs.Room.{fits, fitted}
 use Rattle.modification.specs.Rules.{firstBadRule, mostRules}
-use Rattle.peptide_slots.specs.Sites.{allSites}
-use Rattle.peptide_forms.specs.Enumeration.{mostForms, choices, formOf}
+use Rattle.sorting.specs.Distinct.{keep}
+use Rattle.peptide_choices.specs.Choices.{bySize}
+use Rattle.peptide_forms.specs.Enumeration.{mostForms, accepted}
 use Rattle.peptide.specs.declared.making.Peptide.{Peptide}
 use Rattle.records.specs.declared.refusal.Counted.{Counted}
-use Rattle.records.specs.Tested.{andThen}
+use Rattle.records.specs.Tested.{andThen, fieldTested}
 use Rattle.peptide.specs.Peptides.{wrongSize, testedContents}
+use Rattle.peptide.specs.Sites.{Site, site, sitesOf, passes, filled}
 
 -- ---- the tests
 
@@ -29,10 +33,7 @@ notWhole variable fixed = not (eqb (length variable % 8) 0 && eqb (length fixed 
 
 -- 9: the first record that is no rule
 unfoldable pub testedLists : List ℕ → List ℕ → Tested
-testedLists variable fixed =
-    cond (ltb (firstBadRule false variable) (length variable / 8)) (Tested.Refused (Field (firstBadRule false variable)))
-    (cond (ltb (firstBadRule true fixed) (length fixed / 8)) (Tested.Refused (Field (firstBadRule true fixed)))
-    Tested.Passed)
+testedLists variable fixed = andThen (fieldTested (firstBadRule false variable) (length variable / 8)) (fieldTested (firstBadRule true fixed) (length fixed / 8))
 
 unfoldable pub testedForms : Peptide → List ℕ → List ℕ → ℕ → Tested
 unfolding testedContents testedLists
@@ -47,13 +48,24 @@ testedForms p variable fixed limit =
 abbrev pub bare : Peptide → List ℕ
 bare p = p .nterm ∷ p .cterm ∷ p .ids
 
-abbrev pub sitesOf : Peptide → List ℕ → List ℕ
-sitesOf p rules = allSites (p .letters) (p .len) (p .position) rules
+-- the sites at the chosen places
+abbrev pub chosen : List Site → List ℕ → List Site
+chosen sites c = map (λ (k : ℕ). getD sites k (site 0 0)) c
+
+-- the choices that make forms, each a list of places among the sites, the empty one first
+unfoldable pub choices : List Site → List ℕ → ℕ → ℕ → List (List ℕ)
+unfolding accepted bySize passes
+choices sites rules limit cap = [] ∷ accepted cap 1 (keep (λ (c : List ℕ). passes rules (chosen sites c)) (bySize (length sites) 1 limit))
+
+-- a form: the chosen sites of the variable rules, then all sites of the fixed ones
+unfoldable pub formOf : Peptide → List ℕ → List ℕ → List ℕ → List ℕ
+unfolding filled sitesOf
+formOf p variable fixed c = filled fixed (filled variable (bare p) (chosen (sitesOf p variable) c)) (sitesOf p fixed)
 
 -- of at most `limit` variable sites each, at most `cap` in all
 unfoldable pub formsOf : Peptide → List ℕ → List ℕ → ℕ → ℕ → List (List ℕ)
-unfolding choices formOf allSites
-formsOf p variable fixed limit cap = map (formOf (bare p) (sitesOf p variable) variable (sitesOf p fixed) fixed) (choices (sitesOf p variable) variable limit cap)
+unfolding choices formOf
+formsOf p variable fixed limit cap = map (formOf p variable fixed) (choices (sitesOf p variable) variable limit cap)
 
 -- ---- the answer
 

@@ -12,9 +12,10 @@ ghost use lib.ListN.{length, replicate};
 ghost use Rattle.records.specs.Outcome.{outcome};
 ghost use Rattle.peptide_slots.specs.Sites.{allSites};
 ghost use Rattle.peptide_slots.specs.Filling.{apply};
-ghost use Rattle.peptide_forms.specs.Enumeration.{choices};
+ghost use Rattle.peptide_forms.specs.Packed.{choices};
 ghost use Rattle.peptide_forms.specs.RunLaws.{quick};
-ghost use Rattle.peptide.specs.Forms.{formsOf, listed, formsOutcome};
+ghost use Rattle.peptide.specs.Forms.{listed, formsOutcome};
+ghost use Rattle.peptide.specs.PackedLaws.{packedForms};
 
 // What the fixed rules put into an empty form.
 fn fixed_table(letters: [u8; 64], n: usize, position: u8, fixed: &[u8]) -> Form
@@ -58,7 +59,7 @@ fn list_all(
 // The forms of a peptide whose tests passed.
 fn run(p: Peptide, variable: &[u8], fixed: &[u8], limit: u32, cap: u32, out: &mut [u8]) -> Counted
     requires { ⌜ (p .len ≤ 64) × (length (now variable) ≤ 256) × (length (now fixed) ≤ 256) × (limit ≤ 8) ⌝ }
-    ensures { λ r. ⌜ outcome r (now (out .exit) ∷ []) ≡ listed (now (out .entry)) (formsOf p (now (variable .entry)) (now (fixed .entry)) limit cap) ⌝ }
+    ensures { λ r. ⌜ outcome r (now (out .exit) ∷ []) ≡ listed (now (out .entry)) (packedForms p (now (variable .entry)) (now (fixed .entry)) limit cap) ⌝ }
 {
     let n = p.len as usize;
     let letters = p.letters;

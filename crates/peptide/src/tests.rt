@@ -79,14 +79,11 @@ fn test_lists(variable: &[u8], fixed: &[u8]) -> Tested
     ensures { λ r. ⌜ r ≡ testedLists (now (variable .entry)) (now (fixed .entry)) ⌝ }
 {
     let v = modification::first_bad_rule(variable, false);
-    if v < variable.len() / 8 {
-        return Tested::Refused(Refusal::Field(v));
+    if let Tested::Refused(why) = records::field_tested(v, variable.len() / 8) {
+        return Tested::Refused(why);
     }
     let f = modification::first_bad_rule(fixed, true);
-    if f < fixed.len() / 8 {
-        return Tested::Refused(Refusal::Field(f));
-    }
-    Tested::Passed
+    records::field_tested(f, fixed.len() / 8)
 }
 
 // The tests before forms are listed.

@@ -1,7 +1,8 @@
--- What a reader has to believe: Passing, Enumeration. The files named Laws say what follows; RunLaws has what the listing
--- goes by.
-pub mod Passing
+-- What a reader has to believe: Enumeration. Passing and Packed say what the code goes by, and the files named Laws what
+-- follows; RunLaws has what the listing goes by.
 pub mod Enumeration
+pub mod Passing
+pub mod Packed
 pub mod PassingLaws
 pub mod SizeLaws
 pub mod UsedLaws

@@ -1,10 +1,10 @@
--- Document 01: of the choices of sites those are skipped "that use a slot twice or a rule more often than its own limit". A
--- choice is the list of its places in the list of sites.
+-- Which choices pass, each site one number as in peptide_slots' Sites: how the code says it. A choice is the list of its
+-- places in the list of sites. The public statement does not cite this.
 use Prim.Native.Nat.{ℕ, _+_}
 use mathlib.Core.Bool.{Bool, true, cond, not, _&&_}
 use mathlib.Core.List.{List, [], _∷_}
 use lib.ListN.{getD}
-use lib.Dec.{leb, ltb, eqb}
+use lib.Dec.{leb, eqb}
 use Rattle.peptide_slots.specs.Sites.{slotOf, ruleOf, limitAt}
 
 abbrev pub siteSlot : List ℕ → ℕ → ℕ
@@ -42,8 +42,3 @@ inLimits sites rules choice (k ∷ ks) = leb (uses sites (siteRule sites k) choi
 unfoldable pub passes : List ℕ → List ℕ → List ℕ → Bool
 unfolding slotsOnce inLimits
 passes sites rules c = slotsOnce sites c && inLimits sites rules c c
-
--- place k may join places that pass: its slot is free among them, and its rule has a use left
-unfoldable pub joined : List ℕ → List ℕ → List ℕ → ℕ → Bool
-unfolding free uses
-joined sites rules p k = free sites (siteSlot sites k) p && ltb (uses sites (siteRule sites k) p) (limitAt rules (siteRule sites k))

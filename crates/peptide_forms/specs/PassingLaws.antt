@@ -9,8 +9,13 @@ use lib.ListN.{length, getD, take, drop, take-append-drop}
 use lib.Seq.{take-suc}
 use lib.Dec.{leb, ltb, eqb}
 use borrow.Author.Tests.{le-leb, lt-leb, ltb-true, ltb-false, eqb-true, eqb-false, eq-eqb, ne-eqb}
-use Rattle.peptide_forms.specs.Passing.{free, inLimits, joined, one, passes, siteRule, siteSlot, slotsOnce, uses}
+use Rattle.peptide_forms.specs.Passing.{free, inLimits, one, passes, siteRule, siteSlot, slotsOnce, uses}
 use Rattle.peptide_slots.specs.Sites.{limitAt}
+
+-- place k may join places that pass: its slot is free among them, and its rule has a use left
+unfoldable pub joined : List ℕ → List ℕ → List ℕ → ℕ → Bool
+unfolding free uses
+joined sites rules p k = free sites (siteSlot sites k) p && ltb (uses sites (siteRule sites k) p) (limitAt rules (siteRule sites k))
 
 eqb-sym : (a b : ℕ) → eqb a b ≡ eqb b a
 eqb-sym a b = go (eqb a b) refl
@@ -20,7 +25,7 @@ eqb-sym a b = go (eqb a b) refl
     go false h = sym (ne-eqb b a (λ (e : b ≡ a). eqb-false a b h (sym e)))
 
 -- the middle two of four tests change places
-swap : (a b c d : Bool) → (a && b) && (c && d) ≡ (a && c) && (b && d)
+pub swap : (a b c d : Bool) → (a && b) && (c && d) ≡ (a && c) && (b && d)
 swap true true c d = refl
 swap true false true d = refl
 swap true false false d = refl

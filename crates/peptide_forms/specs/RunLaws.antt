@@ -19,7 +19,8 @@ use Rattle.peptide_slots.specs.FillLaws.{apply-on, apply-end, length-apply}
 use Rattle.peptide_slots.specs.Overlays.{overlay}
 use Rattle.peptide_slots.specs.OverlayLaws.{length-overlay}
 use Rattle.peptide_forms.specs.declared.listing.Listed.{Listed}
-use Rattle.peptide_forms.specs.Enumeration.{mostForms, noCap, reached, accepted, chosen}
+use Rattle.peptide_forms.specs.Enumeration.{mostForms, noCap, reached, accepted}
+use Rattle.peptide_forms.specs.Packed.{chosen}
 
 -- ---- the cap
 

@@ -10,7 +10,8 @@ use lib.Seq.{length-take-le}
 use Rattle.peptide_choices.specs.Choices.{choicesOf, bySize, keep}
 use Rattle.peptide_choices.specs.KeepLaws.{keep-append, keep-no}
 use Rattle.peptide_choices.specs.ListingLaws.{Ascending, In, choices-all, choices-only}
-use Rattle.peptide_forms.specs.Enumeration.{accepted, choices}
+use Rattle.peptide_forms.specs.Enumeration.{accepted}
+use Rattle.peptide_forms.specs.Packed.{choices}
 use Rattle.peptide_forms.specs.Passing.{passes}
 use Rattle.peptide_forms.specs.PassingLaws.{bad-append}
 

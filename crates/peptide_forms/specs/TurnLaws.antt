@@ -12,8 +12,8 @@ use lib.Dec.{ltb, eqb}
 use Rattle.peptide_choices.specs.KeepLaws.{Sound, skipped-never}
 use Rattle.peptide_choices.specs.ListingLaws.{In}
 use Rattle.peptide_choices.specs.PruneLaws.{Cut}
-use Rattle.peptide_forms.specs.Passing.{free, joined, one, passes, siteRule, siteSlot, uses}
-use Rattle.peptide_forms.specs.PassingLaws.{bad-begin, join-more, passes-none}
+use Rattle.peptide_forms.specs.Passing.{free, one, passes, siteRule, siteSlot, uses}
+use Rattle.peptide_forms.specs.PassingLaws.{bad-begin, join-more, joined, passes-none}
 use Rattle.peptide_slots.specs.Sites.{limitAt}
 
 -- of the places xs, the first i are looked at

@@ -12,30 +12,31 @@ use Rattle.peptide_choices.specs.Choices.{choicesOf, bySize, keep}
 use Rattle.peptide_choices.specs.KeepLaws.{keep-append, keep-no}
 use Rattle.peptide_slots.specs.Sites.{ifHit, limitAt, ruleOf, slotOf}
 use Rattle.peptide_slots.specs.Used.{idle, used}
-use Rattle.peptide_forms.specs.Enumeration.{accepted, choices, chosen, reached}
+use Rattle.peptide_forms.specs.Enumeration.{accepted, reached}
+use Rattle.peptide_forms.specs.Packed.{choices, chosen}
 use Rattle.peptide_forms.specs.Passing.{free, inLimits, one, passes, slotsOnce, uses}
 
 -- ---- the tests of a choice, on the list of its sites
 
-unfoldable freeIn : ℕ → List ℕ → Bool
+unfoldable pub freeIn : ℕ → List ℕ → Bool
 freeIn slot [] = true
 freeIn slot (x ∷ xs) = not (eqb (slotOf x) slot) && freeIn slot xs
 
-unfoldable usesIn : ℕ → List ℕ → ℕ
+unfoldable pub usesIn : ℕ → List ℕ → ℕ
 usesIn rule [] = 0
 usesIn rule (x ∷ xs) = one (eqb (ruleOf x) rule) + usesIn rule xs
 
-unfoldable onceIn : List ℕ → Bool
+unfoldable pub onceIn : List ℕ → Bool
 unfolding freeIn
 onceIn [] = true
 onceIn (x ∷ xs) = freeIn (slotOf x) xs && onceIn xs
 
-unfoldable limitsIn : List ℕ → List ℕ → List ℕ → Bool
+unfoldable pub limitsIn : List ℕ → List ℕ → List ℕ → Bool
 unfolding usesIn
 limitsIn rules whole [] = true
 limitsIn rules whole (x ∷ xs) = leb (usesIn (ruleOf x) whole) (limitAt rules (ruleOf x)) && limitsIn rules whole xs
 
-unfoldable fine : List ℕ → List ℕ → Bool
+unfoldable pub fine : List ℕ → List ℕ → Bool
 unfolding onceIn limitsIn
 fine rules xs = onceIn xs && limitsIn rules xs xs
 
@@ -65,7 +66,7 @@ module _ (sites rules : List ℕ) where
       ∙ ap (λ (t : Bool). leb (usesIn (ruleOf (getD sites k 0)) (chosen sites whole)) (limitAt rules (ruleOf (getD sites k 0))) && t) (limits-chosen whole c)
 
   -- whether a choice passes is seen by its sites
-  passes-chosen : (c : List ℕ) → passes sites rules c ≡ fine rules (chosen sites c)
+  pub passes-chosen : (c : List ℕ) → passes sites rules c ≡ fine rules (chosen sites c)
   unfolding passes fine
   passes-chosen c =
       ap (λ (t : Bool). t && inLimits sites rules c c) (once-chosen c)
@@ -117,7 +118,7 @@ keep-map f ok (x ∷ xs) = go (ok (f x)) (keep-map f ok xs)
     go true r = ap (λ (z : List (List ℕ)). f x ∷ z) r
     go false r = r
 
-keep-as : (ok test : List ℕ → Bool) (xs : List (List ℕ)) → ((c : List ℕ) → ok c ≡ test c) → keep ok xs ≡ keep test xs
+pub keep-as : (ok test : List ℕ → Bool) (xs : List (List ℕ)) → ((c : List ℕ) → ok c ≡ test c) → keep ok xs ≡ keep test xs
 unfolding keep
 keep-as ok test [] h = refl
 keep-as ok test (x ∷ xs) h =

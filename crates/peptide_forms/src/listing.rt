@@ -10,7 +10,8 @@ ghost use Rattle.records.specs.Room.{roomOf};
 ghost use Rattle.peptide_choices.specs.Choices.{bySize};
 ghost use Rattle.peptide_slots.specs.Filling.{apply};
 ghost use Rattle.peptide_forms.specs.Passing.{passes};
-ghost use Rattle.peptide_forms.specs.Enumeration.{mostForms, chosen};
+ghost use Rattle.peptide_forms.specs.Enumeration.{mostForms};
+ghost use Rattle.peptide_forms.specs.Packed.{chosen};
 ghost use Rattle.peptide_forms.specs.RunLaws.{todo, quick, Finished};
 
 // Whether all forms have room, and how many stand there.

@@ -3,7 +3,8 @@ use peptide_choices::Choice;
 ghost use mathlib.Core.Path.{_≡_};
 ghost use Prim.Native.Nat.{_≤_, _<_};
 ghost use lib.ListN.{take, getD};
-ghost use Rattle.peptide_forms.specs.Passing.{one, joined};
+ghost use Rattle.peptide_forms.specs.Passing.{one};
+ghost use Rattle.peptide_forms.specs.PassingLaws.{joined};
 ghost use Rattle.peptide_forms.specs.TurnLaws.{Seen, Reached};
 
 // Whether a slot is free among some places, and how often they use a rule.

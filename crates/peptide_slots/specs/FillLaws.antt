@@ -1,4 +1,4 @@
--- What a run of sites does to a form: a filled slot keeps its id, the length stays. Assumes nothing.
+-- What filling does to a form: a filled slot keeps its id, the length stays. Assumes nothing.
 use Prim.Native.Nat.{ℕ, _+_, _≤_, _<_}
 use mathlib.Core.Path.{_≡_, refl, sym, ap, _∙_, subst}
 use mathlib.Core.List.{List, [], _∷_, _++_, append-nil}
@@ -9,18 +9,17 @@ use lib.ListN.{length, getD, drop, set, length-set, drop-of-length-le, replicate
 use lib.Seq.{sets, sets-eq, drop-cons, getD-set-same, getD-set-other, set-out}
 use borrow.Author.Tests.{ne-eqb}
 use Rattle.records.specs.Tests.{same?, below?}
-use Rattle.peptide_slots.specs.Hits.{fill}
-use Rattle.peptide_slots.specs.Sites.{idAt, slotOf, ruleOf}
-use Rattle.peptide_slots.specs.Filling.{fillAt, fillSite, apply}
+use Rattle.peptide_slots.specs.Hits.{fill, fillAt}
+use Rattle.peptide_slots.specs.Sites.{slotOf}
+use Rattle.peptide_slots.specs.Filling.{fillSite, apply}
 
 pub length-apply : (rules form sites : List ℕ) → length (apply rules form sites) ≡ length form
 unfolding apply
 length-apply rules form [] = refl
 length-apply rules form (s ∷ ss) = length-apply rules (fillSite rules form s) ss ∙ length-set form (slotOf s) _
 
--- ---- a filled slot is never overwritten
-
-fill-at-keeps : (form : List ℕ) (slot id k : ℕ) → (getD form k 0 ≡ 0 → ⊥) → getD (fillAt form slot id) k 0 ≡ getD form k 0
+-- a filled slot is never overwritten
+pub fill-at-keeps : (form : List ℕ) (slot id k : ℕ) → (getD form k 0 ≡ 0 → ⊥) → getD (fillAt form slot id) k 0 ≡ getD form k 0
 fill-at-keeps form slot id k h = go (same? k slot)
   where
     inside : (k < length form) ⊎ (length form ≤ k) → getD (fillAt form k id) k 0 ≡ getD form k 0
@@ -30,14 +29,6 @@ fill-at-keeps form slot id k h = go (same? k slot)
     go : (k ≡ slot) ⊎ (k ≡ slot → ⊥) → getD (fillAt form slot id) k 0 ≡ getD form k 0
     go (inl e) = subst (λ (z : ℕ). getD (fillAt form z id) k 0 ≡ getD form k 0) e (inside (below? k (length form)))
     go (inr e) = getD-set-other form slot k (fill id (getD form slot 0)) 0 e
-
--- the law: no run of sites, of fixed rules or of variable ones, changes a slot that is filled
-pub filled-stays : (rules form sites : List ℕ) (k : ℕ) → (getD form k 0 ≡ 0 → ⊥) → getD (apply rules form sites) k 0 ≡ getD form k 0
-unfolding apply
-filled-stays rules form [] k h = refl
-filled-stays rules form (s ∷ ss) k h =
-    let e : getD (fillSite rules form s) k 0 ≡ getD form k 0 = fill-at-keeps form (slotOf s) (idAt rules (ruleOf s)) k h in
-    filled-stays rules (fillSite rules form s) ss k (λ (z : getD (fillSite rules form s) k 0 ≡ 0). h (sym e ∙ z)) ∙ e
 
 -- ---- loops: what is left gives the whole
 

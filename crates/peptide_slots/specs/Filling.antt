@@ -1,12 +1,9 @@
--- Forms of 66 slots: what a run of sites makes of one. Document 01: "Fixed rules then go over every form, in list order."
+-- What a run of sites makes of a form, each site one number as in Sites: how the code says it. The public statement does not
+-- cite this.
 use Prim.Native.Nat.{ℕ}
 use mathlib.Core.List.{List, [], _∷_}
-use lib.ListN.{getD, set}
-use Rattle.peptide_slots.specs.Hits.{fill}
+use Rattle.peptide_slots.specs.Hits.{fillAt}
 use Rattle.peptide_slots.specs.Sites.{idAt, slotOf, ruleOf}
-
-abbrev pub fillAt : List ℕ → ℕ → ℕ → List ℕ
-fillAt form slot id = set form slot (fill id (getD form slot 0))
 
 -- a site: its slot takes its rule's id, unless it is filled
 abbrev pub fillSite : List ℕ → List ℕ → ℕ → List ℕ

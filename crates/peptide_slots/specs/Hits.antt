@@ -3,6 +3,8 @@
 -- 0 Nterm, 1 Cterm, 2 Full, 3 Internal. A rule's letter is 0 for none.
 use Prim.Native.Nat.{ℕ, _+_}
 use mathlib.Core.Bool.{Bool, cond, not, _&&_, _||_}
+use mathlib.Core.List.{List}
+use lib.ListN.{getD, set}
 use lib.Dec.{eqb}
 
 -- a rule of the first place: `^`, and `[` where the peptide starts its protein
@@ -20,3 +22,6 @@ hitsAt kind pos letter n k x = not (eqb letter 0) && (eqb x letter && (eqb kind 
 -- an empty slot takes the id, a filled one is never overwritten
 abbrev pub fill : ℕ → ℕ → ℕ
 fill id old = cond (eqb old 0) id old
+
+abbrev pub fillAt : List ℕ → ℕ → ℕ → List ℕ
+fillAt form slot id = set form slot (fill id (getD form slot 0))

@@ -1,10 +1,10 @@
--- What a reader has to believe: Hits, Sites, Filling, Mirror, Windows. Overlays and Used say what the code goes by, and the
+-- What a reader has to believe: Hits, Mirror, Windows. Sites, Filling, Overlays and Used say what the code goes by, and the
 -- files named Laws what follows.
 pub mod Hits
-pub mod Sites
-pub mod Filling
 pub mod Mirror
 pub mod Windows
+pub mod Sites
+pub mod Filling
 pub mod Overlays
 pub mod Used
 pub mod WroteLaws

@@ -9,9 +9,9 @@ use native.Mathlib.Nat.{le-of-suc-le-suc, not-suc-le-zero, add-suc, suc-add, add
 use lib.Dec.{eqb, eqb·suc-zero}
 use lib.ListN.{length, getD, set, replicate, length-set, length-replicate, getD-replicate}
 use lib.Seq.{ext-getD, getD-set-same, getD-set-other}
-use Rattle.peptide_slots.specs.Hits.{fill}
+use Rattle.peptide_slots.specs.Hits.{fill, fillAt}
 use Rattle.peptide_slots.specs.Sites.{idAt, slotOf, ruleOf}
-use Rattle.peptide_slots.specs.Filling.{fillAt, fillSite, apply}
+use Rattle.peptide_slots.specs.Filling.{fillSite, apply}
 use Rattle.peptide_slots.specs.Overlays.{mapAt, overlay}
 
 pub length-mapAt : (f : ℕ → ℕ → ℕ) (k : ℕ) (xs : List ℕ) → length (mapAt f k xs) ≡ length xs

@@ -1,5 +1,5 @@
--- Document 01: "Sites: variable rules in order, each rule's sites ascending." The slots of a form are 0, the N-terminal one,
--- 1, the C-terminal one, and 2 + k, that of residue k. A site is one number: 128 x the place of its rule + its slot.
+-- Sites as the code has them, each one number: 128 x the place of its rule + its slot. The slots of a form are 0, the
+-- N-terminal one, 1, the C-terminal one, and 2 + k, that of residue k. The public statement does not cite this.
 use Prim.Native.Nat.{ℕ, zero, suc, _+_, _*_, _/_, _%_}
 use mathlib.Core.Bool.{Bool, cond, _&&_}
 use mathlib.Core.List.{List, [], _∷_, _++_}

@@ -1,7 +1,7 @@
 -- `test_forms` meets its contract: one test after the other. Assumes nothing.
 use mathlib.Core.Path.{sym, _∙_}
 use denote.Ref.{now}
-use Rattle.peptide.specs.FormLaws.{tested-large, large-fits, tested-whole, tested-contents, tested-lists}
+use Rattle.peptide.specs.FormLaws.{tested-large, sizes-fit, tested-whole, tested-contents, tested-lists}
 use borrow.Author.Needs.{needs}
 use Rattle.peptide.proofs.tests.test_forms.Statement.{statement}
 use Rattle.peptide.proofs.tests.test_forms.Tie as tie
@@ -25,7 +25,7 @@ returns-2 c =
 test-contents-requires : tie.Need-test-contents-requires
 test-contents-requires c κs =
     let a = c .before .before .before .before .before .before .args in
-    large-fits (a .p) (now (a .variable)) (now (a .fixed)) (a .limit) (sym (c .before .before .before .too-large .ensures) ∙ c .before .before .if1 .left)
+    sizes-fit (a .p .len) (now (a .variable)) (now (a .fixed)) (a .limit) (sym (c .before .before .before .too-large .ensures) ∙ c .before .before .if1 .left) .0
 
 enum-known-why : tie.Need-enum-known-why
 enum-known-why c = search needs

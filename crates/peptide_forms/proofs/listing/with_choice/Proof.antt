@@ -5,7 +5,7 @@ use mathlib.Core.List.{List}
 use native.Mathlib.Omega.{arith}
 use lib.ListN.{length, take, drop}
 use borrow.Author.Needs.{needs}
-use Rattle.peptide_forms.specs.Enumeration.{chosen}
+use Rattle.peptide_forms.specs.Packed.{chosen}
 use Rattle.peptide_forms.specs.RunLaws.{chosen-end, chosen-on}
 use Rattle.peptide_slots.specs.Filling.{apply}
 use Rattle.peptide_forms.proofs.listing.with_choice.Statement.{statement}
