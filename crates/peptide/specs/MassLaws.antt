@@ -7,7 +7,7 @@ use native.Mathlib.Omega.{arith}
 use native.Mathlib.Numerals.{add-one}
 use lib.ListN.{length, getD, drop, drop-of-length-le}
 use lib.Seq.{drop-cons}
-use lib.Dec.{ltb, eqb}
+use lib.Dec.{leb, ltb, eqb}
 use lib.IntN.{pos}
 use lib.Ieee.{Float, fin, binary32, add, eq}
 use borrow.Author.Tests.{le-leb, lt-leb, lt-ltb, le-ltb, ltb-false, eqb-true, eq-eqb, ne-eqb, not-false}
@@ -16,6 +16,7 @@ use Rattle.records.specs.declared.refusal.Refusal.the-variants.{Size, Letter, L
 use Rattle.records.specs.declared.refusal.Tested.{Tested}
 use Rattle.records.specs.SearchLaws.{seek-before}
 use Rattle.records.specs.Tests.{neither}
+use Rattle.records.specs.Tested.{passed-both}
 use Rattle.letters.specs.Letters.{isLetter}
 use Rattle.letters.specs.LetterLaws.{letter-from, letter-to}
 use Rattle.peptide.specs.declared.mass.Weighed.{Weighed}
@@ -97,6 +98,10 @@ module _ (letters : List ℕ) (masses : List Float) where
     pub part-field : Tested.Passed ≡ testedLetters letters masses → 3 < position → Tested.Refused (Field 0) ≡ testedPart letters masses position
     unfolding testedPart
     part-field e h = rw (← e, lt-leb position 3 h)
+
+    pub part-fits : testedPart letters masses position ≡ Tested.Passed → length letters ≤ 64
+    unfolding testedPart
+    part-fits e = passed-weighable letters masses (passed-both (testedLetters letters masses) (cond (leb position 3) Tested.Passed (Tested.Refused (Field 0))) e .0) .few
 
   module _ (water : Float) where
     pub weighed-refused : (why : Refusal) → Tested.Refused why ≡ testedLetters letters masses → Weighed.Refused why ≡ weighed letters masses water

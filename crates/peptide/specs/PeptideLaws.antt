@@ -1,9 +1,8 @@
 -- What the tests of a peptide come to, and that reversing twice gives the peptide back. Assumes nothing.
 use Prim.Native.Nat.{ℕ, _≤_, _<_}
-use mathlib.Core.Path.{_≡_, refl, sym, ap, ap₂, _∙_, subst}
+use mathlib.Core.Path.{_≡_, refl, sym, ap, _∙_, subst}
 use mathlib.Core.Bool.{Bool, true, false, cond, true≢false, Bool·not-not}
 use mathlib.Core.List.{List}
-use native.Mathlib.Omega.{arith}
 use lib.ListN.{length}
 use lib.Dec.{ltb, eqb}
 use borrow.Author.Tests.{lt-ltb, le-ltb, ltb-false, eq-eqb, ne-eqb}
@@ -11,12 +10,12 @@ use Rattle.records.specs.declared.refusal.Refusal.{Refusal}
 use Rattle.records.specs.declared.refusal.Refusal.the-variants.{Size, Letter, Length, Field}
 use Rattle.records.specs.declared.refusal.Tested.{Tested}
 use Rattle.records.specs.Tests.{neither}
-use Rattle.records.specs.Tested.{passed-first, passed-second}
+use Rattle.records.specs.Tested.{andThen, first-refuses, first-passes, passed-both, passed-first}
 use Rattle.letters.specs.Letters.{firstBad}
 use Rattle.peptide_slots.specs.Mirror.{mirror}
 use Rattle.peptide_slots.specs.MirrorLaws.{mirror-mirror}
 use Rattle.peptide.specs.declared.making.Peptide.{Peptide}
-use Rattle.peptide.specs.Peptides.{wrongSize, lettersOf, clear, testedContents, testedPeptide, testedForm, given, none, madeOr, madeOfForm, reversed}
+use Rattle.peptide.specs.Peptides.{wrongSize, lettersOf, clear, testedContents, testedPeptide, testedForm, given, none, madeOr, reversed}
 
 pub size-fits : (n : ℕ) → wrongSize n ≡ false → n ≤ 64
 size-fits n h = ltb-false 64 n (neither (eqb n 0) (ltb 64 n) h .1)
@@ -59,34 +58,52 @@ module _ (p : Peptide) where
       go true e f = absurd (not-passed Size f)
       go false e f = size-fits (p .len) e
 
--- ---- a peptide and its form
+-- ---- letters and the form of their ids
 
-module _ (form : List ℕ) (p : Peptide) where
-  pub form-size : wrongSize (p .len) ≡ true → Tested.Refused Size ≡ testedForm form p
+module _ (letters form : List ℕ) where
+  pub form-size : wrongSize (length letters) ≡ true → Tested.Refused Size ≡ testedForm letters form
   unfolding testedForm
   form-size e = rw e
 
-  module _ (fits : wrongSize (p .len) ≡ false) where
-    pub form-length : (length form ≡ 66 → ⊥) → Tested.Refused Length ≡ testedForm form p
+  module _ (fits : wrongSize (length letters) ≡ false) where
+    pub form-length : (length form ≡ 66 → ⊥) → Tested.Refused Length ≡ testedForm letters form
     unfolding testedForm
     form-length h = rw (fits, ne-eqb (length form) 66 h)
 
-    pub form-contents : length form ≡ 66 → (r : Tested) → r ≡ testedContents p → r ≡ testedForm form p
+    pub form-whole : length form ≡ 66 → Tested.Passed ≡ testedForm letters form
     unfolding testedForm
-    form-contents h r e = e ∙ rw (fits, eq-eqb (length form) 66 h)
+    form-whole h = rw (fits, eq-eqb (length form) 66 h)
+
+  pub form-sized : testedForm letters form ≡ Tested.Passed → wrongSize (length letters) ≡ false
+  unfolding testedForm
+  form-sized h = passed-first (wrongSize (length letters)) Size (cond (eqb (length form) 66) Tested.Passed (Tested.Refused Length)) h .0
 
   -- a peptide that passes with its form passes alone: the other entries take what is made of a form
-  pub form-passes : testedForm form p ≡ Tested.Passed → testedPeptide p ≡ Tested.Passed
-  unfolding testedForm testedPeptide
-  form-passes h =
-      let a = passed-first (wrongSize (p .len)) Size (cond (eqb (length form) 66) (testedContents p) (Tested.Refused Length)) h in
-      rw (a .0) (passed-second (eqb (length form) 66) Length (testedContents p) (a .1) .1)
+  pub form-passes : (position : ℕ) (decoy : Bool) → andThen (testedForm letters form) (testedContents (given letters form position decoy)) ≡ Tested.Passed
+      → testedPeptide (given letters form position decoy) ≡ Tested.Passed
+  unfolding testedPeptide
+  form-passes position decoy h =
+      let b = passed-both (testedForm letters form) (testedContents (given letters form position decoy)) h in
+      rw (form-sized (b .0)) (b .1)
 
--- what the tests of a form answer decides which peptide is handed out
-pub made-of-form : (letters form : List ℕ) (position : ℕ) (decoy : Bool) (t : Tested) (p q : Peptide)
-    → t ≡ testedForm form p → p ≡ given letters form position decoy → q ≡ none → madeOr t p q ≡ madeOfForm letters form position decoy
-made-of-form letters form position decoy t p q e f g =
-    ap (λ (x : Tested). madeOr x p q) e ∙ ap₂ (λ (x y : Peptide). madeOr (testedForm form x) x y) f g
+  -- the tests of a form's record, one after the other
+  module _ (position : ℕ) (decoy : Bool) (t : Tested) (is : t ≡ testedForm letters form) where
+    abbrev new : Peptide
+    new = given letters form position decoy
+
+    pub of-form-refused : (why : Refusal) → t ≡ Tested.Refused why → andThen (testedForm letters form) (testedContents new) ≡ Tested.Refused why
+    of-form-refused why e = sym (first-refuses (testedForm letters form) (testedContents new) why (sym is ∙ e))
+
+    pub of-form-tested : t ≡ Tested.Passed → (p : Peptide) → p ≡ new → (u v : Tested) → u ≡ testedContents p → u ≡ v → andThen (testedForm letters form) (testedContents new) ≡ v
+    of-form-tested e p f u v g h = sym (first-passes (testedForm letters form) (testedContents new) (sym is ∙ e)) ∙ ap testedContents (sym f) ∙ sym g ∙ h
+
+-- where tests refuse, no peptide is made
+pub made-refused : (t : Tested) (why : Refusal) (p : Peptide) → t ≡ Tested.Refused why → madeOr (Tested.Refused why) none none ≡ madeOr t p none
+made-refused t why p e = ap (λ (x : Tested). madeOr x p none) (sym e)
+
+-- where they pass, it is what was made
+pub made-given : (t : Tested) (p q : Peptide) → t ≡ Tested.Passed → q ≡ p → madeOr Tested.Passed q none ≡ madeOr t p none
+made-given t p q e f = ap (λ (x : Peptide). madeOr Tested.Passed x none) f ∙ ap (λ (x : Tested). madeOr x p none) (sym e)
 
 -- ---- reversal
 

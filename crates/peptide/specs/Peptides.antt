@@ -1,13 +1,14 @@
 -- Document 01: "A peptide is a struct that holds its letters and ids in arrays of 64, places past the length 0 (else 9, place
 -- 0, after its letters)." "`Peptide::reverse` does so for letters and residue ids, terminals stay, and the decoy flag flips
 -- each time."
-use Prim.Native.Nat.{ℕ, min}
+use Prim.Native.Nat.{ℕ}
 use mathlib.Core.Bool.{Bool, false, cond, not, _&&_, _||_}
 use mathlib.Core.List.{List, []}
 use lib.ListN.{length, getD, take, drop}
 use lib.Dec.{leb, ltb, eqb}
 use Rattle.records.specs.declared.refusal.Refusal.the-variants.{Size, Letter, Length, Field}
 use Rattle.records.specs.declared.refusal.Tested.{Tested}
+use Rattle.records.specs.Tested.{andThen}
 use Rattle.letters.specs.Letters.{firstBad}
 use Rattle.peptide_slots.specs.Mirror.{mirror, allZero}
 use Rattle.peptide_slots.specs.Windows.{window}
@@ -40,12 +41,11 @@ unfoldable pub testedPeptide : Peptide → Tested
 unfolding testedContents
 testedPeptide p = cond (wrongSize (p .len)) (Tested.Refused Size) (testedContents p)
 
--- a peptide and the form that its ids came from: 1, 8: the form is not one record, 2, 9
-unfoldable pub testedForm : List ℕ → Peptide → Tested
-unfolding testedContents
-testedForm form p =
-    cond (wrongSize (p .len)) (Tested.Refused Size)
-    (cond (eqb (length form) 66) (testedContents p) (Tested.Refused Length))
+-- letters and the form of their ids: 1, then 8: the form is not one record
+unfoldable pub testedForm : List ℕ → List ℕ → Tested
+testedForm letters form =
+    cond (wrongSize (length letters)) (Tested.Refused Size)
+    (cond (eqb (length form) 66) Tested.Passed (Tested.Refused Length))
 
 -- the new peptide where the tests passed, else the other
 abbrev pub madeOr : Tested → Peptide → Peptide → Made
@@ -54,8 +54,7 @@ madeOr (Tested.Refused why) new other = record { tested = Tested.Refused why; pe
 
 -- ---- peptides
 
--- of some letters, with the ids of a form: both ends, then the residues. With no form it is unmodified. A length above 255 is
--- 255, which no peptide has either
+-- of 1 to 64 letters, with the ids of a form: both ends, then the residues. With no form it is unmodified
 abbrev pub given : List ℕ → List ℕ → ℕ → Bool → Peptide
 given letters form position decoy =
     record {
@@ -63,7 +62,7 @@ given letters form position decoy =
       ids = window 64 2 form;
       nterm = getD form 0 0;
       cterm = getD form 1 0;
-      len = min (length letters) 255;
+      len = length letters;
       position = position;
       decoy = decoy;
     }
@@ -72,9 +71,11 @@ given letters form position decoy =
 abbrev pub none : Peptide
 none = given [] [] 0 false
 
--- of a form's one record
+-- of a form's one record: 1, 8, then 2 and 9 of the peptide
 abbrev pub madeOfForm : List ℕ → List ℕ → ℕ → Bool → Made
-madeOfForm letters form position decoy = madeOr (testedForm form (given letters form position decoy)) (given letters form position decoy) none
+madeOfForm letters form position decoy =
+    let p = given letters form position decoy in
+    madeOr (andThen (testedForm letters form) (testedContents p)) p none
 
 abbrev pub reversed : Peptide → Peptide
 reversed p =

@@ -1,9 +1,13 @@
 // The peptide by value.
 use crate::mass;
 use crate::tests;
+use records::Refusal;
 use records::Tested;
 ghost use mathlib.Core.Path.{_≡_};
 ghost use mathlib.Core.List.{List, [], _∷_};
+ghost use Prim.Native.Nat.{_≤_};
+ghost use lib.ListN.{length};
+ghost use Rattle.records.specs.declared.refusal.Tested.the-variants.{Refused};
 ghost use Rattle.peptide.specs.Peptides.{testedPeptide, reversed, given, none, madeOr, madeOfForm};
 ghost use Rattle.peptide.specs.Masses.{testedPart};
 
@@ -25,15 +29,16 @@ pub struct Made {
     pub peptide: Peptide,
 }
 
-// The peptide of some letters with the ids of a form, untested.
+// The peptide of some letters with the ids of a form, its contents untested.
 fn given(letters: &[u8], form: &[u8], position: u8, decoy: bool) -> Peptide
+    requires { ⌜ length (now letters) ≤ 64 ⌝ }
     ensures { λ r. ⌜ r ≡ given (now (letters .entry)) (now (form .entry)) position decoy ⌝ }
 {
     let held = peptide_slots::window(letters, 0);
     let ids = peptide_slots::window(form, 2);
     let nterm = records::byte_at(form, 0);
     let cterm = records::byte_at(form, 1);
-    let len = peptide_slots::short(letters.len());
+    let len = letters.len() as u8;
     Peptide {
         letters: held,
         ids,
@@ -60,16 +65,26 @@ fn none() -> Peptide
     }
 }
 
+// What is answered where tests refuse.
+fn refused(why: Refusal) -> Made
+    ensures { λ r. ⌜ r ≡ madeOr (Refused why) none none ⌝ }
+{
+    let tested = Tested::Refused(why);
+    let peptide = none();
+    Made { tested, peptide }
+}
+
 impl Peptide {
     // The peptide of some letters with the ids of a form, one record of 66 bytes.
     pub fn of_form(letters: &[u8], form: &[u8], position: u8, decoy: bool) -> Made
         ensures { λ r. ⌜ r ≡ madeOfForm (now (letters .entry)) (now (form .entry)) position decoy ⌝ }
     {
+        if let Tested::Refused(why) = tests::test_form(letters, form) {
+            return refused(why);
+        }
         let peptide = given(letters, form, position, decoy);
-        if let Tested::Refused(why) = tests::test_form(form, peptide) {
-            let tested = Tested::Refused(why);
-            let peptide = none();
-            return Made { tested, peptide };
+        if let Tested::Refused(why) = tests::test_contents(peptide) {
+            return refused(why);
         }
         let tested = Tested::Passed;
         Made { tested, peptide }
@@ -80,9 +95,7 @@ impl Peptide {
         ensures { λ r. ⌜ r ≡ madeOr (testedPart (now (part .entry)) (now (masses .entry)) position) (given (now (part .entry)) [] position decoy) none ⌝ }
     {
         if let Tested::Refused(why) = mass::test_part(part, masses, position) {
-            let tested = Tested::Refused(why);
-            let peptide = none();
-            return Made { tested, peptide };
+            return refused(why);
         }
         let peptide = given(part, &part[0..0], position, decoy);
         let tested = Tested::Passed;

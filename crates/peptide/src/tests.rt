@@ -20,7 +20,7 @@ fn is_clear(p: Peptide) -> bool
 }
 
 // The letters, then what lies past them.
-fn test_contents(p: Peptide) -> Tested
+pub(crate) fn test_contents(p: Peptide) -> Tested
     requires { ⌜ p .len ≤ 64 ⌝ }
     ensures { λ r. ⌜ r ≡ testedContents p ⌝ }
 {
@@ -48,18 +48,18 @@ pub(crate) fn test_peptide(p: Peptide) -> Tested
     test_contents(p)
 }
 
-// The tests of a peptide and of the form that its ids came from.
-pub(crate) fn test_form(form: &[u8], p: Peptide) -> Tested
-    ensures { λ r. ⌜ r ≡ testedForm (now (form .entry)) p ⌝ }
+// Whether letters are a peptide's in number, and the form of their ids is one record.
+pub(crate) fn test_form(letters: &[u8], form: &[u8]) -> Tested
+    ensures { λ r. ⌜ r ≡ testedForm (now (letters .entry)) (now (form .entry)) ⌝ }
 {
-    let n = p.len;
+    let n = letters.len();
     if (n == 0) | (64 < n) {
         return Tested::Refused(Refusal::Size);
     }
     if form.len() != 66 {
         return Tested::Refused(Refusal::Length);
     }
-    test_contents(p)
+    Tested::Passed
 }
 
 fn too_large(len: u8, variable: &[u8], fixed: &[u8], limit: u32) -> bool

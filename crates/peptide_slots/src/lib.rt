@@ -17,5 +17,4 @@ pub use mirror::zero_from;
 pub use sites::collect;
 pub use sites::collect_used;
 pub use sites::site_at;
-pub use windows::short;
 pub use windows::window;

@@ -1,6 +1,6 @@
-// Bytes of any length as an array and a byte.
+// Bytes of any length as an array.
 ghost use mathlib.Core.Path.{_≡_};
-ghost use Prim.Native.Nat.{_≤_, min};
+ghost use Prim.Native.Nat.{_≤_};
 ghost use Rattle.peptide_slots.specs.Windows.{window};
 
 // The 64 bytes from a place on; past the end stands 0.
@@ -15,11 +15,4 @@ pub fn window(bytes: &[u8], from: usize) -> [u8; 64]
         i += 1;
     }
     out
-}
-
-// A length as a byte: one that does not fit is far above 64.
-pub fn short(n: usize) -> u8
-    ensures { λ r. ⌜ r ≡ min n 255 ⌝ }
-{
-    if n < 255 { n as u8 } else { 255 }
 }

@@ -94,15 +94,14 @@ pub extern "C" fn sendumaal_peptide_reverse(
     ensures { λ r. ⌜ outcome r ((now (place .exit) ∷ []) ∷ (now (decoy .exit) ∷ []) ∷ now (letters .exit) ∷ now (ids .exit) ∷ []) ≡ reverseCall (now (letters .entry)) (now (ids .entry)) (now (decoy .entry)) ⌝ }
 {
     let flag = *decoy;
-    let p = peptide_of(letters, ids, 0, 0, 0, flag == 1);
-    let found = test_reverse(letters, ids, p, flag);
+    let found = test_reverse(letters, ids, flag);
     match found {
         Tested::Refused(why) => {
             *place = why.place();
             why.number()
         }
         Tested::Passed => {
-            turn(letters, ids, p);
+            turn(letters, ids, flag);
             *decoy = flipped(flag);
             *place = 0;
             0

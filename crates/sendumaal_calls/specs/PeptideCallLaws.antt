@@ -1,27 +1,28 @@
 -- From the answers on peptides to what the calls leave. Assumes nothing.
 use Prim.Native.Nat.{ℕ, suc, _+_, _≤_, _<_}
-use mathlib.Core.Path.{_≡_, refl, ap, _∙_, subst}
-use mathlib.Core.Bool.{Bool, true, false, cond}
+use mathlib.Core.Path.{_≡_, refl, sym, ap, _∙_}
+use mathlib.Core.Bool.{true, false, cond}
 use mathlib.Core.List.{List, [], _∷_, _++_, append-nil}
 use native.Mathlib.Omega.{arith}
 use native.Mathlib.Numerals.{add-one}
 use native.Mathlib.Nat.{zero-add}
 use lib.ListN.{length, getD, set, take, drop}
 use lib.Seq.{paste-suc, drop-length}
-use lib.Dec.{leb, ltb, eqb}
+use lib.Dec.{leb, eqb}
 use lib.Ieee.{Float}
-use borrow.Author.Tests.{eq-eqb, ne-eqb, eqb-true, ltb-false}
-use Rattle.records.specs.Tests.{neither}
+use borrow.Author.Tests.{eq-eqb, ne-eqb, eqb-true}
 use Rattle.peptide.specs.declared.making.Peptide.{Peptide}
-use Rattle.records.specs.Tested.{andThen, passed-both}
+use Rattle.peptide.specs.declared.making.Made.{Made}
+use Rattle.records.specs.Tested.{passed-both, passed-first, passed-second}
 use Rattle.peptide.specs.Peptides.{wrongSize, testedPeptide, reversed, madeOr}
+use Rattle.peptide.specs.PeptideLaws.{size-fits}
 use Rattle.peptide.specs.Forms.{tooLarge, formsOutcome}
 use Rattle.records.specs.declared.refusal.Refusal.{Refusal}
 use Rattle.records.specs.declared.refusal.Refusal.the-variants.{Size, Length, Field}
 use Rattle.records.specs.declared.refusal.Tested.{Tested}
 use Rattle.records.specs.Refusals.{numberOf, placeOf}
 use Rattle.sendumaal_calls.specs.Calls.{accepted, refused, countedCall}
-use Rattle.sendumaal_calls.specs.PeptideCalls.{weight, peptideOf, formsCall, testedLengths, testedTurn, testedReverse, otherFlag, reverseOf}
+use Rattle.sendumaal_calls.specs.PeptideCalls.{weight, peptideOf, formsCall, testedLengths, turning, testedTurn, testedReverse, otherFlag, reversedOr, turned, reverseCall}
 
 pub weight-said : (r : Refusal) (n p : ℕ) (m : Float) → n ≡ numberOf r → p ≡ placeOf r → weight n p m ≡ weight (numberOf r) (placeOf r) m
 weight-said r n p m e f = rw (e, f)
@@ -56,29 +57,27 @@ module _ (letters ids : List ℕ) where
     pub lengths-other : (length ids ≡ length letters → ⊥) → Tested.Refused Length ≡ testedLengths letters ids
     lengths-other n = rw (fits, ne-eqb (length ids) (length letters) n)
 
-module _ (letters ids : List ℕ) (p : Peptide) (decoy : ℕ) (passed : testedReverse letters ids p decoy ≡ Tested.Passed) where
-  pub reverse-peptide : testedPeptide p ≡ Tested.Passed
-  reverse-peptide = passed-both (testedPeptide p) (cond (leb decoy 1) Tested.Passed (Tested.Refused (Field 0))) (passed-both (testedLengths letters ids) (testedTurn p decoy) passed .1) .0
+  pub lengths-fit : testedLengths letters ids ≡ Tested.Passed → (length letters ≤ 64) × (length ids ≤ 64)
+  lengths-fit h =
+      let a = passed-first (wrongSize (length letters)) Size (cond (eqb (length ids) (length letters)) Tested.Passed (Tested.Refused Length)) h in
+      let b = passed-second (eqb (length ids) (length letters)) Length Tested.Passed (a .1) in
+      let f : length letters ≤ 64 = size-fits (length letters) (a .0) in
+      (f, omega (arith, eqb-true (length ids) (length letters) (b .0)))
 
-  pub reverse-fits : (length letters ≤ 64) × (length ids ≤ 64)
-  reverse-fits = go (wrongSize (length letters)) refl (eqb (length ids) (length letters)) refl (passed-both (testedLengths letters ids) (testedTurn p decoy) passed .0)
-    where
-      go : (b : Bool) → wrongSize (length letters) ≡ b → (x : Bool) → eqb (length ids) (length letters) ≡ x
-          → cond b (Tested.Refused Size) (cond x Tested.Passed (Tested.Refused Length)) ≡ Tested.Passed → (length letters ≤ 64) × (length ids ≤ 64)
-      go true e x f q = absurd (let z : _≡_ {A = ℕ} 0 1 = cc in omega arith)
-      go false e false f q = absurd (let z : _≡_ {A = ℕ} 0 1 = cc in omega arith)
-      go false e true f q =
-          let h : length letters ≤ 64 = ltb-false 64 (length letters) (neither (eqb (length letters) 0) (ltb 64 (length letters)) e .1) in
-          (h, omega (arith, eqb-true (length ids) (length letters) f))
+  module _ (decoy : ℕ) where
+    pub reverse-passed : testedReverse letters ids decoy ≡ Tested.Passed → (length letters ≤ 64) × (length ids ≤ 64) × (testedPeptide (turning letters ids decoy) ≡ Tested.Passed)
+    reverse-passed h =
+        let a = passed-both (testedLengths letters ids) (testedTurn (turning letters ids decoy) decoy) h in
+        let f = lengths-fit (a .0) in
+        (f .0, f .1, passed-both (testedPeptide (turning letters ids decoy)) (cond (leb decoy 1) Tested.Passed (Tested.Refused (Field 0))) (a .1) .0)
 
--- what is told of a reversal
-module _ (p q : Peptide) (letters ids : List ℕ) (decoy : ℕ) (is : p ≡ q) where
-  pub reverse-no : (r : Refusal) → testedReverse letters ids p decoy ≡ Tested.Refused r → refused r ((decoy ∷ []) ∷ letters ∷ ids ∷ []) ≡ reverseOf q letters ids decoy
-  reverse-no r e = subst (λ (x : Peptide). refused r ((decoy ∷ []) ∷ letters ∷ ids ∷ []) ≡ reverseOf x letters ids decoy) is (rw e)
+    -- what is told of a reversal
+    pub reverse-no : (r : Refusal) → testedReverse letters ids decoy ≡ Tested.Refused r → refused r ((decoy ∷ []) ∷ letters ∷ ids ∷ []) ≡ reverseCall letters ids decoy
+    reverse-no r e = ap (λ (t : Tested). reversedOr t (turned letters ids decoy) ((decoy ∷ []) ∷ letters ∷ ids ∷ [])) (sym e)
 
-  pub reverse-yes : testedReverse letters ids p decoy ≡ Tested.Passed → (f : ℕ) (a b : List ℕ) → f ≡ otherFlag decoy → a ≡ take (length letters) (reversed p .letters) → b ≡ take (length ids) (reversed p .ids)
-      → accepted ((f ∷ []) ∷ a ∷ b ∷ []) ≡ reverseOf q letters ids decoy
-  reverse-yes e f a b x y z = subst (λ (w : Peptide). accepted ((f ∷ []) ∷ a ∷ b ∷ []) ≡ reverseOf w letters ids decoy) is (rw (x, y, z, e))
+    pub reverse-yes : testedReverse letters ids decoy ≡ Tested.Passed → (f : ℕ) (a b : List ℕ) → f ≡ otherFlag decoy → a ≡ take (length letters) (reversed (turning letters ids decoy) .letters)
+        → b ≡ take (length ids) (reversed (turning letters ids decoy) .ids) → accepted ((f ∷ []) ∷ a ∷ b ∷ []) ≡ reverseCall letters ids decoy
+    reverse-yes e f a b x y z = rw (x, y, z) (ap (λ (t : Tested). reversedOr t (turned letters ids decoy) ((decoy ∷ []) ∷ letters ∷ ids ∷ [])) (sym e))
 
 -- ---- an array's first bytes over a slice
 
@@ -95,6 +94,6 @@ overlaid-more old from now i h k e =
 pub overlaid-all : (old from : List ℕ) (i : ℕ) → i ≡ length old → overlaid old from i ≡ take (length old) from
 overlaid-all old from i e = rw (e, drop-length old) (append-nil (take (length old) from))
 
--- what passed its tests was made
-pub made-passed : (t : Tested) (new other : Peptide) → t ≡ Tested.Passed → madeOr t new other .peptide ≡ new
-made-passed t new other e = rw e
+-- what passed its tests was reversed
+pub turned-is : (p q : Peptide) (m : Made) → q ≡ p → testedPeptide p ≡ Tested.Passed → m ≡ madeOr (testedPeptide q) (reversed q) q → m .peptide ≡ reversed p
+turned-is p q m e f g = ap (λ (x : Made). x .peptide) g ∙ ap (λ (x : Peptide). madeOr (testedPeptide x) (reversed x) x .peptide) e ∙ rw f

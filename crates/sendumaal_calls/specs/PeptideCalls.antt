@@ -1,5 +1,5 @@
 -- What the calls on peptides leave: as in Calls, *place first, then the other results and the lent slices.
-use Prim.Native.Nat.{ℕ, min}
+use Prim.Native.Nat.{ℕ}
 use mathlib.Core.Bool.{Bool, false, cond}
 use mathlib.Core.List.{List, [], _∷_}
 use lib.ListN.{length, take}
@@ -31,7 +31,7 @@ abbrev pub weightCall : Weighed → Float → Weight
 weightCall (Weighed.Mass m) old = weight 0 0 m
 weightCall (Weighed.Refused r) old = weight (numberOf r) (placeOf r) old
 
--- ---- a peptide of lent letters and ids
+-- ---- a peptide of 1 to 64 lent letters and their ids
 
 abbrev pub peptideOf : List ℕ → List ℕ → ℕ → ℕ → ℕ → Bool → Peptide
 peptideOf letters ids nterm cterm position decoy =
@@ -40,7 +40,7 @@ peptideOf letters ids nterm cterm position decoy =
       ids = window 64 0 ids;
       nterm = nterm;
       cterm = cterm;
-      len = min (length letters) 255;
+      len = length letters;
       position = position;
       decoy = decoy;
     }
@@ -63,12 +63,16 @@ formsCall letters ids nterm cterm position variable fixed limit cap out count =
 
 -- ---- reversal
 
+-- the peptide that is reversed
+abbrev pub turning : List ℕ → List ℕ → ℕ → Peptide
+turning letters ids decoy = peptideOf letters ids 0 0 0 (eqb decoy 1)
+
 -- of the peptide itself, then 9: the flag is neither 0 nor 1
 abbrev pub testedTurn : Peptide → ℕ → Tested
 testedTurn p decoy = andThen (testedPeptide p) (cond (leb decoy 1) Tested.Passed (Tested.Refused (Field 0)))
 
-abbrev pub testedReverse : List ℕ → List ℕ → Peptide → ℕ → Tested
-testedReverse letters ids p decoy = andThen (testedLengths letters ids) (testedTurn p decoy)
+abbrev pub testedReverse : List ℕ → List ℕ → ℕ → Tested
+testedReverse letters ids decoy = andThen (testedLengths letters ids) (testedTurn (turning letters ids decoy) decoy)
 
 abbrev pub otherFlag : ℕ → ℕ
 otherFlag decoy = cond (eqb decoy 1) 0 1
@@ -78,11 +82,10 @@ reversedOr Tested.Passed new old = accepted new
 reversedOr (Tested.Refused r) new old = refused r old
 
 -- the first letters and ids of the reversed peptide stand where they came from
-abbrev pub turned : Peptide → List ℕ → List ℕ → ℕ → List (List ℕ)
-turned p letters ids decoy = (otherFlag decoy ∷ []) ∷ take (length letters) (reversed p .letters) ∷ take (length ids) (reversed p .ids) ∷ []
-
-abbrev pub reverseOf : Peptide → List ℕ → List ℕ → ℕ → Outcome ℕ
-reverseOf p letters ids decoy = reversedOr (testedReverse letters ids p decoy) (turned p letters ids decoy) ((decoy ∷ []) ∷ letters ∷ ids ∷ [])
+abbrev pub turned : List ℕ → List ℕ → ℕ → List (List ℕ)
+turned letters ids decoy =
+    let p = reversed (turning letters ids decoy) in
+    (otherFlag decoy ∷ []) ∷ take (length letters) (p .letters) ∷ take (length ids) (p .ids) ∷ []
 
 abbrev pub reverseCall : List ℕ → List ℕ → ℕ → Outcome ℕ
-reverseCall letters ids decoy = reverseOf (peptideOf letters ids 0 0 0 (eqb decoy 1)) letters ids decoy
+reverseCall letters ids decoy = reversedOr (testedReverse letters ids decoy) (turned letters ids decoy) ((decoy ∷ []) ∷ letters ∷ ids ∷ [])

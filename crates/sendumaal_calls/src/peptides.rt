@@ -8,9 +8,9 @@ ghost use lib.ListN.{length, take};
 ghost use Rattle.records.specs.declared.refusal.Tested.the-variants.{Passed};
 ghost use Rattle.peptide.specs.Peptides.{testedPeptide, reversed};
 ghost use Rattle.peptide.specs.Forms.{tooLarge};
-ghost use Rattle.sendumaal_calls.specs.PeptideCalls.{peptideOf, testedLengths, testedTurn, testedReverse, otherFlag};
+ghost use Rattle.sendumaal_calls.specs.PeptideCalls.{peptideOf, testedLengths, turning, testedTurn, testedReverse, otherFlag};
 
-// The peptide of lent letters and ids, untested.
+// The peptide of lent letters and ids, its contents untested.
 pub fn peptide_of(
     letters: &[u8],
     ids: &[u8],
@@ -19,11 +19,12 @@ pub fn peptide_of(
     position: u8,
     decoy: bool,
 ) -> Peptide
+    requires { ⌜ length (now letters) ≤ 64 ⌝ }
     ensures { λ r. ⌜ r ≡ peptideOf (now (letters .entry)) (now (ids .entry)) nterm cterm position decoy ⌝ }
 {
     let held = peptide_slots::window(letters, 0);
     let worn = peptide_slots::window(ids, 0);
-    let len = peptide_slots::short(letters.len());
+    let len = letters.len() as u8;
     Peptide {
         letters: held,
         ids: worn,
@@ -85,20 +86,22 @@ fn test_turn(p: Peptide, decoy: u32) -> Tested
 }
 
 // The tests of a reversal, in document 01's order.
-pub fn test_reverse(letters: &[u8], ids: &[u8], p: Peptide, decoy: u32) -> Tested
-    ensures { λ r. ⌜ r ≡ testedReverse (now (letters .entry)) (now (ids .entry)) p decoy ⌝ }
+pub fn test_reverse(letters: &[u8], ids: &[u8], decoy: u32) -> Tested
+    ensures { λ r. ⌜ r ≡ testedReverse (now (letters .entry)) (now (ids .entry)) decoy ⌝ }
 {
     if let Tested::Refused(why) = test_lengths(letters, ids) {
         return Tested::Refused(why);
     }
+    let p = peptide_of(letters, ids, 0, 0, 0, decoy == 1);
     test_turn(p, decoy)
 }
 
 // Reverses a peptide and stores it over the slices that it came from.
-pub fn turn(letters: &mut [u8], ids: &mut [u8], p: Peptide)
-    requires { ⌜ (length (now letters) ≤ 64) × (length (now ids) ≤ 64) × (testedPeptide p ≡ Passed) ⌝ }
-    ensures { λ _. ⌜ (now (letters .exit) ≡ take (length (now (letters .entry))) (reversed p .letters)) × (now (ids .exit) ≡ take (length (now (ids .entry))) (reversed p .ids)) ⌝ }
+pub fn turn(letters: &mut [u8], ids: &mut [u8], decoy: u32)
+    requires { ⌜ (length (now letters) ≤ 64) × (length (now ids) ≤ 64) × (testedPeptide (turning (now letters) (now ids) decoy) ≡ Passed) ⌝ }
+    ensures { λ _. ⌜ (now (letters .exit) ≡ take (length (now (letters .entry))) (reversed (turning (now (letters .entry)) (now (ids .entry)) decoy) .letters)) × (now (ids .exit) ≡ take (length (now (ids .entry))) (reversed (turning (now (letters .entry)) (now (ids .entry)) decoy) .ids)) ⌝ }
 {
+    let p = peptide_of(letters, ids, 0, 0, 0, decoy == 1);
     let made = p.reverse();
     let turned = made.peptide;
     let held = turned.letters;

@@ -15,11 +15,11 @@ byte-at-requires c κs = search needs
 byte-at-requires-2 : tie.Need-byte-at-requires-2
 byte-at-requires-2 c κs = search needs
 
-short-requires : tie.Need-short-requires
-short-requires c κs = search needs
+cast-len : tie.Need-cast-len
+cast-len c = search needs
 
 returns : tie.Need-returns
-returns c = rw (c .before .before .before .before .window .ensures, c .before .before .before .window2 .ensures, c .before .before .byte-at .ensures, c .before .byte-at2 .ensures, c .short .ensures)
+returns c = rw (c .before .before .before .window .ensures, c .before .before .window2 .ensures, c .before .byte-at .ensures, c .byte-at2 .ensures)
 
 pub given-spec : {M : Type 1} → statement M
 given-spec =
@@ -29,5 +29,5 @@ given-spec =
     window-requires-2
     byte-at-requires
     byte-at-requires-2
-    short-requires
+    cast-len
     returns)

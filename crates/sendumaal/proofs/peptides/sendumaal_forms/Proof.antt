@@ -1,10 +1,12 @@
 -- `sendumaal_forms` meets its contract. Assumes nothing.
 use mathlib.Core.Path.{sym, ap, _∙_}
 use mathlib.Core.List.{[], _∷_}
+use lib.ListN.{length}
 use denote.Ref.{now}
 use mathlib.Core.Bool.{false}
 use Rattle.peptide.specs.declared.making.Peptide.{Peptide}
 use Rattle.peptide.specs.Forms.{formsOutcome}
+use Rattle.peptide.specs.FormLaws.{sizes-fit}
 use Rattle.sendumaal_calls.specs.PeptideCalls.{peptideOf}
 use Rattle.sendumaal_calls.specs.CallLaws.{count-said}
 use Rattle.sendumaal_calls.specs.PeptideCallLaws.{forms-size, forms-length, forms-listed}
@@ -26,7 +28,9 @@ returns-2 c =
     forms-length (now (a .letters)) (now (a .ids)) (a .nterm) (a .cterm) (a .position) (now (a .variable)) (now (a .fixed)) (a .limit) (a .cap) (now (a .out)) (now (a .count)) (sym (c .before .before .too-large .ensures) ∙ c .before .if1 .left) (c .if2 .taken)
 
 peptide-of-requires : tie.Need-peptide-of-requires
-peptide-of-requires c κs = search needs
+peptide-of-requires c κs =
+    let a = c .before .before .before .before .before .before .before .before .args in
+    sizes-fit (length (now (a .letters))) (now (a .variable)) (now (a .fixed)) (a .limit) (sym (c .before .before .too-large .ensures) ∙ c .before .if1 .left) .0
 
 forms-requires : tie.Need-forms-requires
 forms-requires c κs = search needs

@@ -2,16 +2,11 @@
 use mathlib.Core.Path.{sym, _∙_}
 use mathlib.Core.List.{[], _∷_}
 use denote.Ref.{now}
-use lib.Dec.{eqb}
-use Rattle.sendumaal_calls.specs.PeptideCalls.{peptideOf}
 use Rattle.sendumaal_calls.specs.CallLaws.{said}
-use Rattle.sendumaal_calls.specs.PeptideCallLaws.{reverse-fits, reverse-peptide, reverse-no, reverse-yes}
+use Rattle.sendumaal_calls.specs.PeptideCallLaws.{reverse-passed, reverse-no, reverse-yes}
 use borrow.Author.Needs.{needs}
 use Rattle.sendumaal.proofs.peptides.sendumaal_peptide_reverse.Statement.{statement}
 use Rattle.sendumaal.proofs.peptides.sendumaal_peptide_reverse.Tie as tie
-
-peptide-of-requires : tie.Need-peptide-of-requires
-peptide-of-requires c κs = search needs
 
 test-reverse-requires : tie.Need-test-reverse-requires
 test-reverse-requires c κs = search needs
@@ -30,10 +25,8 @@ enum-told c = search needs
 
 turn-requires : tie.Need-turn-requires
 turn-requires c κs =
-    let a = c .before .before .before .before .before .before .before .before .before .before .before .before .before .args in
-    let t = sym (c .before .before .before .before .test-reverse .ensures) ∙ c .before .before .enum-told .given .1 in
-    let f = reverse-fits (now (a .letters)) (now (a .ids)) (c .before .before .before .before .before .before .before .peptide-of .result) (now (a .decoy)) t in
-    (f .0, f .1, reverse-peptide (now (a .letters)) (now (a .ids)) (c .before .before .before .before .before .before .before .peptide-of .result) (now (a .decoy)) t)
+    let a = c .before .before .before .before .before .before .before .before .before .before .args in
+    reverse-passed (now (a .letters)) (now (a .ids)) (now (a .decoy)) (sym (c .before .before .before .before .test-reverse .ensures) ∙ c .before .before .enum-told .given .1)
 
 flipped-requires : tie.Need-flipped-requires
 flipped-requires c κs = search needs
@@ -46,11 +39,10 @@ same-length-2 c = search needs
 
 returns : tie.Need-returns
 returns c =
-    let a = c .before .before .before .before .before .before .before .before .before .before .before .before .before .before .args in
+    let a = c .before .before .before .before .before .before .before .before .before .before .before .args in
     let w = c .before .before .before .found in
-    let p = c .before .before .before .before .before .before .before .before .peptide-of in
     said (w .given .0 .0) (c .number .result) (c .before .place .result) (c .number .ensures) (c .before .place .ensures) ((now (a .decoy) ∷ []) ∷ now (a .letters) ∷ now (a .ids) ∷ [])
-    ∙ reverse-no (p .result) (peptideOf (now (a .letters)) (now (a .ids)) 0 0 0 (eqb (now (a .decoy)) 1)) (now (a .letters)) (now (a .ids)) (now (a .decoy)) (p .ensures) (w .given .0 .0) (sym (c .before .before .before .before .before .test-reverse .ensures) ∙ w .given .1)
+    ∙ reverse-no (now (a .letters)) (now (a .ids)) (now (a .decoy)) (w .given .0 .0) (sym (c .before .before .before .before .before .test-reverse .ensures) ∙ w .given .1)
 
 same-length-3 : tie.Need-same-length-3
 same-length-3 c = search needs
@@ -60,17 +52,15 @@ same-length-4 c = search needs
 
 returns-2 : tie.Need-returns-2
 returns-2 c =
-    let a = c .before .before .before .before .before .before .before .before .before .before .before .before .before .before .before .before .before .before .before .args in
-    let p = c .before .before .before .before .before .before .before .before .before .before .before .before .before .peptide-of in
+    let a = c .before .before .before .before .before .before .before .before .before .before .before .before .before .before .before .before .args in
     let t = c .before .before .before .before .before .turn in
-    reverse-yes (p .result) (peptideOf (now (a .letters)) (now (a .ids)) 0 0 0 (eqb (now (a .decoy)) 1)) (now (a .letters)) (now (a .ids)) (now (a .decoy)) (p .ensures) (sym (c .before .before .before .before .before .before .before .before .before .before .test-reverse .ensures) ∙ c .before .before .before .before .before .before .before .before .enum-told .given .1)
+    reverse-yes (now (a .letters)) (now (a .ids)) (now (a .decoy)) (sym (c .before .before .before .before .before .before .before .before .before .before .test-reverse .ensures) ∙ c .before .before .before .before .before .before .before .before .enum-told .given .1)
     (c .flipped .result) (t .last .0) (t .last .1 .0) (c .flipped .ensures) (t .ensures .0) (t .ensures .1)
 
 pub sendumaal-peptide-reverse-spec : {M : Type 1} → statement M
 sendumaal-peptide-reverse-spec =
     tie.close
     (tie.spec
-    peptide-of-requires
     test-reverse-requires
     enum-known-found
     place-requires

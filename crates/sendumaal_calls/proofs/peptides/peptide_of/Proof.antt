@@ -9,11 +9,11 @@ window-requires c κs = search needs
 window-requires-2 : tie.Need-window-requires-2
 window-requires-2 c κs = search needs
 
-short-requires : tie.Need-short-requires
-short-requires c κs = search needs
+cast-len : tie.Need-cast-len
+cast-len c = search needs
 
 returns : tie.Need-returns
-returns c = rw (c .before .before .window .ensures, c .before .window2 .ensures, c .short .ensures)
+returns c = rw (c .before .window .ensures, c .window2 .ensures)
 
 pub peptide-of-spec : {M : Type 1} → statement M
-peptide-of-spec = tie.close (tie.spec window-requires window-requires-2 short-requires returns)
+peptide-of-spec = tie.close (tie.spec window-requires window-requires-2 cast-len returns)

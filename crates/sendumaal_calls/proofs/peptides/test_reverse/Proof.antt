@@ -1,7 +1,9 @@
 -- `test_reverse` meets its contract. Assumes nothing.
-use mathlib.Core.Path.{sym, _∙_}
+use mathlib.Core.Path.{sym, ap, _∙_}
 use denote.Ref.{now}
-use Rattle.sendumaal_calls.specs.PeptideCalls.{testedLengths, testedTurn}
+use Rattle.peptide.specs.declared.making.Peptide.{Peptide}
+use Rattle.sendumaal_calls.specs.PeptideCalls.{testedLengths, turning, testedTurn}
+use Rattle.sendumaal_calls.specs.PeptideCallLaws.{lengths-fit}
 use Rattle.records.specs.Tested.{first-refuses, first-passes}
 use borrow.Author.Needs.{needs}
 use Rattle.sendumaal_calls.proofs.peptides.test_reverse.Statement.{statement}
@@ -16,20 +18,35 @@ enum-known-why c = search needs
 returns : tie.Need-returns
 returns c =
     let a = c .before .before .before .before .before .before .args in
-    first-refuses (testedLengths (now (a .letters)) (now (a .ids))) (testedTurn (a .p) (a .decoy)) _ (sym (c .before .before .before .test-lengths .ensures) ∙ c .before .why .given .1)
+    first-refuses (testedLengths (now (a .letters)) (now (a .ids))) (testedTurn (turning (now (a .letters)) (now (a .ids)) (a .decoy)) (a .decoy)) _ (sym (c .before .before .before .test-lengths .ensures) ∙ c .before .why .given .1)
 
 enum-told : tie.Need-enum-told
 enum-told c = search needs
+
+peptide-of-requires : tie.Need-peptide-of-requires
+peptide-of-requires c κs =
+    let a = c .before .before .before .before .before .args in
+    lengths-fit (now (a .letters)) (now (a .ids)) (sym (c .before .before .test-lengths .ensures) ∙ c .enum-told .given .1) .0
 
 test-turn-requires : tie.Need-test-turn-requires
 test-turn-requires c κs = search needs
 
 returns-2 : tie.Need-returns-2
 returns-2 c =
-    let a = c .before .before .before .before .before .before .args in
-    c .test-turn .ensures ∙ first-passes (testedLengths (now (a .letters)) (now (a .ids))) (testedTurn (a .p) (a .decoy)) (sym (c .before .before .before .test-lengths .ensures) ∙ c .before .enum-told .given .1)
+    let a = c .before .before .before .before .before .before .before .args in
+    let p = turning (now (a .letters)) (now (a .ids)) (a .decoy) in
+    c .test-turn .ensures
+    ∙ ap (λ (q : Peptide). testedTurn q (a .decoy)) (c .before .peptide-of .ensures)
+    ∙ first-passes (testedLengths (now (a .letters)) (now (a .ids))) (testedTurn p (a .decoy)) (sym (c .before .before .before .before .test-lengths .ensures) ∙ c .before .before .enum-told .given .1)
 
 pub test-reverse-spec : {M : Type 1} → statement M
 test-reverse-spec =
     tie.close
-    (tie.spec test-lengths-requires enum-known-why returns enum-told test-turn-requires returns-2)
+    (tie.spec
+    test-lengths-requires
+    enum-known-why
+    returns
+    enum-told
+    peptide-of-requires
+    test-turn-requires
+    returns-2)

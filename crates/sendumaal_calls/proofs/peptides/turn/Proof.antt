@@ -1,14 +1,16 @@
 -- `turn` meets its contract. Assumes nothing.
-use mathlib.Core.Path.{_≡_, ap, _∙_}
+use mathlib.Core.Path.{ap, _∙_}
 use denote.Ref.{now}
 use lib.ListN.{length, take}
 use Rattle.peptide.specs.declared.making.Peptide.{Peptide}
-use Rattle.peptide.specs.declared.making.Made.{Made}
-use Rattle.peptide.specs.Peptides.{testedPeptide, reversed}
-use Rattle.sendumaal_calls.specs.PeptideCallLaws.{made-passed}
+use Rattle.sendumaal_calls.specs.PeptideCalls.{turning}
+use Rattle.sendumaal_calls.specs.PeptideCallLaws.{turned-is}
 use borrow.Author.Needs.{needs}
 use Rattle.sendumaal_calls.proofs.peptides.turn.Statement.{statement}
 use Rattle.sendumaal_calls.proofs.peptides.turn.Tie as tie
+
+peptide-of-requires : tie.Need-peptide-of-requires
+peptide-of-requires c κs = search needs
 
 reverse-requires : tie.Need-reverse-requires
 reverse-requires c κs = search needs
@@ -27,14 +29,17 @@ same-length-2 c = search needs
 
 returns : tie.Need-returns
 returns c =
-    let a = c .before .before .before .before .before .before .before .before .before .before .before .before .before .before .args in
-    let m : c .before .before .before .before .before .before .before .before .before .before .before .reverse .result .peptide ≡ reversed (a .p) = ap (λ (x : Made). x .peptide) (c .before .before .before .before .before .before .before .before .before .before .before .reverse .ensures) ∙ made-passed (testedPeptide (a .p)) (reversed (a .p)) (a .p) (c .before .before .before .before .before .before .before .before .before .before .before .before .before .before .pre .2) in
+    let a = c .before .before .before .before .before .before .before .before .before .before .before .before .before .before .before .before .before .args in
+    let p = c .before .before .before .before .before .before .before .before .before .before .before .before .peptide-of in
+    let r = c .before .before .before .before .before .before .before .before .before .before .before .reverse in
+    let m = turned-is (turning (now (a .letters)) (now (a .ids)) (a .decoy)) (p .result) (r .result) (p .ensures) (c .before .before .before .before .before .before .before .before .before .before .before .before .before .before .before .before .before .pre .2) (r .ensures) in
     (c .before .before .before .before .before .before .put-back .ensures ∙ ap (λ (q : Peptide). take (length (now (a .letters))) (q .letters)) m, c .before .before .put-back2 .ensures ∙ ap (λ (q : Peptide). take (length (now (a .ids))) (q .ids)) m)
 
 pub turn-spec : {M : Type 1} → statement M
 turn-spec =
     tie.close
     (tie.spec
+    peptide-of-requires
     reverse-requires
     put-back-requires
     put-back-requires-2

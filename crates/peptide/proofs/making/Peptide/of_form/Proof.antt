@@ -1,14 +1,14 @@
 -- `Peptide::of_form` meets its contract. Assumes nothing.
-use mathlib.Core.Path.{refl, sym, _∙_}
+use Prim.Native.Nat.{_≤_}
+use mathlib.Core.Path.{sym, _∙_, subst}
 use denote.Ref.{now}
-use Rattle.peptide.specs.Peptides.{none}
-use Rattle.peptide.specs.PeptideLaws.{made-of-form}
+use lib.ListN.{length}
+use Rattle.peptide.specs.declared.making.Peptide.{Peptide}
+use Rattle.peptide.specs.Peptides.{given}
+use Rattle.peptide.specs.PeptideLaws.{form-sized, size-fits, of-form-refused, of-form-tested, made-refused, made-given}
 use borrow.Author.Needs.{needs}
 use Rattle.peptide.proofs.making.Peptide.of_form.Statement.{statement}
 use Rattle.peptide.proofs.making.Peptide.of_form.Tie as tie
-
-given-requires : tie.Need-given-requires
-given-requires c κs = search needs
 
 test-form-requires : tie.Need-test-form-requires
 test-form-requires c κs = search needs
@@ -16,34 +16,68 @@ test-form-requires c κs = search needs
 enum-known-why : tie.Need-enum-known-why
 enum-known-why c = search needs
 
-none-requires : tie.Need-none-requires
-none-requires c κs = search needs
+refused-requires : tie.Need-refused-requires
+refused-requires c κs = search needs
 
 returns : tie.Need-returns
 returns c =
-    let a = c .before .before .before .before .before .before .before .before .args in
-    let p = c .before .before .before .before .before .given in
-    let e = sym (c .before .before .why .given .1) ∙ c .before .before .before .before .test-form .ensures in
-    made-of-form (now (a .letters)) (now (a .form)) (a .position) (a .decoy) _ (p .result) (c .none .result) e (p .ensures) (c .none .ensures)
+    let a = c .before .before .before .before .before .before .before .args in
+    let t = c .before .before .before .before .test-form in
+    c .refused .ensures
+    ∙ made-refused _ _ (given (now (a .letters)) (now (a .form)) (a .position) (a .decoy)) (of-form-refused (now (a .letters)) (now (a .form)) (a .position) (a .decoy) (t .result) (t .ensures) _ (c .before .before .why .given .1))
 
 enum-told : tie.Need-enum-told
 enum-told c = search needs
 
+given-requires : tie.Need-given-requires
+given-requires c κs =
+    let a = c .before .before .before .before .before .args in
+    size-fits (length (now (a .letters))) (form-sized (now (a .letters)) (now (a .form)) (sym (c .before .before .test-form .ensures) ∙ c .enum-told .given .1))
+
+test-contents-requires : tie.Need-test-contents-requires
+test-contents-requires c κs =
+    let a = c .before .before .before .before .before .before .args in
+    subst (λ (p : Peptide). p .len ≤ 64) (sym (c .given .ensures)) (size-fits (length (now (a .letters))) (form-sized (now (a .letters)) (now (a .form)) (sym (c .before .before .before .test-form .ensures) ∙ c .before .enum-told .given .1)))
+
+enum-known-why-2 : tie.Need-enum-known-why-2
+enum-known-why-2 c = search needs
+
+refused-requires-2 : tie.Need-refused-requires-2
+refused-requires-2 c κs = search needs
+
 returns-2 : tie.Need-returns-2
 returns-2 c =
-    let a = c .before .before .before .before .before .before .args in
+    let a = c .before .before .before .before .before .before .before .before .before .before .before .args in
+    let t = c .before .before .before .before .before .before .before .before .test-form in
+    let p = c .before .before .before .before .before .given in
+    let u = c .before .before .before .before .test-contents in
+    c .refused2 .ensures
+    ∙ made-refused _ _ (given (now (a .letters)) (now (a .form)) (a .position) (a .decoy)) (of-form-tested (now (a .letters)) (now (a .form)) (a .position) (a .decoy) (t .result) (t .ensures) (c .before .before .before .before .before .before .enum-told .given .1) (p .result) (p .ensures) (u .result) _ (u .ensures) (c .before .before .why2 .given .1))
+
+enum-told-2 : tie.Need-enum-told-2
+enum-told-2 c = search needs
+
+returns-3 : tie.Need-returns-3
+returns-3 c =
+    let a = c .before .before .before .before .before .before .before .before .before .args in
+    let t = c .before .before .before .before .before .before .test-form in
     let p = c .before .before .before .given in
-    let e = sym (c .enum-told .given .1) ∙ c .before .before .test-form .ensures in
-    made-of-form (now (a .letters)) (now (a .form)) (a .position) (a .decoy) _ (p .result) none e (p .ensures) refl
+    let u = c .before .before .test-contents in
+    made-given _ (given (now (a .letters)) (now (a .form)) (a .position) (a .decoy)) (p .result) (of-form-tested (now (a .letters)) (now (a .form)) (a .position) (a .decoy) (t .result) (t .ensures) (c .before .before .before .before .enum-told .given .1) (p .result) (p .ensures) (u .result) _ (u .ensures) (c .enum-told2 .given .1)) (p .ensures)
 
 pub of-form-spec : {M : Type 1} → statement M
 of-form-spec =
     tie.close
     (tie.spec
-    given-requires
     test-form-requires
     enum-known-why
-    none-requires
+    refused-requires
     returns
     enum-told
-    returns-2)
+    given-requires
+    test-contents-requires
+    enum-known-why-2
+    refused-requires-2
+    returns-2
+    enum-told-2
+    returns-3)

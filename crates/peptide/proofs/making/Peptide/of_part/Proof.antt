@@ -1,5 +1,10 @@
 -- `Peptide::of_part` meets its contract. Assumes nothing.
 use mathlib.Core.Path.{sym, _∙_}
+use mathlib.Core.List.{[]}
+use denote.Ref.{now}
+use Rattle.peptide.specs.Peptides.{given}
+use Rattle.peptide.specs.PeptideLaws.{made-refused, made-given}
+use Rattle.peptide.specs.MassLaws.{part-fits}
 use borrow.Author.Needs.{needs}
 use Rattle.peptide.proofs.making.Peptide.of_part.Statement.{statement}
 use Rattle.peptide.proofs.making.Peptide.of_part.Tie as tie
@@ -10,13 +15,13 @@ test-part-requires c κs = search needs
 enum-known-why : tie.Need-enum-known-why
 enum-known-why c = search needs
 
-none-requires : tie.Need-none-requires
-none-requires c κs = search needs
+refused-requires : tie.Need-refused-requires
+refused-requires c κs = search needs
 
 returns : tie.Need-returns
 returns c =
-    let e = sym (c .before .before .why .given .1) ∙ c .before .before .before .before .test-part .ensures in
-    rw (← e, c .none .ensures)
+    let a = c .before .before .before .before .before .before .before .args in
+    c .refused .ensures ∙ made-refused _ _ (given (now (a .part)) [] (a .position) (a .decoy)) (sym (c .before .before .before .before .test-part .ensures) ∙ c .before .before .why .given .1)
 
 enum-told : tie.Need-enum-told
 enum-told c = search needs
@@ -31,12 +36,14 @@ part-given-end : tie.Need-part-given-end
 part-given-end c = search needs
 
 given-requires : tie.Need-given-requires
-given-requires c κs = search needs
+given-requires c κs =
+    let a = c .before .before .before .before .before .before .args in
+    part-fits (now (a .part)) (now (a .masses)) (a .position) (sym (c .before .before .before .test-part .ensures) ∙ c .before .enum-told .given .1)
 
 returns-2 : tie.Need-returns-2
 returns-2 c =
-    let e = sym (c .before .before .enum-told .given .1) ∙ c .before .before .before .before .test-part .ensures in
-    rw (← e, c .given .ensures)
+    let a = c .before .before .before .before .before .before .before .args in
+    made-given _ (given (now (a .part)) [] (a .position) (a .decoy)) (c .given .result) (sym (c .before .before .before .before .test-part .ensures) ∙ c .before .before .enum-told .given .1) (c .given .ensures)
 
 pub of-part-spec : {M : Type 1} → statement M
 of-part-spec =
@@ -44,7 +51,7 @@ of-part-spec =
     (tie.spec
     test-part-requires
     enum-known-why
-    none-requires
+    refused-requires
     returns
     enum-told
     sub-given
