@@ -1,17 +1,19 @@
 -- Document 01, P6: "MAM, variable M without limit, combination limit 2: four forms; cap 3: the first three; cap 0: one." Then
--- cases of the slips: a later fixed rule, `^M` and `^`, a rule's own limit, a slot used twice, protein rules off their end. Of
--- each form the first five slots are shown: both ends, then the three residues. Behind them, peptides made of a form.
-use Prim.Native.Nat.{ℕ}
+-- cases of the slips: a later fixed rule, `^M` and `^`, a rule's own limit, a slot used twice, protein rules off their end;
+-- room, and each refusal of `forms`, alone and before a later one. Behind them, peptides made of a form.
+use Prim.Native.Nat.{ℕ, _-_, _*_}
 use mathlib.Core.Path.{refl}
 use mathlib.Core.Bool.{false}
-use mathlib.Core.List.{List, [], _∷_, _++_, map, flatten}
-use lib.ListN.{take, replicate}
+use mathlib.Core.List.{List, [], _∷_, _++_, flatten}
+use lib.ListN.{length, take, replicate}
 use Rattle.records.specs.Le.{numberAt}
-use Rattle.records.specs.Cases.{Case, Hold, refused}
+use Rattle.records.specs.Cases.{Case, Hold, counted, refused, told}
 use Rattle.records.specs.Refusals.{numberOf, placeOf}
+use Rattle.records.specs.Room.{written}
 use Rattle.records.specs.declared.refusal.Tested.{Tested}
 use Rattle.records.specs.Search.{seek}
 use Rattle.letters.specs.Letters.{isLetter, firstBad}
+use Rattle.modification.specs.Rules.{goodRule, firstBadRule}
 use Rattle.peptide_choices.specs.Choices.{choicesOf, bySize}
 use Rattle.peptide_slots.specs.Mirror.{allZero}
 use Rattle.peptide_forms.specs.Enumeration.{noCap, accepted}
@@ -19,28 +21,56 @@ use Rattle.peptide.specs.declared.making.Peptide.{Peptide}
 use Rattle.peptide.specs.declared.making.Made.{Made}
 use Rattle.peptide.specs.Peptides.{clear, testedContents, testedForm, given, madeOfForm}
 use Rattle.peptide.specs.Sites.{sitesOf, passes, filled}
-use Rattle.peptide.specs.Forms.{choices, formOf, formsOf}
+use Rattle.peptide.specs.Forms.{testedLists, testedForms, choices, formOf, formsOf, listed, formsOutcome}
 
 abbrev MAM : List ℕ
 MAM = 77 ∷ 65 ∷ 77 ∷ []
 
-abbrev pub mam : ℕ → Peptide
+abbrev mam : ℕ → Peptide
 mam position = given MAM [] position false
 
 -- a rule of a kind on a letter, with an id, without limit
-abbrev pub rule : ℕ → ℕ → ℕ → List ℕ
+abbrev rule : ℕ → ℕ → ℕ → List ℕ
 rule kind letter id = kind ∷ letter ∷ id ∷ 0 ∷ 255 ∷ 255 ∷ 255 ∷ 255 ∷ []
 
-abbrev pub onM : ℕ → List ℕ
+abbrev onM : ℕ → List ℕ
 onM = rule 0 77
 
--- variable and fixed rules, combination limit and cap on MAM
-abbrev forming : ℕ → List ℕ → List ℕ → ℕ → ℕ → List (List ℕ) → Case
-forming position variable fixed limit cap want = record { got = map (take 5) (formsOf (mam position) variable fixed limit cap); want = want }
+-- at most once on M
+abbrev onceM : List ℕ
+onceM = 0 ∷ 77 ∷ 1 ∷ 0 ∷ 1 ∷ 0 ∷ 0 ∷ 0 ∷ []
+
+-- a residue without a letter, which is no rule
+abbrev none : List ℕ
+none = rule 0 0 1
+
+-- so many rules on C, which MAM does not have
+abbrev idle : ℕ → List ℕ
+idle n = flatten (replicate n (rule 0 67 1))
+
+-- the 66 bytes of a form: both ends, three residues, no more
+abbrev form : ℕ → ℕ → ℕ → ℕ → ℕ → List ℕ
+form n c a b d = n ∷ c ∷ a ∷ b ∷ d ∷ replicate 61 0
+
+-- forms with rules, combination limit and cap in a buffer of so many bytes 9: the answer, and the forms that stand there then
+abbrev forming : Peptide → List ℕ → List ℕ → ℕ → ℕ → ℕ → List ℕ → List (List ℕ) → Case
+forming p variable fixed limit cap bytes answer forms =
+    record {
+      got = told (formsOutcome p variable fixed limit cap (replicate bytes 9));
+      want = answer ∷ (flatten forms ++ replicate (bytes - 66 * length forms) 9) ∷ [];
+    }
+
+-- in room for more than four
+abbrev listing : ℕ → List ℕ → List ℕ → ℕ → ℕ → List (List ℕ) → Case
+listing position variable fixed limit cap forms = forming (mam position) variable fixed limit cap 300 (counted (length forms)) forms
+
+-- a refusal, and nothing written
+abbrev refusing : Peptide → List ℕ → List ℕ → ℕ → ℕ → ℕ → Case
+refusing p variable fixed limit number place = forming p variable fixed limit noCap 300 (refused number place) []
 
 -- refusal 0 is none, and then come the length and the first five slots
-abbrev told : Made → List ℕ
-told made = go (made .tested) (made .peptide)
+abbrev shown : Made → List ℕ
+shown made = go (made .tested) (made .peptide)
   where
     go : Tested → Peptide → List ℕ
     go Tested.Passed p = 0 ∷ 0 ∷ p .len ∷ p .nterm ∷ p .cterm ∷ take 3 (p .ids)
@@ -48,7 +78,7 @@ told made = go (made .tested) (made .peptide)
 
 -- letters with a form and a position
 abbrev making : List ℕ → List ℕ → ℕ → List ℕ → Case
-making letters form position want = record { got = told (madeOfForm letters form position false) ∷ []; want = want ∷ [] }
+making letters bytes position want = record { got = shown (madeOfForm letters bytes position false) ∷ []; want = want ∷ [] }
 
 -- five slots, then so many zeros and a byte
 abbrev slots : ℕ → ℕ → List ℕ
@@ -56,24 +86,55 @@ slots zeros last = 7 ∷ 8 ∷ 1 ∷ 0 ∷ 2 ∷ (replicate zeros 0 ++ (last ∷
 
 abbrev pub table : List Case
 table =
-    -- P6: four forms
-    forming 2 (onM 1) [] 2 noCap ((0 ∷ 0 ∷ 0 ∷ 0 ∷ 0 ∷ []) ∷ (0 ∷ 0 ∷ 1 ∷ 0 ∷ 0 ∷ []) ∷ (0 ∷ 0 ∷ 0 ∷ 0 ∷ 1 ∷ []) ∷ (0 ∷ 0 ∷ 1 ∷ 0 ∷ 1 ∷ []) ∷ [])
-    -- P6: cap 3
-    ∷ forming 2 (onM 1) [] 2 3 ((0 ∷ 0 ∷ 0 ∷ 0 ∷ 0 ∷ []) ∷ (0 ∷ 0 ∷ 1 ∷ 0 ∷ 0 ∷ []) ∷ (0 ∷ 0 ∷ 0 ∷ 0 ∷ 1 ∷ []) ∷ [])
-    -- P6: cap 0
-    ∷ forming 2 (onM 1) [] 2 0 ((0 ∷ 0 ∷ 0 ∷ 0 ∷ 0 ∷ []) ∷ [])
+    -- P6: four forms, cap 3, cap 0
+    listing 2 (onM 1) [] 2 noCap (form 0 0 0 0 0 ∷ form 0 0 1 0 0 ∷ form 0 0 0 0 1 ∷ form 0 0 1 0 1 ∷ [])
+    ∷ listing 2 (onM 1) [] 2 3 (form 0 0 0 0 0 ∷ form 0 0 1 0 0 ∷ form 0 0 0 0 1 ∷ [])
+    ∷ listing 2 (onM 1) [] 2 0 (form 0 0 0 0 0 ∷ [])
     -- a later fixed rule leaves what is filled
-    ∷ forming 2 (onM 1) (onM 2) 1 noCap ((0 ∷ 0 ∷ 2 ∷ 0 ∷ 2 ∷ []) ∷ (0 ∷ 0 ∷ 1 ∷ 0 ∷ 2 ∷ []) ∷ (0 ∷ 0 ∷ 2 ∷ 0 ∷ 1 ∷ []) ∷ [])
+    ∷ listing 2 (onM 1) (onM 2) 1 noCap (form 0 0 2 0 2 ∷ form 0 0 1 0 2 ∷ form 0 0 2 0 1 ∷ [])
     -- `^M` hits residue 0, `^` the slot of the end
-    ∷ forming 2 (rule 1 77 3 ++ rule 1 0 4) [] 1 noCap ((0 ∷ 0 ∷ 0 ∷ 0 ∷ 0 ∷ []) ∷ (0 ∷ 0 ∷ 3 ∷ 0 ∷ 0 ∷ []) ∷ (4 ∷ 0 ∷ 0 ∷ 0 ∷ 0 ∷ []) ∷ [])
+    ∷ listing 2 (rule 1 77 3 ++ rule 1 0 4) [] 1 noCap (form 0 0 0 0 0 ∷ form 0 0 3 0 0 ∷ form 4 0 0 0 0 ∷ [])
     -- a rule's limit
-    ∷ forming 2 (0 ∷ 77 ∷ 1 ∷ 0 ∷ 1 ∷ 0 ∷ 0 ∷ 0 ∷ []) [] 2 noCap ((0 ∷ 0 ∷ 0 ∷ 0 ∷ 0 ∷ []) ∷ (0 ∷ 0 ∷ 1 ∷ 0 ∷ 0 ∷ []) ∷ (0 ∷ 0 ∷ 0 ∷ 0 ∷ 1 ∷ []) ∷ [])
+    ∷ listing 2 onceM [] 2 noCap (form 0 0 0 0 0 ∷ form 0 0 1 0 0 ∷ form 0 0 0 0 1 ∷ [])
     -- a slot used twice
-    ∷ forming 2 (rule 4 77 5 ++ rule 2 77 6) [] 2 noCap ((0 ∷ 0 ∷ 0 ∷ 0 ∷ 0 ∷ []) ∷ (0 ∷ 0 ∷ 0 ∷ 0 ∷ 5 ∷ []) ∷ (0 ∷ 0 ∷ 0 ∷ 0 ∷ 6 ∷ []) ∷ [])
-    -- protein rules at the N end of a protein
-    ∷ forming 0 (rule 3 0 7 ++ rule 4 77 8) [] 1 noCap ((0 ∷ 0 ∷ 0 ∷ 0 ∷ 0 ∷ []) ∷ (7 ∷ 0 ∷ 0 ∷ 0 ∷ 0 ∷ []) ∷ [])
-    -- protein rules inside it
-    ∷ forming 3 (rule 3 0 7 ++ rule 4 0 8 ++ rule 2 0 9) [] 1 noCap ((0 ∷ 0 ∷ 0 ∷ 0 ∷ 0 ∷ []) ∷ (0 ∷ 9 ∷ 0 ∷ 0 ∷ 0 ∷ []) ∷ [])
+    ∷ listing 2 (rule 4 77 5 ++ rule 2 77 6) [] 2 noCap (form 0 0 0 0 0 ∷ form 0 0 0 0 5 ∷ form 0 0 0 0 6 ∷ [])
+    -- protein rules at the N end of a protein, and inside it
+    ∷ listing 0 (rule 3 0 7 ++ rule 4 77 8) [] 1 noCap (form 0 0 0 0 0 ∷ form 7 0 0 0 0 ∷ [])
+    ∷ listing 3 (rule 3 0 7 ++ rule 4 0 8 ++ rule 2 0 9) [] 1 noCap (form 0 0 0 0 0 ∷ form 0 9 0 0 0 ∷ [])
+    -- ids that the peptide has stay
+    ∷ forming (given MAM (slots 60 0) 2 false) (onM 3) (rule 0 65 4) 1 noCap 300 (counted 3) (form 7 8 1 4 2 ∷ form 7 8 1 4 2 ∷ form 7 8 1 4 2 ∷ [])
+    -- the greatest sizes
+    ∷ listing 2 (idle 16) (idle 32) 8 noCap (form 0 0 0 0 0 ∷ [])
+    -- room: exact, one byte short, for one form, for none
+    ∷ forming (mam 2) (onM 1) [] 2 noCap 264 (counted 4) (form 0 0 0 0 0 ∷ form 0 0 1 0 0 ∷ form 0 0 0 0 1 ∷ form 0 0 1 0 1 ∷ [])
+    ∷ forming (mam 2) (onM 1) [] 2 noCap 263 (refused 11 0) (form 0 0 0 0 0 ∷ form 0 0 1 0 0 ∷ form 0 0 0 0 1 ∷ [])
+    ∷ forming (mam 2) (onM 1) [] 2 noCap 66 (refused 11 0) (form 0 0 0 0 0 ∷ [])
+    ∷ forming (mam 2) (onM 1) [] 2 noCap 65 (refused 11 0) []
+    ∷ forming (mam 2) (onM 1) [] 2 noCap 0 (refused 11 0) []
+    -- 1: no letters; 65 letters; 17 variable rules; 33 fixed ones; combination limit 9
+    ∷ refusing (given [] [] 2 false) [] [] 2 1 0
+    ∷ refusing (given (replicate 65 77) [] 2 false) [] [] 2 1 0
+    ∷ refusing (mam 2) (idle 17) [] 2 1 0
+    ∷ refusing (mam 2) [] (idle 33) 2 1 0
+    ∷ refusing (mam 2) [] [] 9 1 0
+    -- 8: a byte too many, a byte too few
+    ∷ refusing (mam 2) (onM 1 ++ (0 ∷ [])) [] 2 8 0
+    ∷ refusing (mam 2) [] (take 7 (onM 1)) 2 8 0
+    -- 2: the second byte is no letter; 9: a slot past the length is filled, a position that is none
+    ∷ refusing (given (77 ∷ 97 ∷ 97 ∷ []) [] 2 false) (onM 1) [] 2 2 1
+    ∷ refusing (given MAM (slots 60 1) 2 false) (onM 1) [] 2 9 0
+    ∷ refusing (mam 4) (onM 1) [] 2 9 0
+    -- 9: the second variable rule is none, nor is the third; the third fixed rule has a limit
+    ∷ refusing (mam 2) (onM 1 ++ none ++ none) (onM 2) 2 9 1
+    ∷ refusing (mam 2) onceM (onM 1 ++ onM 2 ++ onceM) 2 9 2
+    -- 1 before 8; 8 before 2; 2 before 9
+    ∷ refusing (mam 2) (0 ∷ []) [] 9 1 0
+    ∷ refusing (given (97 ∷ []) [] 2 false) (0 ∷ []) [] 2 8 0
+    ∷ refusing (given (77 ∷ 97 ∷ []) [] 4 false) none none 2 2 1
+    -- 9 of the peptide before that of the rules, of the variable before that of the fixed; 9 before 11
+    ∷ refusing (mam 4) (onM 1 ++ none) none 2 9 0
+    ∷ refusing (mam 2) (onM 1 ++ none) none 2 9 1
+    ∷ forming (mam 2) none [] 2 noCap 0 (refused 9 0) []
     -- of a form
     ∷ making MAM (slots 60 0) 2 (0 ∷ 0 ∷ 3 ∷ 7 ∷ 8 ∷ 1 ∷ 0 ∷ 2 ∷ [])
     -- no letters, or 65, also where the form is no record
@@ -92,5 +153,5 @@ table =
     ∷ []
 
 pub cases : Hold table
-unfolding seek isLetter firstBad flatten allZero clear testedContents testedForm formsOf choices accepted bySize choicesOf passes numberAt sitesOf formOf filled
+unfolding flatten numberAt written seek isLetter firstBad goodRule firstBadRule choicesOf bySize allZero accepted clear testedContents testedForm sitesOf passes filled testedLists testedForms choices formOf formsOf listed formsOutcome
 cases = refl
