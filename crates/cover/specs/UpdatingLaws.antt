@@ -17,7 +17,7 @@ use Rattle.records.specs.declared.refusal.Counted.{Counted}
 use Rattle.records.specs.declared.refusal.Counted.the-variants.{Count, Refused as No}
 use Rattle.records.specs.LeLaws.{getD-sets-other}
 use Rattle.records.specs.Outcome.{Outcome, outcome}
-use Rattle.records.specs.Room.{fits, fitted, bytewise}
+use Rattle.records.specs.Room.{fits, fitted, singly}
 use Rattle.records.specs.RoomLaws.{stored-text, fits-text}
 use Rattle.records.specs.Tested.{andThen, fieldTested, passed-both, passed-first, passed-field}
 use Rattle.records.specs.Tests.{below?, neither, truth?}
@@ -139,11 +139,11 @@ module _ (old new : List ℕ) (groups metas : ℕ) (given : List ℕ) (words : �
       as-sets (updateMarks old new groups given) marks marks₂ (lm₂ ∙ lm)
       (λ i h l. mix .here i (omega (arith, updated)) ∙ ap (λ (v : ℕ). cond (touched (edgesOf old) (edgesOf new) i) v (getD given i 0)) (ap (λ (t : List ℕ). getD t i 0) was ∙ cover-at i (omega (arith, updated)) l) ∙ sym (mark-of i (omega (arith, updated))))
       (λ i h. mix .rest i (omega (arith, updated)) ∙ ap (λ (t : List ℕ). getD t i 0) was ∙ getD-sets-other (coverMarks new groups) marks 0 i (inr (omega (arith, made, updated)))) in
-      let said : r ≡ cond (fits 1 131072 marks (bytewise (updateMarks old new groups given))) (Count (length (updateMarks old new groups given))) (No Room) =
+      let said : r ≡ cond (fits 1 131072 marks (singly (updateMarks old new groups given))) (Count (length (updateMarks old new groups given))) (No Room) =
       ap (λ (o : Outcome Counted). o .answer) e ∙ rw (fits-text 131072 (coverMarks new groups) marks few, fits-text 131072 (updateMarks old new groups given) marks few′, made, updated) in
       rw (said, z, lw, is ∙ stored-text 131072 (updateMarks old new groups given) marks few′)
     where
-      second : outcome r (w₁ ∷ marks₁ ∷ []) ≡ handed work marks (coverMarks new groups) → marks₁ ≡ fitted 1 131072 marks (bytewise (coverMarks new groups))
+      second : outcome r (w₁ ∷ marks₁ ∷ []) ≡ handed work marks (coverMarks new groups) → marks₁ ≡ fitted 1 131072 marks (singly (coverMarks new groups))
       second q = ap (λ (o : Outcome Counted). head-two (o .lent)) q
         where
           head-two : List (List ℕ) → List ℕ

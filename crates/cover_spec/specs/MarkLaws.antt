@@ -12,19 +12,19 @@ use borrow.Author.Tests.{le-leb, lt-leb}
 use Rattle.records.specs.declared.refusal.Refusal.the-variants.{Room}
 use Rattle.records.specs.declared.refusal.Counted.the-variants.{Count, Refused}
 use Rattle.records.specs.Outcome.{outcome}
-use Rattle.records.specs.Room.{roomOf, written, fitted, bytewise}
-use Rattle.records.specs.RoomLaws.{flatten-bytewise, fits-text}
+use Rattle.records.specs.Room.{roomOf, written, fitted, singly}
+use Rattle.records.specs.RoomLaws.{flatten-singly, fits-text}
 use Rattle.cover_spec.specs.Marks.{handed}
 
 module _ (work old marks w k : List ℕ) (few : length marks ≤ 131072) (cleared : w ≡ replicate (length work) 0) where
-  front : fitted 1 131072 old (bytewise marks) ≡ take (roomOf 1 131072 old) marks ++ drop (length (take (roomOf 1 131072 old) marks)) old
+  front : fitted 1 131072 old (singly marks) ≡ take (roomOf 1 131072 old) marks ++ drop (length (take (roomOf 1 131072 old) marks)) old
   unfolding written
-  front = rw (flatten-bytewise marks (roomOf 1 131072 old))
+  front = rw (flatten-singly marks (roomOf 1 131072 old))
 
   room : roomOf 1 131072 old ≡ min (length old) 131072
   room = ap (λ (n : ℕ). min n 131072) (div-one (length old))
 
-  as-handed : (b : Bool) → leb (length marks) (length old) ≡ b → k ≡ fitted 1 131072 old (bytewise marks) → outcome (cond b (Count (length marks)) (Refused Room)) (w ∷ k ∷ []) ≡ handed work old marks
+  as-handed : (b : Bool) → leb (length marks) (length old) ≡ b → k ≡ fitted 1 131072 old (singly marks) → outcome (cond b (Count (length marks)) (Refused Room)) (w ∷ k ∷ []) ≡ handed work old marks
   as-handed b e p = rw (cleared, p, fits-text 131072 marks old few, e)
 
   pub handed-all : length marks ≤ length old → k ≡ marks ++ drop (length marks) old → outcome (Count (length marks)) (w ∷ k ∷ []) ≡ handed work old marks

@@ -8,7 +8,7 @@ use Rattle.records.specs.declared.refusal.Refusal.the-variants.{Room}
 use Rattle.records.specs.declared.refusal.Counted.{Counted}
 use Rattle.records.specs.declared.refusal.Counted.the-variants.{Count, Refused}
 use Rattle.records.specs.Outcome.{Outcome, outcome}
-use Rattle.records.specs.Room.{fits, fitted, bytewise}
+use Rattle.records.specs.Room.{fits, fitted, singly}
 
 -- the least work memory
 abbrev pub workNeeded : ℕ → ℕ → ℕ → ℕ
@@ -17,4 +17,4 @@ workNeeded groups metas edges = 4 * groups + 4 * metas + 6 * edges
 -- the work memory and the marks: how many there are, or 11 where there is no room for all
 abbrev pub handed : List ℕ → List ℕ → List ℕ → Outcome Counted
 handed work old marks =
-    outcome (cond (fits 1 131072 old (bytewise marks)) (Count (length marks)) (Refused Room)) (replicate (length work) 0 ∷ fitted 1 131072 old (bytewise marks) ∷ [])
+    outcome (cond (fits 1 131072 old (singly marks)) (Count (length marks)) (Refused Room)) (replicate (length work) 0 ∷ fitted 1 131072 old (singly marks) ∷ [])

@@ -10,7 +10,7 @@ use Rattle.records.specs.declared.refusal.Counted.{Counted}
 use Rattle.records.specs.declared.refusal.Counted.the-variants.{Count, Refused}
 use Rattle.records.specs.Le.{le, numberAt}
 use Rattle.records.specs.Outcome.{Outcome, outcome}
-use Rattle.records.specs.Room.{fits, fitted, bytewise}
+use Rattle.records.specs.Room.{fits, fitted, singly}
 use Rattle.letters.specs.Reversal.{lettersOf}
 use Rattle.sorting_merge.specs.Sort.{sorted}
 use Rattle.sorting_merge.specs.Lex.{lexLe}
@@ -80,6 +80,6 @@ proteinList names (ms ∷ mss) = proteinsOf names ms ++ proteinList names mss
 abbrev pub grouped : List ℕ → List (List (List ℕ)) → List ℕ → List ℕ → List ℕ → Outcome Counted
 grouped names mss work groups proteins =
     let rs = groupsFrom 0 mss in
-    let ps = bytewise (proteinList names mss) in
+    let ps = singly (proteinList names mss) in
     outcome (cond (fits 24 1048576 groups rs && fits 1 1048576 proteins ps) (Count (length rs)) (Refused Room))
     (replicate (length work) 0 ∷ fitted 24 1048576 groups rs ∷ fitted 1 1048576 proteins ps ∷ [])

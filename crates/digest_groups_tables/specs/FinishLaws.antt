@@ -13,7 +13,7 @@ use Rattle.records.specs.declared.refusal.Counted.the-variants.{Count, Refused}
 use Rattle.records.specs.Le.{le}
 use Rattle.records.specs.LeLaws.{length-le}
 use Rattle.records.specs.Outcome.{outcome}
-use Rattle.records.specs.Room.{fits, fitted, bytewise}
+use Rattle.records.specs.Room.{fits, fitted, singly}
 use Rattle.records.specs.RoomLaws.{Sized, stored-text}
 use Rattle.records.specs.StoreLaws.{storedFrom, stored-all}
 use Rattle.sorting.specs.Counting.{upFrom}
@@ -116,13 +116,13 @@ module _ (names bounds letters bytes : List ℕ) (n : ℕ) (work w w′ groups g
       d .number ∙ ap (λ (m : List (List (List ℕ))). length m) (s .runs)
       ∙ sym (length-groups 0 mss (subst (λ (m : List (List (List ℕ))). Some m) (s .runs) (some-map (digestAt bytes) (runsOf (orderOf letters n w) (slice 0 n w)) (some-runs (orderOf letters n w) (slice 0 n w)))))
 
-  numbers : sets proteins 0 (take n w′) ≡ fitted 1 1048576 proteins (bytewise (proteinList names mss))
+  numbers : sets proteins 0 (take n w′) ≡ fitted 1 1048576 proteins (singly (proteinList names mss))
   numbers = ap (sets proteins 0) list ∙ stored-text 1048576 (proteinList names mss) proteins (omega (arith, wide, s .ready .few))
 
   pub left-grouped : r ≡ cond (leb g (min (length groups / 24) 1048576) && leb n (min (length proteins / 1) 1048576)) (Count g) (Refused Room)
       → outcome r (replicate (length w′) 0 ∷ groups′ ∷ sets proteins 0 (take n w′) ∷ []) ≡ grouped names mss work groups proteins
   left-grouped e =
       let z : length w′ ≡ length work = d .same-length ∙ same in
-      let m : length (bytewise (proteinList names mss)) ≡ n = length-map (proteinList names mss) (λ (b : ℕ). b ∷ []) ∙ wide in
-      let a : r ≡ cond (fits 24 1048576 groups (groupsFrom 0 mss) && fits 1 1048576 proteins (bytewise (proteinList names mss))) (Count (length (groupsFrom 0 mss))) (Refused Room) = rw m (rw count at e) in
+      let m : length (singly (proteinList names mss)) ≡ n = length-map (proteinList names mss) (λ (b : ℕ). b ∷ []) ∙ wide in
+      let a : r ≡ cond (fits 24 1048576 groups (groupsFrom 0 mss) && fits 1 1048576 proteins (singly (proteinList names mss))) (Count (length (groupsFrom 0 mss))) (Refused Room) = rw m (rw count at e) in
       rw (records, numbers, z, a)

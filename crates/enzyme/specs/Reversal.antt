@@ -11,7 +11,7 @@ use Rattle.records.specs.declared.refusal.Tested.{Tested}
 use Rattle.records.specs.declared.refusal.Tested.the-variants.{Passed, Refused}
 use Rattle.records.specs.Le.{numberAt}
 use Rattle.records.specs.Outcome.{Outcome, outcome, unlessRefused, only}
-use Rattle.records.specs.Room.{fits, fitted, bytewise}
+use Rattle.records.specs.Room.{fits, fitted, singly}
 use Rattle.letters.specs.Letters.{firstBad}
 use Rattle.enzyme_keep.specs.Digests.{goodRecord}
 use Rattle.letters.specs.Reversal.{reversed, lettersOf}
@@ -58,7 +58,7 @@ spellingTested s r =
 
 -- then 11: a text's record is a byte
 abbrev pub spelled : List ℕ → List ℕ → Outcome Counted
-spelled old text = outcome (cond (fits 1 65536 old (bytewise text)) (Count (length text)) (No Room)) (fitted 1 65536 old (bytewise text) ∷ [])
+spelled old text = outcome (cond (fits 1 65536 old (singly text)) (Count (length text)) (No Room)) (fitted 1 65536 old (singly text) ∷ [])
 
 abbrev pub lettersOutcome : List ℕ → List ℕ → List ℕ → Outcome Counted
 lettersOutcome s r old = unlessRefused (spellingTested s r) No (old ∷ []) (spelled old (recordLetters s r))

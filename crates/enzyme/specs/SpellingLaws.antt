@@ -14,7 +14,7 @@ use Rattle.records.specs.declared.refusal.Refusal.the-variants.{Size, Letter, L
 use Rattle.records.specs.declared.refusal.Tested.the-variants.{Passed, Refused as RefusedBy}
 use Rattle.records.specs.Le.{numberAt}
 use Rattle.records.specs.Outcome.{outcome}
-use Rattle.records.specs.Room.{roomOf, bytewise}
+use Rattle.records.specs.Room.{roomOf, singly}
 use Rattle.records.specs.RoomLaws.{Sized, Standing, standing-none, standing-more, standing-done, standing-full, standing-length}
 use Rattle.records.specs.Tests.{both}
 use Rattle.letters.specs.Letters.{firstBad}
@@ -24,37 +24,37 @@ use Rattle.enzyme.specs.Reversal.{spellingTested, spelled}
 
 -- ---- the letters written one after the other
 
-sized : (text : List ℕ) → Sized 1 (bytewise text)
+sized : (text : List ℕ) → Sized 1 (singly text)
 sized [] = tt
 sized (b ∷ bs) = (refl, sized bs)
 
 module _ (old text : List ℕ) where
   -- the first i letters stand
   abbrev pub Spelling : ℕ → List ℕ → Type 0
-  Spelling i out = Standing 1 65536 old (bytewise text) (bytewise (drop i text)) out i
+  Spelling i out = Standing 1 65536 old (singly text) (singly (drop i text)) out i
 
   pub spelling-start : Spelling 0 old
-  spelling-start = standing-none 1 65536 old (bytewise text) (sized text)
+  spelling-start = standing-none 1 65536 old (singly text) (sized text)
 
   pub spelling-length : (i : ℕ) (out : List ℕ) → Spelling i out → length out ≡ length old
-  spelling-length i out s = standing-length 1 65536 old (bytewise text) (sized text) (bytewise (drop i text)) out i s
+  spelling-length i out s = standing-length 1 65536 old (singly text) (sized text) (singly (drop i text)) out i s
 
-  ahead : (i : ℕ) → i < length text → bytewise (drop i text) ≡ (getD text i 0 ∷ []) ∷ bytewise (drop (suc i) text)
-  ahead i h = ap bytewise (drop-cons text i 0 h)
+  ahead : (i : ℕ) → i < length text → singly (drop i text) ≡ (getD text i 0 ∷ []) ∷ singly (drop (suc i) text)
+  ahead i h = ap singly (drop-cons text i 0 h)
 
   pub spelling-turn : (i : ℕ) (out : List ℕ) → Spelling i out → i < length text → i < roomOf 1 65536 old → Spelling (i + 1) (set out i (getD text i 0))
   spelling-turn i out s h g =
-      let x = standing-more 1 65536 old (bytewise text) (sized text) (getD text i 0 ∷ []) (bytewise (drop (suc i) text)) out i (rw (ahead i h) at s) g in
+      let x = standing-more 1 65536 old (singly text) (sized text) (getD text i 0 ∷ []) (singly (drop (suc i) text)) out i (rw (ahead i h) at s) g in
       rw (add-one i) (rw (one-mul i, add-one i) at x)
 
   pub spelling-full : (i : ℕ) (out : List ℕ) → Spelling i out → i < length text → roomOf 1 65536 old ≤ i → outcome (Refused Room) (out ∷ []) ≡ spelled old text
   spelling-full i out s h g =
-      let x = standing-full 1 65536 old (bytewise text) (sized text) (getD text i 0 ∷ []) (bytewise (drop (suc i) text)) out i (rw (ahead i h) at s) g in
+      let x = standing-full 1 65536 old (singly text) (sized text) (getD text i 0 ∷ []) (singly (drop (suc i) text)) out i (rw (ahead i h) at s) g in
       rw (x .1) (rw (← x .0))
 
   pub spelling-done : (i : ℕ) (out : List ℕ) → Spelling i out → length text ≤ i → outcome (Count i) (out ∷ []) ≡ spelled old text
   spelling-done i out s h =
-      let x = standing-done 1 65536 old (bytewise text) (sized text) out i (rw (drop-of-length-le text h) at s) in
+      let x = standing-done 1 65536 old (singly text) (sized text) out i (rw (drop-of-length-le text h) at s) in
       let n : length text ≡ i = sym (x .2 ∙ length-map text (λ (b : ℕ). b ∷ [])) in
       rw (x .1, n) (rw (← x .0))
 

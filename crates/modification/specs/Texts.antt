@@ -10,7 +10,7 @@ use Rattle.letters.specs.Letters.{has}
 use Rattle.records.specs.declared.refusal.Refusal.the-variants.{Letter, EmptyText, Outside, LongText, Field, Room}
 use Rattle.records.specs.Search.{seek}
 use Rattle.records.specs.Outcome.{Outcome, outcome}
-use Rattle.records.specs.Room.{fits, fitted, bytewise}
+use Rattle.records.specs.Room.{fits, fitted, singly}
 use Rattle.modification.specs.declared.specificity.Specificity.{Specificity}
 use Rattle.modification.specs.declared.text.Parsed.{Parsed}
 use Rattle.records.specs.declared.refusal.Counted.{Counted}
@@ -66,7 +66,7 @@ textOf s =
 -- a text, whose record is a byte, in a lent buffer: how many bytes, or 11
 abbrev pub textOutcome : List ℕ → List ℕ → Outcome Counted
 textOutcome text old =
-    outcome (cond (fits 1 2 old (bytewise text)) (Counted.Count (length text)) (Counted.Refused Room)) (fitted 1 2 old (bytewise text) ∷ [])
+    outcome (cond (fits 1 2 old (singly text)) (Counted.Count (length text)) (Counted.Refused Room)) (fitted 1 2 old (singly text) ∷ [])
 
 -- 9: a kind with a letter that no rule has
 unfoldable pub writeOutcome : Specificity → List ℕ → Outcome Counted

@@ -23,6 +23,6 @@ fits size limit old rs = leb (length rs) (roomOf size limit old)
 abbrev pub fitted : ℕ → ℕ → List ℕ → List (List ℕ) → List ℕ
 fitted size limit old rs = written old (take (roomOf size limit old) rs)
 
--- a text as a list of records of one byte
-abbrev pub bytewise : List ℕ → List (List ℕ)
-bytewise = map (λ (b : ℕ). b ∷ [])
+-- bytes or numbers of which each is a record of its own
+abbrev pub singly : List ℕ → List (List ℕ)
+singly = map (λ (b : ℕ). b ∷ [])

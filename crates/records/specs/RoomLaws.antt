@@ -13,7 +13,7 @@ use lib.Dec.{leb}
 use borrow.Author.Tests.{le-leb, lt-leb}
 use Rattle.records.specs.Tests.{below?}
 use Rattle.records.specs.LeLaws.{sets-out}
-use Rattle.records.specs.Room.{roomOf, written, fits, fitted, bytewise}
+use Rattle.records.specs.Room.{roomOf, written, fits, fitted, singly}
 
 -- each record has the size
 abbrev pub Sized : ℕ → List (List ℕ) → Type 0
@@ -135,11 +135,11 @@ module _ (size limit : ℕ) (old : List ℕ) (all : List (List ℕ)) (sized : Si
 
 -- ---- texts: a record is a byte
 
-pub flatten-bytewise : (t : List ℕ) (n : ℕ) → flatten (take n (bytewise t)) ≡ take n t
+pub flatten-singly : (t : List ℕ) (n : ℕ) → flatten (take n (singly t)) ≡ take n t
 unfolding flatten
-flatten-bytewise t zero = refl
-flatten-bytewise [] (suc n) = refl
-flatten-bytewise (b ∷ t) (suc n) = ap (λ (l : List ℕ). b ∷ l) (flatten-bytewise t n)
+flatten-singly t zero = refl
+flatten-singly [] (suc n) = refl
+flatten-singly (b ∷ t) (suc n) = ap (λ (l : List ℕ). b ∷ l) (flatten-singly t n)
 
 sets-behind : (x : ℕ) (xs : List ℕ) (i : ℕ) (vs : List ℕ) → sets (x ∷ xs) (suc i) vs ≡ x ∷ sets xs i vs
 sets-behind x xs i [] = refl
@@ -156,15 +156,15 @@ module _ (limit : ℕ) (t old : List ℕ) (h : length t ≤ limit) where
   room-text = ap (λ (n : ℕ). min n limit) (div-one (length old))
 
   -- a text stored byte by byte: the first bytes that fit
-  pub stored-text : sets old 0 t ≡ fitted 1 limit old (bytewise t)
+  pub stored-text : sets old 0 t ≡ fitted 1 limit old (singly t)
   unfolding written
   stored-text = sets-front t old ∙ ⊎-elim short long (below? (length old) (length t)) ∙ sym front
     where
       n : ℕ
       n = roomOf 1 limit old
 
-      front : written old (take n (bytewise t)) ≡ take n t ++ drop (length (take n t)) old
-      front = rw (flatten-bytewise t n)
+      front : written old (take n (singly t)) ≡ take n t ++ drop (length (take n t)) old
+      front = rw (flatten-singly t n)
 
       short : length old < length t → take (length old) t ++ drop (length t) old ≡ take n t ++ drop (length (take n t)) old
       short g =
@@ -178,9 +178,9 @@ module _ (limit : ℕ) (t old : List ℕ) (h : length t ≤ limit) where
           let e : length t ≤ n = omega (arith, room-text) in
           rw (take-all n t e, take-all (length old) t g)
 
-  pub fits-text : fits 1 limit old (bytewise t) ≡ leb (length t) (length old)
+  pub fits-text : fits 1 limit old (singly t) ≡ leb (length t) (length old)
   fits-text =
-      let e : length (bytewise t) ≡ length t = length-map t (λ (b : ℕ). b ∷ []) in
+      let e : length (singly t) ≡ length t = length-map t (λ (b : ℕ). b ∷ []) in
       let m : ℕ = min (length old) limit in
       rw (e, room-text)
       (⊎-elim (λ (g : length old < length t). lt-leb (length t) m (omega arith) ∙ sym (lt-leb (length t) (length old) g))

@@ -9,7 +9,7 @@ use Rattle.records.specs.declared.refusal.Refusal.the-variants.{Size, Length, R
 use Rattle.records.specs.declared.refusal.Tested.{Tested}
 use Rattle.records.specs.declared.refusal.Tested.the-variants.{Passed, Refused}
 use Rattle.records.specs.Outcome.{Outcome, outcome, unlessRefused, only}
-use Rattle.records.specs.Room.{fitted, bytewise}
+use Rattle.records.specs.Room.{fitted, singly}
 use Rattle.records.specs.Search.{seek}
 use Rattle.records.specs.Tested.{andThen, fieldTested}
 use Rattle.catalogue_contents.specs.Names.{visible, nameCount, tooManyNames, wholeNames, namesTested}
@@ -74,7 +74,7 @@ abbrev pub reportedOf : ℕ → ℕ → ℕ → Reported
 reportedOf bytes count room = cond (leb bytes room) (Line (record { bytes = bytes; groups = count })) (No Room)
 
 abbrev pub lined : List ℕ → ℕ → List ℕ → Outcome Reported
-lined text count out = outcome (reportedOf (length text) count (length out)) (fitted 1 (length out) out (bytewise text) ∷ [])
+lined text count out = outcome (reportedOf (length text) count (length out)) (fitted 1 (length out) out (singly text) ∷ [])
 
 abbrev pub lineLined : List ℕ → List ℕ → List ℕ → List ℕ → Bool → List ℕ → Bool → List ℕ → Outcome Reported
 lineLined names members marks list decoy tag generated out =

@@ -22,7 +22,7 @@ use Rattle.catalogue_contents.specs.NameLaws.{names-in, length-cleared, cleared
 use Rattle.cover_edges.specs.Edges.{badMark, firstBadMark}
 use Rattle.records.specs.Outcome.{Outcome, outcome, unlessRefused}
 use Rattle.records.specs.Refusals.{numberOf}
-use Rattle.records.specs.Room.{fitted, bytewise}
+use Rattle.records.specs.Room.{fitted, singly}
 use Rattle.protein_groups_members.specs.Members.{membersIn, goodMember, badMember, firstBadMember}
 use Rattle.report_lines_spec.specs.Stretches.{Stretched}
 use Rattle.report_lines_select.specs.Laying.{Given}
@@ -222,7 +222,7 @@ module _ (names members marks list tag : List ℕ) (good : Good names members ma
 -- THE LAW: what is read off the table is what a call answers
 pub line-outcome : (names members marks list : List ℕ) (decoy : Bool) (tag : List ℕ) (generated : Bool) (w : List ℕ) (c : ℕ)
     → Stretched names (membersIn members) marks list decoy tag generated w c → c ≤ 131072 → Tag tag → (old new : List ℕ) (bytes groups : ℕ) (r : Reported)
-    → (new ≡ fitted 1 (length old) old (bytewise (lineIn names w c (length marks)))) × (bytes ≡ length (lineIn names w c (length marks))) × (groups ≡ countIn names w c (length marks))
+    → (new ≡ fitted 1 (length old) old (singly (lineIn names w c (length marks)))) × (bytes ≡ length (lineIn names w c (length marks))) × (groups ≡ countIn names w c (length marks))
     → r ≡ reportedOf bytes groups (length old)
     → outcome r (new ∷ []) ≡ lineLined names members marks list decoy tag generated old
 line-outcome names members marks list decoy tag generated w c s few t old new bytes groups r p e =

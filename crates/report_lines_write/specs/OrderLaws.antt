@@ -7,7 +7,7 @@ use native.Mathlib.Omega.{arith}
 use native.Mathlib.Nat.{sub-zero}
 use lib.ListN.{length, getD, take, drop, length-map}
 use lib.Seq.{sets, getD-take, getD-drop}
-use Rattle.records.specs.Room.{fitted, bytewise}
+use Rattle.records.specs.Room.{fitted, singly}
 use Rattle.sorting_merge.specs.declared.text.By.the-variants.{Joined}
 use Rattle.sorting_merge.specs.Sort.{sorted}
 use Rattle.sorting_merge.specs.SortLaws.{sorted-map, length-sorted}
@@ -93,7 +93,7 @@ front-all n w = ap (λ (k : ℕ). take k w) (sub-zero n)
 -- THE LAW of the line
 pub lined-line : (names w₀ : List ℕ) (c groups : ℕ) (w : List ℕ) (count : ℕ) → Lined names w₀ c groups w count → (old new : List ℕ) (bytes semis : ℕ)
     → (new ≡ sets old 0 (join 59 (map (joinedText names (drop (2 * c) w)) (take count w)))) × (bytes ≡ length (join 59 (map (joinedText names (drop (2 * c) w)) (take count w)))) × (semis ≡ countOf (take count w) (join 59 (map (joinedText names (drop (2 * c) w)) (take count w))))
-    → (new ≡ fitted 1 (length old) old (bytewise (lineIn names w₀ c groups))) × (bytes ≡ length (lineIn names w₀ c groups)) × (semis ≡ countIn names w₀ c groups)
+    → (new ≡ fitted 1 (length old) old (singly (lineIn names w₀ c groups))) × (bytes ≡ length (lineIn names w₀ c groups)) × (semis ≡ countIn names w₀ c groups)
 unfolding countIn
 lined-line names w₀ c groups w count o old new bytes semis p = (
   p .0 ∙ ap (sets old 0) (o .texts) ∙ put-fits old (lineIn names w₀ c groups),
@@ -120,7 +120,7 @@ module _ (names w₀ : List ℕ) (c groups : ℕ) (w : List ℕ) (count : ℕ) (
 
   pub lined-written : (old new : List ℕ) (bytes semis : ℕ)
       → (new ≡ sets old 0 (join 59 (map (joinedText names (take (length w - 2 * c) (drop (2 * c) w))) (take (count - 0) (drop 0 w))))) × (bytes ≡ length (join 59 (map (joinedText names (take (length w - 2 * c) (drop (2 * c) w))) (take (count - 0) (drop 0 w))))) × (semis ≡ countOf (take (count - 0) (drop 0 w)) (join 59 (map (joinedText names (take (length w - 2 * c) (drop (2 * c) w))) (take (count - 0) (drop 0 w)))))
-      → (new ≡ fitted 1 (length old) old (bytewise (lineIn names w₀ c groups))) × (bytes ≡ length (lineIn names w₀ c groups)) × (semis ≡ countIn names w₀ c groups)
+      → (new ≡ fitted 1 (length old) old (singly (lineIn names w₀ c groups))) × (bytes ≡ length (lineIn names w₀ c groups)) × (semis ≡ countIn names w₀ c groups)
   lined-written old new bytes semis p =
       lined-line names w₀ c groups w count o old new bytes semis
       (p .0 ∙ ap (sets old 0) lent, p .1 ∙ ap length lent, p .2 ∙ ap (countOf starts) lent ∙ ap (λ (s : List ℕ). countOf s (join 59 (map (joinedText names (drop (2 * c) w)) (take count w)))) (front-all count w))

@@ -11,7 +11,7 @@ use lib.Dec.{eqb}
 use lib.ListN.{length, getD, set, take, drop, length-append, drop-of-length-le}
 use lib.Seq.{sets, length-sets, drop-cons}
 use Rattle.records.specs.Tests.{below?}
-use Rattle.records.specs.Room.{roomOf, written, fitted, bytewise}
+use Rattle.records.specs.Room.{roomOf, written, fitted, singly}
 use Rattle.records.specs.RoomLaws.{stored-text}
 use Rattle.records.specs.LeLaws.{sets-append}
 use Rattle.sorting_merge.specs.Joined.{joinAfter, join}
@@ -161,7 +161,7 @@ module _ (f : ℕ → List ℕ) (starts : List ℕ) where
 -- ---- room
 
 -- a text stored from the start on: the first bytes that fit
-pub put-fits : (old text : List ℕ) → sets old 0 text ≡ fitted 1 (length old) old (bytewise text)
+pub put-fits : (old text : List ℕ) → sets old 0 text ≡ fitted 1 (length old) old (singly text)
 put-fits old text =
     let e : roomOf 1 (length old + length text) old ≡ roomOf 1 (length old) old = rw (div-one (length old)) (omega arith) in
-    stored-text (length old + length text) text old (omega arith) ∙ ap (λ (n : ℕ). written old (take n (bytewise text))) e
+    stored-text (length old + length text) text old (omega arith) ∙ ap (λ (n : ℕ). written old (take n (singly text))) e

@@ -5,7 +5,7 @@ use crate::writing::write_line;
 use sorting::By;
 ghost use mathlib.Core.Path.{_≡_};
 ghost use lib.ListN.{length};
-ghost use Rattle.records.specs.Room.{fitted, bytewise};
+ghost use Rattle.records.specs.Room.{fitted, singly};
 ghost use Rattle.report_lines_write.specs.Laid.{lineIn, countIn, Laid};
 ghost use Rattle.report_lines_write.specs.OrderLaws.{Lined};
 
@@ -23,7 +23,7 @@ fn order(names: &[u8], w: &mut [u32], c: usize, groups: usize) -> usize
 // numbers; what stands in w is used up.
 pub fn line_in(names: &[u8], w: &mut [u32], c: usize, groups: usize, out: &mut [u8]) -> Line
     requires { ⌜ Laid (now w) c groups ⌝ }
-    ensures { λ r. ⌜ (now (out .exit) ≡ fitted 1 (length (now (out .entry))) (now (out .entry)) (bytewise (lineIn (now (names .entry)) (now (w .entry)) c groups))) × (r .bytes ≡ length (lineIn (now (names .entry)) (now (w .entry)) c groups)) × (r .groups ≡ countIn (now (names .entry)) (now (w .entry)) c groups) ⌝ }
+    ensures { λ r. ⌜ (now (out .exit) ≡ fitted 1 (length (now (out .entry))) (now (out .entry)) (singly (lineIn (now (names .entry)) (now (w .entry)) c groups))) × (r .bytes ≡ length (lineIn (now (names .entry)) (now (w .entry)) c groups)) × (r .groups ≡ countIn (now (names .entry)) (now (w .entry)) c groups) ⌝ }
 {
     let count = order(names, w, c, groups);
     let keys = 2 * c;
