@@ -10,7 +10,7 @@ ghost use Prim.Native.Nat.{ℕ, _≤_, _<_};
 ghost use lib.ListN.{length, getD};
 ghost use Rattle.enzyme_keep.specs.Steps.{after, offers};
 ghost use Rattle.enzyme_once.specs.Once.{once};
-ghost use Rattle.enzyme_words.specs.Words.{wordsOf, Zeros, Far};
+ghost use Rattle.enzyme_words.specs.Words.{Zeros, Far};
 ghost use Rattle.enzyme_sites.specs.Starts.{Starts};
 ghost use Rattle.enzyme_levels.specs.Levels.{Placed};
 ghost use Rattle.enzyme_fresh.specs.Fresh.{fresh, Repeats};
@@ -73,7 +73,7 @@ fn list_semi(
     Step::Kept(k)
 }
 
-// With tables that are lent: where the sites start; what a start shares at most; the words of q letters that stand twice;
+// With tables that are lent: where the sites start; what a start shares at most; which words stand twice;
 // samples of the list; four for the order and the names of the sites; and how many sites each window shares with an earlier one.
 fn semi_over(
     letters: &[u8],
@@ -83,7 +83,6 @@ fn semi_over(
     out: &mut [u8],
     starts: &mut [u32],
     far: &mut [u32],
-    q: usize,
     count: &mut [u8],
     marks: &mut [u32],
     order: &mut [u16],
@@ -93,13 +92,13 @@ fn semi_over(
     share: &mut [u8],
     seen: &mut [u8],
 ) -> Step
-    requires { ⌜ (length (now letters) ≤ 65536) × (missed ≤ 16) × (length (now letters) < length (now starts)) × (length (now letters) ≤ length (now far)) × (3 ≤ q) × (q ≤ 4) × (wordsOf q ≤ length (now count)) × Zeros (now count) × (length (now order) ≤ length (now other)) × (length (now order) ≤ length (now name)) × (length (now order) ≤ length (now rank)) × (length (now order) ≤ length (now share)) × Zeros (now share) ⌝ }
+    requires { ⌜ (length (now letters) ≤ 65536) × (missed ≤ 16) × (length (now letters) < length (now starts)) × (length (now letters) ≤ length (now far)) × (0 < length (now count)) × (length (now count) ≤ 131072) × Zeros (now count) × (length (now order) ≤ length (now other)) × (length (now order) ≤ length (now name)) × (length (now order) ≤ length (now rank)) × (length (now order) ≤ length (now share)) × Zeros (now share) ⌝ }
     ensures { λ r. ⌜ after r (now (out .exit)) ≡ offers (now (letters .entry)) terms (once knife true missed (now (letters .entry))) 0 (now (out .entry)) ⌝ }
 {
     let m = enzyme_sites::sites(letters, knife, starts);
     let n = missed as usize + 1;
     fill_share(letters, starts, m, n, order, other, name, rank, share, seen);
-    enzyme_words::fill_far(letters, q, far, count);
+    enzyme_words::fill_far(letters, far, count);
     list_semi(
         letters,
         knife,
@@ -114,7 +113,7 @@ fn semi_over(
     )
 }
 
-// The same with tables of three sizes; long proteins are told by words of four letters.
+// The same with tables of three sizes.
 pub fn semi_small(letters: &[u8], knife: Knife, missed: u8, terms: Terms, out: &mut [u8]) -> Step
     requires { ⌜ (length (now letters) ≤ 1024) × (missed ≤ 16) ⌝ }
     ensures { λ r. ⌜ after r (now (out .exit)) ≡ offers (now (letters .entry)) terms (once knife true missed (now (letters .entry))) 0 (now (out .entry)) ⌝ }
@@ -137,7 +136,6 @@ pub fn semi_small(letters: &[u8], knife: Knife, missed: u8, terms: Terms, out: &
         out,
         &mut starts,
         &mut far,
-        3,
         &mut count,
         &mut marks,
         &mut order,
@@ -155,7 +153,7 @@ pub fn semi_middle(letters: &[u8], knife: Knife, missed: u8, terms: Terms, out: 
 {
     let mut starts = [0 as u32; 8193];
     let mut far = [0 as u32; 8192];
-    let mut count = [0 as u8; 131072];
+    let mut count = [0 as u8; 131071];
     let mut marks = [0 as u32; 32768];
     let mut order = [0 as u16; 2048];
     let mut other = [0 as u16; 2048];
@@ -171,7 +169,6 @@ pub fn semi_middle(letters: &[u8], knife: Knife, missed: u8, terms: Terms, out: 
         out,
         &mut starts,
         &mut far,
-        4,
         &mut count,
         &mut marks,
         &mut order,
@@ -189,7 +186,7 @@ pub fn semi_large(letters: &[u8], knife: Knife, missed: u8, terms: Terms, out: &
 {
     let mut starts = [0 as u32; 65537];
     let mut far = [0 as u32; 65536];
-    let mut count = [0 as u8; 131072];
+    let mut count = [0 as u8; 131071];
     let mut marks = [0 as u32; 40960];
     let mut order = [0 as u16; 16384];
     let mut other = [0 as u16; 16384];
@@ -205,7 +202,6 @@ pub fn semi_large(letters: &[u8], knife: Knife, missed: u8, terms: Terms, out: &
         out,
         &mut starts,
         &mut far,
-        4,
         &mut count,
         &mut marks,
         &mut order,

@@ -1,5 +1,6 @@
 -- A word that was counted once stands once, so no stretch over it stands at another start. Assumes nothing.
-use Prim.Native.Nat.{ℕ, suc, _+_, _-_, _*_, _%_, _≤_, _<_}
+use Prim.Native.Nat.{ℕ, zero, suc, _+_, _-_, _*_, _%_, _^_, _≤_, _<_}
+use native.Mathlib.Nat.{pow-zero, pow-succ', pow-le-pow-right, mul-assoc, mod-lt}
 use mathlib.Core.Path.{_≡_, refl, sym, ap, _∙_}
 use mathlib.Core.Bool.{Bool, true, false, cond}
 use mathlib.Core.Logic.{_⊎_, inl, inr, ⊎-elim}
@@ -8,62 +9,72 @@ use native.Mathlib.Omega.{arith}
 use lib.ListN.{length, drop, getD, set}
 use lib.Seq.{getD-set-same, getD-set-other, getD-take, getD-drop}
 use lib.Dec.{eqb}
-use borrow.Author.Tests.{eqb-true, eqb-false, eq-eqb, ne-eqb}
+use borrow.Author.Tests.{eqb-true}
 use Rattle.records.specs.Tests.{below?, same?}
 use Rattle.enzyme_cuts.specs.Cutting.{site, same, part}
 use Rattle.enzyme_cuts.specs.SameLaws.{same-eq}
-use Rattle.enzyme_words.specs.Words.{digitOf, threeOf, codeAt, wordsOf, Zeros, Coded, Twice, Tallied, Picked, Unlike, Far, Reach, Swept}
+use Rattle.enzyme_words.specs.Words.{digitOf, numberAt, codeAt, Coded, Twice, Tallied, Picked, Unlike, Far, Reach, Swept}
 
 -- ---- the number of a word
 
-pub three-small : (x y z : ℕ) → threeOf x y z < 17576
-unfolding threeOf
-three-small x y z = omega arith
+pub number-less : (s : List ℕ) (i q : ℕ) → numberAt s i q < 26 ^ q
+number-less s i zero = rw (pow-zero 26) (omega arith)
+number-less s i (suc q) = let h = number-less s i q in rw (pow-succ' 26 q) (omega arith)
 
-pub code-small : (s : List ℕ) (i q : ℕ) → codeAt s i q < wordsOf q
+-- words have up to 13 letters: up to 12 without the first or the last
+pub power-small : (q : ℕ) → q ≤ 12 → 26 ^ q ≤ 95428956661682176
+power-small q h = pow-le-pow-right {n = 26} (omega arith) h
+
+pub number-small : (s : List ℕ) (i q : ℕ) → q ≤ 12 → numberAt s i q < 95428956661682176
+number-small s i q h = omega (arith, number-less s i q, power-small q h)
+
+-- without its first letter
+pub number-behind : (s : List ℕ) (i q : ℕ) → numberAt s i (suc q) ≡ 26 ^ q * digitOf (getD s i 0) + numberAt s (i + 1) q
+number-behind s i zero = let z : i + 0 ≡ i = omega arith in rw (pow-zero 26, z) (omega arith)
+number-behind s i (suc q) =
+    let e = number-behind s i q in
+    let p : 26 ^ suc q * digitOf (getD s i 0) ≡ 26 * (26 ^ q * digitOf (getD s i 0)) = rw (pow-succ' 26 q) (mul-assoc 26 (26 ^ q) (digitOf (getD s i 0))) in
+    let k : i + suc q ≡ i + 1 + q = omega arith in
+    rw (k, e, p) (omega arith)
+
+-- the word at i from the letters before its last, at e, and back to those behind its first
+module _ (s : List ℕ) (i q : ℕ) (some : 1 ≤ q) where
+  pub number-on : (e x y : ℕ) → e + 1 ≡ i + q → x ≡ numberAt s i (q - 1) → y ≡ digitOf (getD s e 0) → 26 * x + y ≡ numberAt s i q
+  number-on e x y k f g =
+      let h : q ≡ suc (q - 1) = omega arith in
+      let l : e ≡ i + (q - 1) = omega arith in
+      rw (h, f, g, l)
+
+  pub number-off : (w t y : ℕ) → w ≡ numberAt s i q → t ≡ 26 ^ (q - 1) → y ≡ digitOf (getD s i 0) → (t * y ≤ w) × (w - t * y ≡ numberAt s (i + 1) (q - 1))
+  number-off w t y f g k =
+      let h : q ≡ suc (q - 1) = omega arith in
+      let e : w ≡ t * y + numberAt s (i + 1) (q - 1) = rw (g, k) (f ∙ ap (numberAt s i) h ∙ number-behind s i (q - 1)) in
+      (omega arith, omega arith)
+
+pub code-small : (s : List ℕ) (i q m : ℕ) → 0 < m → codeAt s i q m < m
 unfolding codeAt
-code-small s i q = go (eqb q 3) (three-small (getD s i 0) (getD s (i + 1) 0) (getD s (i + 2) 0))
-  where
-    go : (b : Bool) → threeOf (getD s i 0) (getD s (i + 1) 0) (getD s (i + 2) 0) < 17576
-        → cond b (threeOf (getD s i 0) (getD s (i + 1) 0) (getD s (i + 2) 0)) ((26 * threeOf (getD s i 0) (getD s (i + 1) 0) (getD s (i + 2) 0) + digitOf (getD s (i + 3) 0)) % 131072) < cond b 17576 131072
-    go true h = h
-    go false h = omega arith
+code-small s i q m h = mod-lt (numberAt s i q) h
 
--- the two ways to it
-module _ (s : List ℕ) (i q x : ℕ) (e : x ≡ threeOf (getD s i 0) (getD s (i + 1) 0) (getD s (i + 2) 0)) where
-  pub code-three : q ≡ 3 → (x ≡ codeAt s i q) × (x < wordsOf q)
-  unfolding codeAt
-  code-three f = let l = three-small (getD s i 0) (getD s (i + 1) 0) (getD s (i + 2) 0) in rw (eq-eqb q 3 f) (e, omega arith)
-
-  pub code-four : (q ≡ 3 → ⊥) → (y : ℕ) → y ≡ digitOf (getD s (i + 3) 0) → ((26 * x + y) % 131072 ≡ codeAt s i q) × ((26 * x + y) % 131072 < wordsOf q)
-  unfolding codeAt
-  code-four f y g = let l = three-small (getD s i 0) (getD s (i + 1) 0) (getD s (i + 2) 0) in rw (ne-eqb q 3 f) (rw (e, g), omega arith)
+pub code-number : (s : List ℕ) (i q m x r : ℕ) → x ≡ numberAt s i q → r ≡ x % m → r ≡ codeAt s i q m
+unfolding codeAt
+code-number s i q m x r e f = cc
 
 -- equal words have equal numbers
-pub code-same : (s : List ℕ) (i j q : ℕ) → 3 ≤ q → q ≤ 4 → ((k : ℕ) → k < q → getD s (i + k) 0 ≡ getD s (j + k) 0) → codeAt s i q ≡ codeAt s j q
+number-same : (s : List ℕ) (i j q : ℕ) → ((k : ℕ) → k < q → getD s (i + k) 0 ≡ getD s (j + k) 0) → numberAt s i q ≡ numberAt s j q
+number-same s i j zero h = refl
+number-same s i j (suc q) h = rw (h q (omega arith), number-same s i j q (λ k l. h k (omega arith)))
+
+pub code-same : (s : List ℕ) (i j q m : ℕ) → ((k : ℕ) → k < q → getD s (i + k) 0 ≡ getD s (j + k) 0) → codeAt s i q m ≡ codeAt s j q m
 unfolding codeAt
-code-same s i j q low high h =
-    let zi : i + 0 ≡ i = omega arith in
-    let zj : j + 0 ≡ j = omega arith in
-    let x : getD s i 0 ≡ getD s j 0 = rw (zi, zj) at (h 0 (omega arith)) in
-    rw (x, h 1 (omega arith), h 2 (omega arith)) (go (eqb q 3) refl)
-  where
-    go : (b : Bool) → eqb q 3 ≡ b
-        → cond b (threeOf (getD s j 0) (getD s (j + 1) 0) (getD s (j + 2) 0)) ((26 * threeOf (getD s j 0) (getD s (j + 1) 0) (getD s (j + 2) 0) + digitOf (getD s (i + 3) 0)) % 131072)
-        ≡ cond b (threeOf (getD s j 0) (getD s (j + 1) 0) (getD s (j + 2) 0)) ((26 * threeOf (getD s j 0) (getD s (j + 1) 0) (getD s (j + 2) 0) + digitOf (getD s (j + 3) 0)) % 131072)
-    go true e = refl
-    go false e = rw (h 3 (four (eqb-false q 3 e)))
-      where
-        four : (q ≡ 3 → ⊥) → 3 < q
-        four ne = ⊎-elim (λ (l : 3 < q). l) (λ (l : q ≤ 3). absurd (ne (omega arith))) (below? 3 q)
+code-same s i j q m h = ap (λ (x : ℕ). x % m) (number-same s i j q h)
 
 -- ---- counting
 
-pub tallied-none : (s : List ℕ) (q : ℕ) (far count : List ℕ) → Tallied s q 0 far count
-tallied-none s q far count = record { codes = λ j h l. absurd (omega arith); some = λ j h. absurd (omega arith); twice = λ j k h l e. absurd (omega arith) }
+pub tallied-none : (s : List ℕ) (q m : ℕ) (far count : List ℕ) → Tallied s q m 0 far count
+tallied-none s q m far count = record { codes = λ j h l. absurd (omega arith); some = λ j h. absurd (omega arith); twice = λ j k h l e. absurd (omega arith) }
 
 -- one more word
-module _ (s : List ℕ) (q n : ℕ) (far count : List ℕ) (t : Tallied s q n far count) (c v : ℕ) (e : c ≡ codeAt s n q)
+module _ (s : List ℕ) (q m n : ℕ) (far count : List ℕ) (t : Tallied s q m n far count) (c v : ℕ) (e : c ≡ codeAt s n q m)
     (f : v ≡ cond (eqb (getD count c 0) 0) 1 2) (wide : n < length far) (room : c < length count) where
   value : (0 < v) × (0 < getD count c 0 → v ≡ 2)
   value = go (eqb (getD count c 0) 0) refl f
@@ -89,21 +100,21 @@ module _ (s : List ℕ) (q n : ℕ) (far count : List ℕ) (t : Tallied s q n fa
   two-stays : (x : ℕ) → getD count x 0 ≡ 2 → getD (set count c v) x 0 ≡ 2
   two-stays x h = ⊎-elim (λ (g : x ≡ c). two-here x g (omega arith)) (λ (g : x ≡ c → ⊥). there x g ∙ h) (same? x c)
 
-  pub tallied-one : Tallied s q (n + 1) (set far n c) (set count c v)
+  pub tallied-one : Tallied s q m (n + 1) (set far n c) (set count c v)
   tallied-one = record {
     codes = λ j h l. ⊎-elim (λ (g : j ≡ n). rw g (getD-set-same far n c 0 wide ∙ e)) (λ (g : j ≡ n → ⊥). getD-set-other far n j c 0 g ∙ t .codes j (before j h g) l) (same? j n);
-    some = λ j h. ⊎-elim (λ (g : j ≡ n). rw (here (codeAt s j q) (rw g (sym e))) (value .0)) (λ (g : j ≡ n → ⊥). stays (codeAt s j q) (t .some j (before j h g))) (same? j n);
-    twice = λ j k h l m. ⊎-elim (λ (g : k ≡ n). two-here (codeAt s j q) (m ∙ rw g (sym e)) (t .some j (omega arith))) (λ (g : k ≡ n → ⊥). two-stays (codeAt s j q) (t .twice j k h (before k l g) m)) (same? k n);
+    some = λ j h. ⊎-elim (λ (g : j ≡ n). rw (here (codeAt s j q m) (rw g (sym e))) (value .0)) (λ (g : j ≡ n → ⊥). stays (codeAt s j q m) (t .some j (before j h g))) (same? j n);
+    twice = λ j k h l o. ⊎-elim (λ (g : k ≡ n). two-here (codeAt s j q m) (o ∙ rw g (sym e)) (t .some j (omega arith))) (λ (g : k ≡ n → ⊥). two-stays (codeAt s j q m) (t .twice j k h (before k l g) o)) (same? k n);
   }
     where
       before : (j : ℕ) → j < n + 1 → (j ≡ n → ⊥) → j < n
       before j h g = ⊎-elim (λ (l : j < n). l) (λ (l : n ≤ j). absurd (g (omega arith))) (below? j n)
 
-module _ (s : List ℕ) (q n : ℕ) (far count : List ℕ) (t : Tallied s q n far count) (all : length s < n + q) where
-  pub tallied-coded : Coded s q (length s) far
+module _ (s : List ℕ) (q m n : ℕ) (far count : List ℕ) (t : Tallied s q m n far count) (all : length s < n + q) where
+  pub tallied-coded : Coded s q m (length s) far
   tallied-coded j h l = t .codes j (omega arith) l
 
-  pub tallied-twice : Twice s q count
+  pub tallied-twice : Twice s q m count
   tallied-twice j k h l e = t .twice j k h (omega arith) e
 
 -- ---- a word that stands once
@@ -116,19 +127,19 @@ letters-same s a b len k e h =
     let w : getD (part s (site b (b + len))) k 0 ≡ getD s (b + k) 0 = getD-take (b + len - b) (drop b s) k 0 (omega arith) ∙ getD-drop b s k 0 in
     sym u ∙ x ∙ w
 
-module _ (s : List ℕ) (q : ℕ) (low : 3 ≤ q) (high : q ≤ 4) (count : List ℕ) (two : Twice s q count) where
+module _ (s : List ℕ) (q m : ℕ) (some : 1 ≤ q) (count : List ℕ) (two : Twice s q m count) where
   -- two places with the same number
-  never : (j k : ℕ) → j + q ≤ length s → k + q ≤ length s → (j ≡ k → ⊥) → codeAt s j q ≡ codeAt s k q → getD count (codeAt s j q) 0 ≡ 1 → ⊥
+  never : (j k : ℕ) → j + q ≤ length s → k + q ≤ length s → (j ≡ k → ⊥) → codeAt s j q m ≡ codeAt s k q m → getD count (codeAt s j q m) 0 ≡ 1 → ⊥
   never j k h l ne e one = ⊎-elim
       (λ (g : j < k). let x = two j k g l e in omega arith)
-      (λ (g : k ≤ j). let x = two k j (apart g (below? k j)) h (sym e) in let y : getD count (codeAt s j q) 0 ≡ 2 = rw e x in omega arith)
+      (λ (g : k ≤ j). let x = two k j (apart g (below? k j)) h (sym e) in let y : getD count (codeAt s j q m) 0 ≡ 2 = rw e x in omega arith)
       (below? j k)
     where
       apart : k ≤ j → (k < j) ⊎ (j ≤ k) → k < j
       apart g (inl m) = m
       apart g (inr m) = absurd (ne (omega arith))
 
-  pub reach-once : (i : ℕ) → i + q ≤ length s → getD count (codeAt s i q) 0 ≡ 1 → Reach s i (i + q)
+  pub reach-once : (i : ℕ) → i + q ≤ length s → getD count (codeAt s i q m) 0 ≡ 1 → Reach s i (i + q)
   reach-once i h one a b len before ends inside other ne = go (same (part s (site a (a + len))) (part s (site b (b + len)))) refl
     where
       d : ℕ
@@ -142,12 +153,12 @@ module _ (s : List ℕ) (q : ℕ) (low : 3 ≤ q) (high : q ≤ 4) (count : List
           let x : a + (i - a + k) ≡ i + k = omega arith in
           let y : b + (i - a + k) ≡ b + (i - a) + k = omega arith in
           rw (x, y) at (letters-same s a b len (i - a + k) p (omega arith)) in
-          absurd (never i (b + (i - a)) h (omega arith) (λ g. ne (omega arith)) (code-same s i (b + (i - a)) q low high word) one)
+          absurd (never i (b + (i - a)) h (omega arith) (λ g. ne (omega arith)) (code-same s i (b + (i - a)) q m word) one)
 
 -- ---- from the last start down
 
-pub swept-start : (s : List ℕ) (q : ℕ) (far : List ℕ) → Coded s q (length s) far → Swept s q (length s) far (length s + 1)
-swept-start s q far codes = record {
+pub swept-start : (s : List ℕ) (q m : ℕ) (far : List ℕ) → Coded s q m (length s) far → Swept s q m (length s) far (length s + 1)
+swept-start s q m far codes = record {
   codes = codes;
   above = omega arith;
   low = omega arith;
@@ -155,16 +166,16 @@ swept-start s q far codes = record {
   done = λ a b len h inside other ne long. absurd (omega arith);
 }
 
-module _ (s : List ℕ) (q : ℕ) (low : 3 ≤ q) (high : q ≤ 4) (count : List ℕ) (two : Twice s q count) (i j : ℕ) (far : List ℕ) (r : ℕ) (w : Swept s q i far r) (e : i ≡ j + 1)
+module _ (s : List ℕ) (q m : ℕ) (some : 1 ≤ q) (count : List ℕ) (two : Twice s q m count) (i j : ℕ) (far : List ℕ) (r : ℕ) (w : Swept s q m i far r) (e : i ≡ j + 1)
     (wide : j < length far) (x : ℕ) (p : Picked j q (length s) (getD far j 0) count r x) where
   pub on-reach : (j < x) × (x ≤ length s + 1) × Reach s j x
   on-reach = ⊎-elim
       (λ (g : x ≡ r). (omega (arith, w .above), omega (arith, w .low), rw g (λ a b len before. w .reach a b len (omega arith))))
       (λ (g : (x ≡ j + q) × (j + q ≤ length s) × (getD count (getD far j 0) 0 ≡ 1)).
-      (omega (arith, g .0), omega (arith, g .0, g .1), rw (g .0) (reach-once s q low high count two j (g .1) (rw (w .codes j (omega arith) (g .1)) at (g .2)))))
+      (omega (arith, g .0), omega (arith, g .0, g .1), rw (g .0) (reach-once s q m some count two j (g .1) (rw (w .codes j (omega arith) (g .1)) at (g .2)))))
       p
 
-  pub swept-on : Swept s q j (set far j (x - j - 1)) x
+  pub swept-on : Swept s q m j (set far j (x - j - 1)) x
   swept-on = record {
     codes = λ k h l. getD-set-other far j k (x - j - 1) 0 (λ g. omega arith) ∙ w .codes k (omega arith) l;
     above = on-reach .0;
@@ -182,5 +193,5 @@ module _ (s : List ℕ) (q : ℕ) (low : 3 ≤ q) (high : q ≤ 4) (count : List
       behind : (a : ℕ) → j ≤ a → (a ≡ j → ⊥) → i ≤ a
       behind a h g = ⊎-elim (λ (l : a < i). absurd (g (omega arith))) (λ (l : i ≤ a). l) (below? a i)
 
-pub swept-end : (s : List ℕ) (q i : ℕ) (far : List ℕ) (r : ℕ) → i ≤ 0 → Swept s q i far r → Far s far
-swept-end s q i far r h w a b len inside other ne long = w .done a b len (omega arith) inside other ne long
+pub swept-end : (s : List ℕ) (q m i : ℕ) (far : List ℕ) (r : ℕ) → i ≤ 0 → Swept s q m i far r → Far s far
+swept-end s q m i far r h w a b len inside other ne long = w .done a b len (omega arith) inside other ne long

@@ -1,11 +1,15 @@
 // Lengths from which on a stretch stands once.
-use crate::coding::word;
+use crate::coding::digit;
+use crate::coding::first;
+use crate::coding::place;
+use crate::coding::power;
+use crate::width::width;
 ghost use mathlib.Core.Path.{_≡_};
 ghost use mathlib.Core.Bool.{cond};
 ghost use Prim.Native.Nat.{ℕ, _+_, _-_, _≤_, _<_};
 ghost use lib.ListN.{length, getD};
 ghost use lib.Dec.{eqb};
-ghost use Rattle.enzyme_words.specs.Words.{wordsOf, Zeros, Tallied, Twice, Coded, Picked, Far};
+ghost use Rattle.enzyme_words.specs.Words.{Zeros, Tallied, Twice, Coded, Picked, Far};
 
 // A number as an index.
 fn wide(x: u32) -> usize
@@ -21,19 +25,27 @@ fn raised(x: u8) -> u8
     if x == 0 { 1 } else { 2 }
 }
 
-// Counts the words, and lays the number of each where it starts.
-fn tally(letters: &[u8], q: usize, far: &mut [u32], count: &mut [u8])
-    requires { ⌜ (3 ≤ q) × (q ≤ 4) × (length (now letters) ≤ length (now far)) × (wordsOf q ≤ length (now count)) × Zeros (now count) ⌝ }
-    ensures { λ _. ⌜ Coded (now (letters .entry)) q (length (now (letters .entry))) (now (far .exit)) × Twice (now (letters .entry)) q (now (count .exit)) ⌝ }
+// Counts the words at their places in a table of m, and lays the place of each where it starts. `rest` is the number of the word
+// without its last letter.
+fn tally(letters: &[u8], q: usize, m: usize, far: &mut [u32], count: &mut [u8])
+    requires { ⌜ (1 ≤ q) × (q ≤ 13) × (length (now letters) ≤ length (now far)) × (0 < m) × (m ≤ 131072) × (m ≤ length (now count)) × Zeros (now count) ⌝ }
+    ensures { λ _. ⌜ Coded (now (letters .entry)) q m (length (now (letters .entry))) (now (far .exit)) × Twice (now (letters .entry)) q m (now (count .exit)) ⌝ }
 {
     let n = letters.len();
+    if n < q {
+        return;
+    }
+    let top = power(q - 1);
+    let mut rest = first(letters, q - 1);
     let mut i = 0;
-    let mut e = q;
-    while e <= n {
-        let c = word(letters, i, q);
-        far[i] = c;
-        let at = wide(c);
+    let mut e = q - 1;
+    while e < n {
+        let word = 26 * rest + digit(letters[e]);
+        let at = place(word, m);
+        let code = at as u32;
+        far[i] = code;
         count[at] = raised(count[at]);
+        rest = word - top * digit(letters[i]);
         i += 1;
         e += 1;
     }
@@ -41,7 +53,7 @@ fn tally(letters: &[u8], q: usize, far: &mut [u32], count: &mut [u8])
 
 // Where a stretch from i or before has to end to stand once: behind the word at i where that stands once, else at r as before.
 fn end_at(i: usize, q: usize, n: usize, code: u32, count: &[u8], r: usize) -> usize
-    requires { ⌜ (i ≤ n) × (n ≤ 65536) × (q ≤ 4) × (i + q ≤ n → code < length (now count)) ⌝ }
+    requires { ⌜ (i ≤ n) × (n ≤ 65536) × (q ≤ 13) × (i + q ≤ n → code < length (now count)) ⌝ }
     ensures { λ x. ⌜ Picked i q n code (now (count .entry)) r x ⌝ }
 {
     if n < i + q {
@@ -52,8 +64,8 @@ fn end_at(i: usize, q: usize, n: usize, code: u32, count: &[u8], r: usize) -> us
 }
 
 // From the last start down, each start's number in the place of its word's.
-fn sweep(letters: &[u8], q: usize, far: &mut [u32], count: &[u8])
-    requires { ⌜ (3 ≤ q) × (q ≤ 4) × (length (now letters) ≤ 65536) × (length (now letters) ≤ length (now far)) × (wordsOf q ≤ length (now count)) × Coded (now letters) q (length (now letters)) (now far) × Twice (now letters) q (now count) ⌝ }
+fn sweep(letters: &[u8], q: usize, m: usize, far: &mut [u32], count: &[u8])
+    requires { ⌜ (1 ≤ q) × (q ≤ 13) × (length (now letters) ≤ 65536) × (length (now letters) ≤ length (now far)) × (0 < m) × (m ≤ length (now count)) × Coded (now letters) q m (length (now letters)) (now far) × Twice (now letters) q m (now count) ⌝ }
     ensures { λ _. ⌜ Far (now (letters .entry)) (now (far .exit)) ⌝ }
 {
     let n = letters.len();
@@ -67,11 +79,13 @@ fn sweep(letters: &[u8], q: usize, far: &mut [u32], count: &[u8])
     }
 }
 
-// For each start a length such that no longer stretch from it stands at another start, by words of q letters; count is zero.
-pub fn fill_far(letters: &[u8], q: usize, far: &mut [u32], count: &mut [u8])
-    requires { ⌜ (3 ≤ q) × (q ≤ 4) × (length (now letters) ≤ 65536) × (length (now letters) ≤ length (now far)) × (wordsOf q ≤ length (now count)) × Zeros (now count) ⌝ }
+// For each start a length such that no longer stretch from it stands at another start, by words of one length; count is zero.
+pub fn fill_far(letters: &[u8], far: &mut [u32], count: &mut [u8])
+    requires { ⌜ (length (now letters) ≤ 65536) × (length (now letters) ≤ length (now far)) × (0 < length (now count)) × (length (now count) ≤ 131072) × Zeros (now count) ⌝ }
     ensures { λ _. ⌜ Far (now (letters .entry)) (now (far .exit)) × (length (now (far .exit)) ≡ length (now (far .entry))) ⌝ }
 {
-    tally(letters, q, far, count);
-    sweep(letters, q, far, count);
+    let q = width(letters);
+    let m = count.len();
+    tally(letters, q, m, far, count);
+    sweep(letters, q, m, far, count);
 }

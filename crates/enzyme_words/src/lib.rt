@@ -2,5 +2,6 @@
 // that stand once. Only crates of this repository call these.
 mod coding;
 mod filling;
+mod width;
 
 pub use filling::fill_far;

@@ -1,6 +1,7 @@
 -- `semi_middle` meets its contract: its tables are long enough, and zero. Assumes nothing.
 use native.Mathlib.Omega.{arith}
-use lib.ListN.{length}
+use Prim.Native.Nat.{ℕ}
+use lib.ListN.{length, length-replicate}
 use denote.Ref.{now}
 use Rattle.enzyme_tables.specs.TableLaws.{as-long, longer, zeros}
 use borrow.Author.Needs.{needs}
@@ -10,7 +11,7 @@ use Rattle.enzyme_halves.proofs.semis.semi_middle.Tie as tie
 semi-over-requires : tie.Need-semi-over-requires
 semi-over-requires c κs = let s = c .before .before .before .before .before .before .before .before .before .before .before .before .before in
     let n = length (now (s .args .letters)) in
-    (omega arith, s .pre .1, longer 8193 n (omega arith), as-long 8192 n (omega arith), omega arith, omega arith, as-long 131072 131072 (omega arith), zeros 131072, omega arith, omega arith, omega arith, omega arith, zeros 2048)
+    (omega arith, s .pre .1, longer 8193 n (omega arith), as-long 8192 n (omega arith), longer 131071 0 (omega arith), rw (length-replicate {0} {A = ℕ} 131071 0) (omega arith), zeros 131071, omega arith, omega arith, omega arith, omega arith, zeros 2048)
 
 pub semi-middle-spec : {M : Type 1} → statement M
 semi-middle-spec =

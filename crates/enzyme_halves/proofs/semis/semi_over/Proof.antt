@@ -16,7 +16,7 @@ fill-share-requires c κs =
     let l = now (s .args .letters) in
     let p = s .pre in
     let st = c .before .before .before .before .before .before .before .before .before .sites .ensures in
-    ((pieces k l, pieces-placed k l _ _ (st .count) (st .room) (st .at)), omega (arith, st .count, pieces-few k l, p .0), omega arith, omega (arith, p .1), p .8, p .9, p .10, p .11, p .12)
+    ((pieces k l, pieces-placed k l _ _ (st .count) (st .room) (st .at)), omega (arith, st .count, pieces-few k l, p .0), omega arith, omega (arith, p .1), p .7, p .8, p .9, p .10, p .11)
 
 list-semi-requires : tie.Need-list-semi-requires
 list-semi-requires c κs = let p = c .before .before .before .before .before .before .before .before .before .before .before .before .before .before .before .before .before .before .before .before .before .before .before .before .before .before .before .before .before .before .before .before .before .before .before .before .before .before .before .before .before .before .before .before .before .before .before .before .pre in (p .0, p .1, c .before .before .before .before .before .before .before .before .before .before .before .before .before .before .before .before .before .before .before .before .before .before .before .before .before .before .before .before .before .before .before .before .before .before .sites .ensures, c .before .before .before .before .before .before .before .before .before .fill-far .ensures .0)

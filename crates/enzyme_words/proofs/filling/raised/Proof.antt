@@ -1,14 +1,11 @@
+-- `raised` meets its contract. Assumes nothing.
 use borrow.Author.Tests.{eq-eqb, ne-eqb}
 use Rattle.enzyme_words.proofs.filling.raised.Statement.{statement}
 use Rattle.enzyme_words.proofs.filling.raised.Tie as tie
-use Rattle.enzyme_words.proofs.filling.raised.Reads as reads
-use Rattle.enzyme_words.proofs.filling.raised.Lts as lts
 
--- src/filling.rt:18:1
 returns : tie.Need-returns
 returns c = rw (eq-eqb _ _ (c .if1 .taken))
 
--- src/filling.rt:18:1
 returns-2 : tie.Need-returns-2
 returns-2 c = rw (ne-eqb _ _ (c .if1 .left))
 

@@ -1,3 +1,4 @@
+-- `sweep` meets its contract. Assumes nothing.
 use native.Mathlib.Omega.{arith}
 use borrow.Author.Needs.{needs}
 use mathlib.Core.Path.{_≡_, refl, _∙_}
@@ -8,42 +9,33 @@ use Rattle.enzyme_words.specs.Words.{Swept}
 use Rattle.enzyme_words.specs.WordLaws.{code-small, swept-start, on-reach, swept-on, swept-end}
 use Rattle.enzyme_words.proofs.filling.sweep.Statement.{statement}
 use Rattle.enzyme_words.proofs.filling.sweep.Tie as tie
-use Rattle.enzyme_words.proofs.filling.sweep.Reads as reads
-use Rattle.enzyme_words.proofs.filling.sweep.Lts as lts
-use Rattle.enzyme_words.proofs.filling.end_at.Reads as end-at-reads
 
 abbrev Inv-loop : tie.InvT-loop
-Inv-loop letters q far₀ count n i₀ r₀ far i r = (length far ≡ length far₀) × (i ≤ length letters) × Swept letters q i far r
+Inv-loop letters q m far₀ count n i₀ r₀ far i r = (length far ≡ length far₀) × (i ≤ length letters) × Swept letters q m i far r
 
 abbrev μ-loop : tie.MeasureT-loop
-μ-loop letters q far₀ count n i₀ r₀ far i r = i
+μ-loop letters q m far₀ count n i₀ r₀ far i r = i
 
--- src/filling.rt:61:17
 add-r : tie.Need-add-r Inv-loop μ-loop
 add-r c = omega arith
 
--- src/filling.rt:62:5
 loop-holds : tie.Need-loop-holds Inv-loop μ-loop
-loop-holds c = let a = c .before .before .before .args in (refl, omega arith, swept-start (now (a .letters)) (a .q) (now (a .far)) (c .before .before .before .pre .5))
+loop-holds c = let a = c .before .before .before .args in (refl, omega arith, swept-start (now (a .letters)) (a .q) (a .m) (now (a .far)) (c .before .before .before .pre .6))
 
--- src/filling.rt:63:9
 sub-i : tie.Need-sub-i Inv-loop μ-loop
 sub-i c = omega arith
 
--- src/filling.rt:64:29
 mul-end-at : tie.Need-mul-end-at Inv-loop μ-loop
 mul-end-at c = omega arith
 
--- src/filling.rt:64:29
 slice-read-end-at : tie.Need-slice-read-end-at Inv-loop μ-loop
 slice-read-end-at c = omega arith
 
--- src/filling.rt:64:9
 end-at-requires : tie.Need-end-at-requires Inv-loop μ-loop
 end-at-requires c κs =
     let a = c .before .before .before .before .before .before .args in
     let l = c .before .before .loop in
-    (omega arith, omega arith, omega arith, λ h. let e = l .inv .2 .codes (l .i - 1) (omega arith) h in omega (arith, code-small (now (a .letters)) (l .i - 1) (a .q)))
+    (omega arith, omega arith, omega arith, λ h. let e = l .inv .2 .codes (l .i - 1) (omega arith) h in omega (arith, code-small (now (a .letters)) (l .i - 1) (a .q) (a .m) (c .before .before .before .before .before .before .pre .4)))
 
 -- what the picked end is
 ends : (c : tie.After-end-at Inv-loop μ-loop) → (c .before .before .before .loop .i - 1 < c .end-at .result) × (c .end-at .result ≤ length (now (c .before .before .before .before .before .before .before .args .letters)) + 1)
@@ -51,34 +43,27 @@ ends c =
     let a = c .before .before .before .before .before .before .before .args in
     let p = c .before .before .before .before .before .before .before .pre in
     let l = c .before .before .before .loop in
-    let x = on-reach (now (a .letters)) (a .q) (p .0) (p .1) (now (a .count)) (p .6) (l .i) (l .i - 1) (l .far) (l .r) (l .inv .2) (omega arith) (omega arith) (c .end-at .result) (c .end-at .ensures) in
+    let x = on-reach (now (a .letters)) (a .q) (a .m) (p .0) (now (a .count)) (p .7) (l .i) (l .i - 1) (l .far) (l .r) (l .inv .2) (omega arith) (omega arith) (c .end-at .result) (c .end-at .ensures) in
     (x .0, x .1)
 
--- src/filling.rt:65:18
 sub-x : tie.Need-sub-x Inv-loop μ-loop
 sub-x c = let h = ends c in omega arith
 
--- src/filling.rt:65:18
 sub-x-2 : tie.Need-sub-x-2 Inv-loop μ-loop
 sub-x-2 c = let h = ends c in omega arith
 
--- src/filling.rt:65:17
 cast-x : tie.Need-cast-x Inv-loop μ-loop
 cast-x c = let h = ends c in omega arith
 
--- src/filling.rt:66:9
 mul-far : tie.Need-mul-far Inv-loop μ-loop
 mul-far c = omega arith
 
--- src/filling.rt:66:9
 slice-write-far : tie.Need-slice-write-far Inv-loop μ-loop
 slice-write-far c = omega arith
 
--- src/filling.rt:62:5
 loop-less : tie.Need-loop-less Inv-loop μ-loop
 loop-less c = omega arith
 
--- src/filling.rt:62:5
 loop-again : tie.Need-loop-again Inv-loop μ-loop
 loop-again c =
     let a = c .before .before .before .before .before .before .before .args in
@@ -86,16 +71,14 @@ loop-again c =
     let l = c .before .before .before .loop in (
       length-set (l .far) (l .i - 1) (c .end-at .result - (l .i - 1) - 1) ∙ l .inv .0,
       omega arith,
-      swept-on (now (a .letters)) (a .q) (p .0) (p .1) (now (a .count)) (p .6) (l .i) (l .i - 1) (l .far) (l .r) (l .inv .2) (omega arith) (omega arith) (c .end-at .result) (c .end-at .ensures),
+      swept-on (now (a .letters)) (a .q) (a .m) (p .0) (now (a .count)) (p .7) (l .i) (l .i - 1) (l .far) (l .r) (l .inv .2) (omega arith) (omega arith) (c .end-at .result) (c .end-at .ensures),
     )
 
--- src/filling.rt:55:1
 same-length : tie.Need-same-length Inv-loop μ-loop
 same-length c = omega arith
 
--- src/filling.rt:55:1
 returns : tie.Need-returns Inv-loop μ-loop
-returns c = let l = c .before .loop in swept-end (now (c .before .before .before .before .before .args .letters)) (c .before .before .before .before .before .args .q) (l .i) (l .far) (l .r) (omega arith) (l .inv .2)
+returns c = let l = c .before .loop in swept-end (now (c .before .before .before .before .before .args .letters)) (c .before .before .before .before .before .args .q) (c .before .before .before .before .before .args .m) (l .i) (l .far) (l .r) (omega arith) (l .inv .2)
 
 pub sweep-spec : {M : Type 1} → statement M
 sweep-spec =

@@ -1,116 +1,131 @@
+-- `tally` meets its contract. Assumes nothing.
 use native.Mathlib.Omega.{arith}
 use borrow.Author.Needs.{needs}
 use mathlib.Core.Path.{_≡_, refl, _∙_}
-use Prim.Native.Nat.{suc, _+_, _-_}
+use Prim.Native.Nat.{_+_, _-_, _*_, _≤_, _<_}
 use denote.Ref.{now}
 use lib.ListN.{length, length-set}
-use Rattle.enzyme_words.specs.Words.{Tallied}
-use Rattle.enzyme_words.specs.WordLaws.{tallied-none, tallied-one, tallied-coded, tallied-twice}
+use Rattle.enzyme_words.specs.Words.{numberAt, codeAt, Tallied}
+use Rattle.enzyme_words.specs.WordLaws.{number-small, number-on, number-off, code-number, code-small, tallied-none, tallied-one, tallied-coded, tallied-twice}
 use Rattle.enzyme_words.proofs.filling.tally.Statement.{statement}
 use Rattle.enzyme_words.proofs.filling.tally.Tie as tie
-use Rattle.enzyme_words.proofs.filling.tally.Reads as reads
-use Rattle.enzyme_words.proofs.filling.tally.Lts as lts
-use Rattle.enzyme_words.proofs.coding.word.Reads as word-reads
-use Rattle.enzyme_words.proofs.filling.raised.Reads as raised-reads
-use Rattle.enzyme_words.proofs.filling.wide.Reads as wide-reads
 
 abbrev Inv-loop : tie.InvT-loop
-Inv-loop letters q far₀ count₀ n i₀ e₀ far count i e = (e ≡ i + q) × (length far ≡ length far₀) × (length count ≡ length count₀) × Tallied letters q i far count
+Inv-loop letters q m far₀ count₀ n top rest₀ i₀ e₀ far count rest i e = (e + 1 ≡ i + q) × (length far ≡ length far₀) × (length count ≡ length count₀) × (rest ≡ numberAt letters i (q - 1)) × Tallied letters q m i far count
 
 abbrev μ-loop : tie.MeasureT-loop
-μ-loop letters q far₀ count₀ n i₀ e₀ far count i e = suc (length letters) - e
+μ-loop letters q m far₀ count₀ n top rest₀ i₀ e₀ far count rest i e = length letters - e
 
--- src/filling.rt:32:5
+returns : tie.Need-returns Inv-loop μ-loop
+returns c = (λ j h l. absurd (omega arith), λ j k h l e. absurd (omega arith))
+
+sub-power : tie.Need-sub-power Inv-loop μ-loop
+sub-power c = omega arith
+
+sub-first : tie.Need-sub-first Inv-loop μ-loop
+sub-first c = omega arith
+
+sub-e : tie.Need-sub-e Inv-loop μ-loop
+sub-e c = omega arith
+
 loop-holds : tie.Need-loop-holds Inv-loop μ-loop
-loop-holds c = let a = c .before .before .before .args in (omega arith, refl, refl, tallied-none (now (a .letters)) (a .q) (now (a .far)) (now (a .count)))
+loop-holds c = let a = c .before .before .before .before .before .before .args in
+    (omega arith, refl, refl, c .first .ensures, tallied-none (now (a .letters)) (a .q) (a .m) (now (a .far)) (now (a .count)))
 
--- src/filling.rt:33:13
-word-requires : tie.Need-word-requires Inv-loop μ-loop
-word-requires c κs = search needs
+small : (c : tie.In-loop Inv-loop μ-loop) → 26 * c .before .loop .rest + 25 < 18446744073709551616
+small c = let a = c .before .before .before .before .before .before .before .before .args in let l = c .before .loop in omega (arith, number-small (now (a .letters)) (l .i) (a .q - 1) (omega arith))
 
--- src/filling.rt:34:9
+mul-word : tie.Need-mul-word Inv-loop μ-loop
+mul-word c = omega (arith, small c)
+
+shared-slice-read-digit : tie.Need-shared-slice-read-digit Inv-loop μ-loop
+shared-slice-read-digit c = omega arith
+
+add-word : tie.Need-add-word Inv-loop μ-loop
+add-word c = omega (arith, small (c .before .before))
+
+-- the word's place
+whole : (c : tie.After-digit Inv-loop μ-loop) → 26 * c .before .before .before .loop .rest + c .digit .result ≡ numberAt (now (c .before .before .before .before .before .before .before .before .before .before .args .letters)) (c .before .before .before .loop .i) (c .before .before .before .before .before .before .before .before .before .before .args .q)
+whole c =
+    let a = c .before .before .before .before .before .before .before .before .before .before .args in
+    let l = c .before .before .before .loop in
+    number-on (now (a .letters)) (l .i) (a .q) (c .before .before .before .before .before .before .before .before .before .before .pre .0) (l .e) (l .rest) (c .digit .result) (l .inv .0) (l .inv .3) (c .digit .ensures)
+
+coded : (c : tie.After-place Inv-loop μ-loop) → (c .place .result ≡ codeAt (now (c .before .before .before .before .before .before .before .before .before .before .before .args .letters)) (c .before .before .before .before .loop .i) (c .before .before .before .before .before .before .before .before .before .before .before .args .q) (c .before .before .before .before .before .before .before .before .before .before .before .args .m)) × (c .place .result < c .before .before .before .before .before .before .before .before .before .before .before .args .m)
+coded c =
+    let a = c .before .before .before .before .before .before .before .before .before .before .before .args in
+    let l = c .before .before .before .before .loop in
+    let e = code-number (now (a .letters)) (l .i) (a .q) (a .m) (26 * l .rest + c .before .digit .result) (c .place .result) (whole (c .before)) (c .place .ensures) in
+    (e, rw e (code-small (now (a .letters)) (l .i) (a .q) (a .m) (c .before .before .before .before .before .before .before .before .before .before .before .pre .3)))
+
+cast-code : tie.Need-cast-code Inv-loop μ-loop
+cast-code c = omega (arith, coded c .1)
+
 mul-far : tie.Need-mul-far Inv-loop μ-loop
 mul-far c = omega arith
 
--- src/filling.rt:34:9
 slice-write-far : tie.Need-slice-write-far Inv-loop μ-loop
 slice-write-far c = omega arith
 
--- src/filling.rt:35:13
-wide-requires : tie.Need-wide-requires Inv-loop μ-loop
-wide-requires c κs = search needs
-
--- src/filling.rt:36:28
 slice-read-raised : tie.Need-slice-read-raised Inv-loop μ-loop
-slice-read-raised c = omega arith
+slice-read-raised c = omega (arith, coded (c .before) .1)
 
--- src/filling.rt:36:21
-raised-requires : tie.Need-raised-requires Inv-loop μ-loop
-raised-requires c κs = search needs
-
--- src/filling.rt:36:9
 slice-write-count : tie.Need-slice-write-count Inv-loop μ-loop
-slice-write-count c = omega arith
+slice-write-count c = omega (arith, coded (c .before .before) .1)
 
--- src/filling.rt:37:9
+shared-slice-read-digit-2 : tie.Need-shared-slice-read-digit-2 Inv-loop μ-loop
+shared-slice-read-digit-2 c = omega arith
+
+-- without its first letter
+off : (c : tie.After-digit2 Inv-loop μ-loop) → (c .before .before .before .before .before .before .before .before .before .before .power .result * c .digit2 .result ≤ 26 * c .before .before .before .before .before .before .before .before .loop .rest + c .before .before .before .before .before .digit .result) × (26 * c .before .before .before .before .before .before .before .before .loop .rest + c .before .before .before .before .before .digit .result - c .before .before .before .before .before .before .before .before .before .before .power .result * c .digit2 .result ≡ numberAt (now (c .before .before .before .before .before .before .before .before .before .before .before .before .before .before .before .args .letters)) (c .before .before .before .before .before .before .before .before .loop .i + 1) (c .before .before .before .before .before .before .before .before .before .before .before .before .before .before .before .args .q - 1))
+off c =
+    let a = c .before .before .before .before .before .before .before .before .before .before .before .before .before .before .before .args in
+    let l = c .before .before .before .before .before .before .before .before .loop in
+    number-off (now (a .letters)) (l .i) (a .q) (c .before .before .before .before .before .before .before .before .before .before .before .before .before .before .before .pre .0) (26 * l .rest + c .before .before .before .before .before .digit .result) (c .before .before .before .before .before .before .before .before .before .before .power .result) (c .digit2 .result) (whole (c .before .before .before .before .before)) (c .before .before .before .before .before .before .before .before .before .before .power .ensures) (c .digit2 .ensures)
+
+mul-rest : tie.Need-mul-rest Inv-loop μ-loop
+mul-rest c = omega (arith, off c .0, small (c .before .before .before .before .before .before .before))
+
+sub-rest : tie.Need-sub-rest Inv-loop μ-loop
+sub-rest c = off c .0
+
 add-i : tie.Need-add-i Inv-loop μ-loop
 add-i c = omega arith
 
--- src/filling.rt:38:9
 add-e : tie.Need-add-e Inv-loop μ-loop
 add-e c = omega arith
 
--- src/filling.rt:32:5
 loop-less : tie.Need-loop-less Inv-loop μ-loop
 loop-less c = omega arith
 
--- src/filling.rt:32:5
 loop-again : tie.Need-loop-again Inv-loop μ-loop
-loop-again c =
-    let a = c .before .before .before .before .before .before .before .before .before .args in
-    let l = c .before .before .before .before .before .loop in
-    let e : c .before .before .wide .result ≡ c .before .before .before .word .result = c .before .before .wide .ensures in (
+loop-again c = let a = c .before .before .before .before .before .before .before .before .before .before .before .before .before .before .before .args in
+    let l = c .before .before .before .before .before .before .before .before .loop in
+    let x = c .before .before .before .before .place .result in (
       omega arith,
-      length-set (l .far) (l .i) (c .before .before .before .word .result) ∙ l .inv .1,
-      length-set (l .count) (c .before .before .wide .result) (c .raised .result) ∙ l .inv .2,
-      rw e (tallied-one (now (a .letters)) (a .q) (l .i) (l .far) (l .count) (l .inv .3) (c .before .before .before .word .result) (c .raised .result) (c .before .before .before .word .ensures .0) (rw e at (c .raised .ensures)) (omega arith) (omega arith)),
+      length-set (l .far) (l .i) x ∙ l .inv .1,
+      length-set (l .count) x (c .before .before .raised .result) ∙ l .inv .2,
+      off c .1,
+      tallied-one (now (a .letters)) (a .q) (a .m) (l .i) (l .far) (l .count) (l .inv .4) x (c .before .before .raised .result) (coded (c .before .before .before .before) .0) (c .before .before .raised .ensures) (omega arith) (omega (arith, coded (c .before .before .before .before) .1)),
     )
 
--- src/filling.rt:25:1
 same-length : tie.Need-same-length Inv-loop μ-loop
 same-length c = omega arith
 
--- src/filling.rt:25:1
 same-length-2 : tie.Need-same-length-2 Inv-loop μ-loop
 same-length-2 c = omega arith
 
--- src/filling.rt:25:1
-returns : tie.Need-returns Inv-loop μ-loop
-returns c =
-    let a = c .before .before .before .before .before .args in
+returns-2 : tie.Need-returns-2 Inv-loop μ-loop
+returns-2 c = let a = c .before .before .before .before .before .before .before .before .args in
     let l = c .before .loop in (
-      tallied-coded (now (a .letters)) (a .q) (l .i) (l .far) (l .count) (l .inv .3) (omega arith),
-      tallied-twice (now (a .letters)) (a .q) (l .i) (l .far) (l .count) (l .inv .3) (omega arith),
+      tallied-coded (now (a .letters)) (a .q) (a .m) (l .i) (l .far) (l .count) (l .inv .4) (omega arith),
+      tallied-twice (now (a .letters)) (a .q) (a .m) (l .i) (l .far) (l .count) (l .inv .4) (omega arith),
     )
 
 pub tally-spec : {M : Type 1} → statement M
 tally-spec =
-    tie.close
-    (tie.spec
-    Inv-loop
-    μ-loop
-    loop-holds
-    word-requires
-    mul-far
-    slice-write-far
-    wide-requires
-    slice-read-raised
-    raised-requires
-    slice-write-count
-    add-i
-    add-e
-    loop-less
-    loop-again
-    same-length
-    same-length-2
-    returns)
+    tie.close (tie.spec Inv-loop μ-loop returns sub-power (λ c κs. search needs) sub-first (λ c κs. search needs)
+    sub-e loop-holds mul-word shared-slice-read-digit (λ c κs. search needs) add-word (λ c κs. search needs)
+    cast-code mul-far slice-write-far slice-read-raised (λ c κs. search needs) slice-write-count
+    shared-slice-read-digit-2 (λ c κs. search needs) mul-rest sub-rest add-i add-e loop-less loop-again
+    same-length same-length-2 returns-2)
