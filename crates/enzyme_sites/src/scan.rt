@@ -33,17 +33,12 @@ fn cuts(knife: Knife, b: u8, c: u8) -> bool
     }
 }
 
-// Whether a site ends behind the letter at j.
+// Whether a site ends behind the letter at j, which is not the last.
 fn ends_at(letters: &[u8], knife: Knife, j: usize) -> bool
-    requires { ⌜ j < length (now letters) ⌝ }
+    requires { ⌜ j + 1 < length (now letters) ⌝ }
     ensures { λ r. ⌜ r ≡ ends knife (drop j (now (letters .entry))) ⌝ }
 {
-    let next = j + 1;
-    if next < letters.len() {
-        cuts(knife, letters[j], letters[next])
-    } else {
-        true
-    }
+    cuts(knife, letters[j], letters[j + 1])
 }
 
 // Writes where each non-empty site starts, and behind them where the last one ends; says how many there are.
@@ -51,10 +46,15 @@ pub fn sites(letters: &[u8], knife: Knife, starts: &mut [u32]) -> usize
     requires { ⌜ (length (now letters) ≤ 65536) × (length (now letters) + 1 ≤ length (now starts)) ⌝ }
     ensures { λ r. ⌜ Starts knife (now (letters .entry)) (now (starts .exit)) r ⌝ }
 {
+    let n = letters.len();
     starts[0] = 0;
+    if n == 0 {
+        return 0;
+    }
+    let last = n - 1;
     let mut m = 0;
     let mut j = 0;
-    while j < letters.len() {
+    while j < last {
         let next = j + 1;
         if ends_at(letters, knife, j) {
             let place = next as u32;
@@ -65,5 +65,8 @@ pub fn sites(letters: &[u8], knife: Knife, starts: &mut [u32]) -> usize
             j = next;
         }
     }
+    m += 1;
+    let end = n as u32;
+    starts[m] = end;
     m
 }
