@@ -13,11 +13,11 @@ use borrow.Author.Tests.{eqb-true}
 use Rattle.records.specs.Tests.{below?, same?}
 use Rattle.enzyme_cuts.specs.Cutting.{site, same, part}
 use Rattle.enzyme_cuts.specs.SameLaws.{same-eq}
-use Rattle.enzyme_words.specs.Words.{digitOf, numberAt, codeAt, Coded, Twice, Tallied, Picked, Unlike, Far, Reach, Swept}
+use Rattle.enzyme_words.specs.Words.{digitOf, wordAt, codeAt, Coded, Twice, Tallied, Picked, Unlike, Far, Reach, Swept}
 
 -- ---- the number of a word
 
-pub number-less : (s : List ℕ) (i q : ℕ) → numberAt s i q < 26 ^ q
+pub number-less : (s : List ℕ) (i q : ℕ) → wordAt s i q < 26 ^ q
 number-less s i zero = rw (pow-zero 26) (omega arith)
 number-less s i (suc q) = let h = number-less s i q in rw (pow-succ' 26 q) (omega arith)
 
@@ -25,11 +25,11 @@ number-less s i (suc q) = let h = number-less s i q in rw (pow-succ' 26 q) (omeg
 pub power-small : (q : ℕ) → q ≤ 12 → 26 ^ q ≤ 95428956661682176
 power-small q h = pow-le-pow-right {n = 26} (omega arith) h
 
-pub number-small : (s : List ℕ) (i q : ℕ) → q ≤ 12 → numberAt s i q < 95428956661682176
+pub number-small : (s : List ℕ) (i q : ℕ) → q ≤ 12 → wordAt s i q < 95428956661682176
 number-small s i q h = omega (arith, number-less s i q, power-small q h)
 
 -- without its first letter
-pub number-behind : (s : List ℕ) (i q : ℕ) → numberAt s i (suc q) ≡ 26 ^ q * digitOf (getD s i 0) + numberAt s (i + 1) q
+pub number-behind : (s : List ℕ) (i q : ℕ) → wordAt s i (suc q) ≡ 26 ^ q * digitOf (getD s i 0) + wordAt s (i + 1) q
 number-behind s i zero = let z : i + 0 ≡ i = omega arith in rw (pow-zero 26, z) (omega arith)
 number-behind s i (suc q) =
     let e = number-behind s i q in
@@ -39,28 +39,28 @@ number-behind s i (suc q) =
 
 -- the word at i from the letters before its last, at e, and back to those behind its first
 module _ (s : List ℕ) (i q : ℕ) (some : 1 ≤ q) where
-  pub number-on : (e x y : ℕ) → e + 1 ≡ i + q → x ≡ numberAt s i (q - 1) → y ≡ digitOf (getD s e 0) → 26 * x + y ≡ numberAt s i q
+  pub number-on : (e x y : ℕ) → e + 1 ≡ i + q → x ≡ wordAt s i (q - 1) → y ≡ digitOf (getD s e 0) → 26 * x + y ≡ wordAt s i q
   number-on e x y k f g =
       let h : q ≡ suc (q - 1) = omega arith in
       let l : e ≡ i + (q - 1) = omega arith in
       rw (h, f, g, l)
 
-  pub number-off : (w t y : ℕ) → w ≡ numberAt s i q → t ≡ 26 ^ (q - 1) → y ≡ digitOf (getD s i 0) → (t * y ≤ w) × (w - t * y ≡ numberAt s (i + 1) (q - 1))
+  pub number-off : (w t y : ℕ) → w ≡ wordAt s i q → t ≡ 26 ^ (q - 1) → y ≡ digitOf (getD s i 0) → (t * y ≤ w) × (w - t * y ≡ wordAt s (i + 1) (q - 1))
   number-off w t y f g k =
       let h : q ≡ suc (q - 1) = omega arith in
-      let e : w ≡ t * y + numberAt s (i + 1) (q - 1) = rw (g, k) (f ∙ ap (numberAt s i) h ∙ number-behind s i (q - 1)) in
+      let e : w ≡ t * y + wordAt s (i + 1) (q - 1) = rw (g, k) (f ∙ ap (wordAt s i) h ∙ number-behind s i (q - 1)) in
       (omega arith, omega arith)
 
 pub code-small : (s : List ℕ) (i q m : ℕ) → 0 < m → codeAt s i q m < m
 unfolding codeAt
-code-small s i q m h = mod-lt (numberAt s i q) h
+code-small s i q m h = mod-lt (wordAt s i q) h
 
-pub code-number : (s : List ℕ) (i q m x r : ℕ) → x ≡ numberAt s i q → r ≡ x % m → r ≡ codeAt s i q m
+pub code-number : (s : List ℕ) (i q m x r : ℕ) → x ≡ wordAt s i q → r ≡ x % m → r ≡ codeAt s i q m
 unfolding codeAt
 code-number s i q m x r e f = cc
 
 -- equal words have equal numbers
-number-same : (s : List ℕ) (i j q : ℕ) → ((k : ℕ) → k < q → getD s (i + k) 0 ≡ getD s (j + k) 0) → numberAt s i q ≡ numberAt s j q
+number-same : (s : List ℕ) (i j q : ℕ) → ((k : ℕ) → k < q → getD s (i + k) 0 ≡ getD s (j + k) 0) → wordAt s i q ≡ wordAt s j q
 number-same s i j zero h = refl
 number-same s i j (suc q) h = rw (h q (omega arith), number-same s i j q (λ k l. h k (omega arith)))
 

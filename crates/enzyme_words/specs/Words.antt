@@ -12,13 +12,13 @@ abbrev pub digitOf : ℕ → ℕ
 digitOf x = min (x - 65) 25
 
 -- the word of q letters at i as a number of base 26
-abbrev pub numberAt : List ℕ → ℕ → ℕ → ℕ
-numberAt s i zero = 0
-numberAt s i (suc q) = 26 * numberAt s i q + digitOf (getD s (i + q) 0)
+abbrev pub wordAt : List ℕ → ℕ → ℕ → ℕ
+wordAt s i zero = 0
+wordAt s i (suc q) = 26 * wordAt s i q + digitOf (getD s (i + q) 0)
 
 -- its place in a table of m; words may share one
 unfoldable pub codeAt : List ℕ → ℕ → ℕ → ℕ → ℕ
-codeAt s i q m = numberAt s i q % m
+codeAt s i q m = wordAt s i q % m
 
 abbrev pub Zeros : List ℕ → Type 0
 Zeros m = (x : ℕ) → getD m x 0 ≡ 0

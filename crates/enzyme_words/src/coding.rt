@@ -2,7 +2,7 @@
 ghost use mathlib.Core.Path.{_≡_};
 ghost use Prim.Native.Nat.{_-_, _%_, _^_, _≤_, _<_, min};
 ghost use lib.ListN.{length};
-ghost use Rattle.enzyme_words.specs.Words.{digitOf, numberAt};
+ghost use Rattle.enzyme_words.specs.Words.{digitOf, wordAt};
 
 // A letter as a number below 26; other bytes need not be told apart.
 pub(crate) fn digit(x: u8) -> u64
@@ -33,7 +33,7 @@ pub(crate) fn power(k: usize) -> u64
 // The number of the first k letters.
 pub(crate) fn first(letters: &[u8], k: usize) -> u64
     requires { ⌜ (k ≤ 12) × (k ≤ length (now letters)) ⌝ }
-    ensures { λ r. ⌜ r ≡ numberAt (now (letters .entry)) 0 k ⌝ }
+    ensures { λ r. ⌜ r ≡ wordAt (now (letters .entry)) 0 k ⌝ }
 {
     let mut w = 0;
     let mut i = 0;

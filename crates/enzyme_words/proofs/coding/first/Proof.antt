@@ -5,13 +5,13 @@ use denote.Ref.{now}
 use borrow.Author.Needs.{needs}
 use native.Mathlib.Omega.{arith}
 use native.Mathlib.Numerals.{add-one}
-use Rattle.enzyme_words.specs.Words.{numberAt}
+use Rattle.enzyme_words.specs.Words.{wordAt}
 use Rattle.enzyme_words.specs.WordLaws.{number-small, number-on}
 use Rattle.enzyme_words.proofs.coding.first.Statement.{statement}
 use Rattle.enzyme_words.proofs.coding.first.Tie as tie
 
 abbrev Inv-loop : tie.InvT-loop
-Inv-loop letters k w₀ i₀ w i = (i ≤ k) × (w ≡ numberAt letters 0 i)
+Inv-loop letters k w₀ i₀ w i = (i ≤ k) × (w ≡ wordAt letters 0 i)
 
 abbrev μ-loop : tie.MeasureT-loop
 μ-loop letters k w₀ i₀ w i = k - i

@@ -5,13 +5,13 @@ use mathlib.Core.Path.{_≡_, refl, _∙_}
 use Prim.Native.Nat.{_+_, _-_, _*_, _≤_, _<_}
 use denote.Ref.{now}
 use lib.ListN.{length, length-set}
-use Rattle.enzyme_words.specs.Words.{numberAt, codeAt, Tallied}
+use Rattle.enzyme_words.specs.Words.{wordAt, codeAt, Tallied}
 use Rattle.enzyme_words.specs.WordLaws.{number-small, number-on, number-off, code-number, code-small, tallied-none, tallied-one, tallied-coded, tallied-twice}
 use Rattle.enzyme_words.proofs.filling.tally.Statement.{statement}
 use Rattle.enzyme_words.proofs.filling.tally.Tie as tie
 
 abbrev Inv-loop : tie.InvT-loop
-Inv-loop letters q m far₀ count₀ n top rest₀ i₀ e₀ far count rest i e = (e + 1 ≡ i + q) × (length far ≡ length far₀) × (length count ≡ length count₀) × (rest ≡ numberAt letters i (q - 1)) × Tallied letters q m i far count
+Inv-loop letters q m far₀ count₀ n top rest₀ i₀ e₀ far count rest i e = (e + 1 ≡ i + q) × (length far ≡ length far₀) × (length count ≡ length count₀) × (rest ≡ wordAt letters i (q - 1)) × Tallied letters q m i far count
 
 abbrev μ-loop : tie.MeasureT-loop
 μ-loop letters q m far₀ count₀ n top rest₀ i₀ e₀ far count rest i e = length letters - e
@@ -45,7 +45,7 @@ add-word : tie.Need-add-word Inv-loop μ-loop
 add-word c = omega (arith, small (c .before .before))
 
 -- the word's place
-whole : (c : tie.After-digit Inv-loop μ-loop) → 26 * c .before .before .before .loop .rest + c .digit .result ≡ numberAt (now (c .before .before .before .before .before .before .before .before .before .before .args .letters)) (c .before .before .before .loop .i) (c .before .before .before .before .before .before .before .before .before .before .args .q)
+whole : (c : tie.After-digit Inv-loop μ-loop) → 26 * c .before .before .before .loop .rest + c .digit .result ≡ wordAt (now (c .before .before .before .before .before .before .before .before .before .before .args .letters)) (c .before .before .before .loop .i) (c .before .before .before .before .before .before .before .before .before .before .args .q)
 whole c =
     let a = c .before .before .before .before .before .before .before .before .before .before .args in
     let l = c .before .before .before .loop in
@@ -77,7 +77,7 @@ shared-slice-read-digit-2 : tie.Need-shared-slice-read-digit-2 Inv-loop μ-loop
 shared-slice-read-digit-2 c = omega arith
 
 -- without its first letter
-off : (c : tie.After-digit2 Inv-loop μ-loop) → (c .before .before .before .before .before .before .before .before .before .before .power .result * c .digit2 .result ≤ 26 * c .before .before .before .before .before .before .before .before .loop .rest + c .before .before .before .before .before .digit .result) × (26 * c .before .before .before .before .before .before .before .before .loop .rest + c .before .before .before .before .before .digit .result - c .before .before .before .before .before .before .before .before .before .before .power .result * c .digit2 .result ≡ numberAt (now (c .before .before .before .before .before .before .before .before .before .before .before .before .before .before .before .args .letters)) (c .before .before .before .before .before .before .before .before .loop .i + 1) (c .before .before .before .before .before .before .before .before .before .before .before .before .before .before .before .args .q - 1))
+off : (c : tie.After-digit2 Inv-loop μ-loop) → (c .before .before .before .before .before .before .before .before .before .before .power .result * c .digit2 .result ≤ 26 * c .before .before .before .before .before .before .before .before .loop .rest + c .before .before .before .before .before .digit .result) × (26 * c .before .before .before .before .before .before .before .before .loop .rest + c .before .before .before .before .before .digit .result - c .before .before .before .before .before .before .before .before .before .before .power .result * c .digit2 .result ≡ wordAt (now (c .before .before .before .before .before .before .before .before .before .before .before .before .before .before .before .args .letters)) (c .before .before .before .before .before .before .before .before .loop .i + 1) (c .before .before .before .before .before .before .before .before .before .before .before .before .before .before .before .args .q - 1))
 off c =
     let a = c .before .before .before .before .before .before .before .before .before .before .before .before .before .before .before .args in
     let l = c .before .before .before .before .before .before .before .before .loop in
