@@ -4,7 +4,8 @@ use mathlib.Core.Path.{refl}
 use mathlib.Core.List.{List, [], _∷_, _++_}
 use lib.ListN.{replicate}
 use Rattle.records.specs.declared.refusal.Tested.{Tested}
-use Rattle.records.specs.Cases.{Case, Hold, joined}
+use Rattle.records.specs.Cases.{Case, Hold}
+use Rattle.records.specs.CaseLaws.{joined}
 use Rattle.records.specs.Search.{seek}
 use Rattle.letters.specs.Letters.{isLetter, firstBad}
 use Rattle.catalogue_contents.specs.Book.{firstBadBound}

@@ -12,7 +12,7 @@ use Rattle.records.specs.declared.refusal.Refusal.the-variants.{Field}
 use Rattle.records.specs.declared.refusal.Tested.the-variants.{Passed, Refused}
 use Rattle.records.specs.SearchLaws.{seek-before}
 use Rattle.records.specs.Tests.{neither, same?}
-use Rattle.records.specs.Tested.{passed-first}
+use Rattle.records.specs.TestedLaws.{passed-first}
 use Rattle.catalogue_contents.specs.Book.{strays, endsWrong, badBound, firstBadBound, boundsTested}
 
 pub record Book (bounds : List ℕ) (count : ℕ) : Type 0 where

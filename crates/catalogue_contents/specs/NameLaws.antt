@@ -25,7 +25,7 @@ use Rattle.sorting.specs.Repeats.{repeats, firstRepeat}
 use Rattle.sorting.specs.Repeating.{repeatedAt, repeatOutcome}
 use Rattle.sorting.specs.declared.repeats.Repeated.{Repeated}
 use Rattle.sorting.specs.declared.repeats.Repeated.the-variants.{At, Never, Unfit}
-use Rattle.records.specs.Tested.{passed-first, passed-second}
+use Rattle.records.specs.TestedLaws.{passed-first, passed-second}
 use Rattle.catalogue_contents.specs.Names.{hidden, filled, nameLength, zerosTo, isName, nameCount, tooManyNames, wholeNames, badName, wrongName, wrongAt, namesTested, catalogueTested}
 use Rattle.catalogue_contents.specs.NamesIn.{cleared, namesOutcome}
 

@@ -9,7 +9,7 @@ use lib.Dec.{eqb, ltb}
 use borrow.Author.Tests.{ltb-false}
 use Rattle.records.specs.declared.refusal.Refusal.the-variants.{Size, Length, Work, Room}
 use Rattle.records.specs.declared.refusal.Tested.the-variants.{Passed}
-use Rattle.records.specs.Tested.{passed-first, passed-field}
+use Rattle.records.specs.TestedLaws.{passed-first, passed-field}
 use Rattle.records.specs.Tests.{neither}
 use Rattle.records.specs.declared.refusal.Counted.the-variants.{Count, Refused as No}
 use Rattle.records.specs.Outcome.{outcome}

@@ -19,7 +19,8 @@ use Rattle.records.specs.LeLaws.{getD-sets-other}
 use Rattle.records.specs.Outcome.{Outcome, outcome}
 use Rattle.records.specs.Room.{fits, fitted, singly}
 use Rattle.records.specs.RoomLaws.{stored-text, fits-text}
-use Rattle.records.specs.Tested.{andThen, fieldTested, passed-both, passed-first, passed-field}
+use Rattle.records.specs.Tested.{andThen, fieldTested}
+use Rattle.records.specs.TestedLaws.{passed-both, passed-first, passed-field}
 use Rattle.records.specs.Tests.{below?, neither, truth?}
 use Rattle.cover_spec.specs.Cover.{bit, coverList}
 use Rattle.cover_spec.specs.ListedLaws.{length-listed, getD-listed, length-cover}

@@ -11,7 +11,8 @@ use Rattle.records.specs.declared.refusal.Refusal.{Refusal}
 use Rattle.records.specs.declared.refusal.Refusal.the-variants.{Size, Length, Field, Work, Letter}
 use Rattle.records.specs.declared.refusal.Tested.{Tested}
 use Rattle.records.specs.declared.refusal.Tested.the-variants.{Passed, Refused}
-use Rattle.records.specs.Tested.{andThen, first-refuses, first-passes, passed-both, passed-first}
+use Rattle.records.specs.Tested.{andThen}
+use Rattle.records.specs.TestedLaws.{first-refuses, first-passes, passed-both, passed-first}
 use Rattle.records.specs.Search.{seek}
 use Rattle.records.specs.SearchLaws.{seek-before}
 use Rattle.records.specs.Tests.{both, neither}

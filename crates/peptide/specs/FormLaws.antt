@@ -36,7 +36,8 @@ use Rattle.peptide_forms.specs.UsedLaws.{choices-used}
 use Rattle.peptide_forms.specs.RunLaws.{todo, quick, length-quick, Finished}
 use Rattle.peptide.specs.declared.making.Peptide.{Peptide}
 use Rattle.records.specs.declared.refusal.Counted.{Counted}
-use Rattle.records.specs.Tested.{andThen, fieldTested, first-refuses, first-passes, passed-both, passed-first}
+use Rattle.records.specs.Tested.{andThen, fieldTested}
+use Rattle.records.specs.TestedLaws.{first-refuses, first-passes, passed-both, passed-first}
 use Rattle.peptide.specs.Peptides.{wrongSize, testedContents}
 use Rattle.peptide.specs.PeptideLaws.{size-fits}
 use Rattle.peptide.specs.Sites.{Site, sitesOf, passes, filled}

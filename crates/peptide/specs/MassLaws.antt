@@ -16,7 +16,7 @@ use Rattle.records.specs.declared.refusal.Refusal.the-variants.{Size, Letter, L
 use Rattle.records.specs.declared.refusal.Tested.{Tested}
 use Rattle.records.specs.SearchLaws.{seek-before}
 use Rattle.records.specs.Tests.{neither}
-use Rattle.records.specs.Tested.{passed-both}
+use Rattle.records.specs.TestedLaws.{passed-both}
 use Rattle.letters.specs.Letters.{isLetter}
 use Rattle.letters.specs.LetterLaws.{letter-from, letter-to}
 use Rattle.peptide.specs.declared.mass.Weighed.{Weighed}

@@ -11,7 +11,8 @@ use borrow.Author.Tests.{leb-true, le-leb, lt-leb, ltb-false, eqb-true, eqb-fals
 use Rattle.records.specs.declared.refusal.Tested.{Tested}
 use Rattle.records.specs.Le.{numberAt}
 use Rattle.records.specs.SearchLaws.{seek-before}
-use Rattle.records.specs.Tested.{fieldTested, passed-both, passed-field}
+use Rattle.records.specs.Tested.{fieldTested}
+use Rattle.records.specs.TestedLaws.{passed-both, passed-field}
 use Rattle.records.specs.Tests.{both}
 use Rattle.sorting.specs.Counting.{upFrom}
 use Rattle.sorting.specs.Distinct.{keep}

@@ -10,7 +10,8 @@ use Rattle.records.specs.declared.refusal.Refusal.{Refusal}
 use Rattle.records.specs.declared.refusal.Refusal.the-variants.{Size, Letter, Length, Field}
 use Rattle.records.specs.declared.refusal.Tested.{Tested}
 use Rattle.records.specs.Tests.{neither}
-use Rattle.records.specs.Tested.{andThen, first-refuses, first-passes, passed-both, passed-first}
+use Rattle.records.specs.Tested.{andThen}
+use Rattle.records.specs.TestedLaws.{first-refuses, first-passes, passed-both, passed-first}
 use Rattle.letters.specs.Letters.{firstBad}
 use Rattle.peptide_slots.specs.Mirror.{mirror}
 use Rattle.peptide_slots.specs.MirrorLaws.{mirror-mirror}

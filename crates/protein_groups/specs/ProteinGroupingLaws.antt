@@ -14,7 +14,7 @@ use Rattle.records.specs.declared.refusal.Tested.the-variants.{Passed}
 use Rattle.records.specs.Outcome.{outcome}
 use Rattle.records.specs.Room.{roomOf, fitted}
 use Rattle.records.specs.RoomLaws.{written-none}
-use Rattle.records.specs.Tested.{passed-both, passed-first, passed-field}
+use Rattle.records.specs.TestedLaws.{passed-both, passed-first, passed-field}
 use Rattle.records.specs.Tests.{below?, neither}
 use Rattle.sorting.specs.Counting.{upFrom}
 use Rattle.sorting.specs.Distinct.{keep}

@@ -2,6 +2,7 @@
 pub mod Refusals
 pub mod Outcome
 pub mod Tested
+pub mod TestedLaws
 pub mod Le
 pub mod LeLaws
 pub mod Room
@@ -10,4 +11,5 @@ pub mod StoreLaws
 pub mod Search
 pub mod SearchLaws
 pub mod Cases
+pub mod CaseLaws
 pub mod Tests

@@ -12,7 +12,8 @@ use Rattle.records.specs.declared.refusal.Refusal.the-variants.{Size, Length, F
 use Rattle.records.specs.declared.refusal.Tested.{Tested}
 use Rattle.records.specs.declared.refusal.Tested.the-variants.{Passed, Refused}
 use Rattle.records.specs.Le.{numberAt}
-use Rattle.records.specs.Tested.{andThen, passed-both, passed-first}
+use Rattle.records.specs.Tested.{andThen}
+use Rattle.records.specs.TestedLaws.{passed-both, passed-first}
 use Rattle.records.specs.Search.{seek}
 use Rattle.records.specs.SearchLaws.{seek-before}
 use Rattle.records.specs.Tests.{below?, both, neither}

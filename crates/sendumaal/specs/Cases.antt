@@ -5,7 +5,8 @@ use mathlib.Core.Path.{refl}
 use mathlib.Core.List.{List, [], _∷_, _++_, flatten, map}
 use lib.ListN.{length, getD, replicate}
 use lib.Dec.{eqb}
-use Rattle.records.specs.Cases.{Case, Hold, Table, holding, allOf}
+use Rattle.records.specs.Cases.{Case, Hold}
+use Rattle.records.specs.CaseLaws.{Table, holding, allOf}
 use Rattle.records.specs.Search.{seek}
 use Rattle.catalogue_contents.specs.Names.{nameLength, zerosTo, namesTested}
 use Rattle.sorting.specs.Distinct.{keep}

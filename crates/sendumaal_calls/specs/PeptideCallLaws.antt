@@ -13,7 +13,7 @@ use lib.Ieee.{Float}
 use borrow.Author.Tests.{eq-eqb, ne-eqb, eqb-true}
 use Rattle.peptide.specs.declared.making.Peptide.{Peptide}
 use Rattle.peptide.specs.declared.making.Made.{Made}
-use Rattle.records.specs.Tested.{passed-both, passed-first, passed-second}
+use Rattle.records.specs.TestedLaws.{passed-both, passed-first, passed-second}
 use Rattle.peptide.specs.Peptides.{wrongSize, testedPeptide, reversed, madeOr}
 use Rattle.peptide.specs.PeptideLaws.{size-fits}
 use Rattle.peptide.specs.Forms.{tooLarge, formsOutcome}

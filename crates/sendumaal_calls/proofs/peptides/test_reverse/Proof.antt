@@ -4,7 +4,7 @@ use denote.Ref.{now}
 use Rattle.peptide.specs.declared.making.Peptide.{Peptide}
 use Rattle.sendumaal_calls.specs.PeptideCalls.{testedLengths, turning, testedTurn}
 use Rattle.sendumaal_calls.specs.PeptideCallLaws.{lengths-fit}
-use Rattle.records.specs.Tested.{first-refuses, first-passes}
+use Rattle.records.specs.TestedLaws.{first-refuses, first-passes}
 use borrow.Author.Needs.{needs}
 use Rattle.sendumaal_calls.proofs.peptides.test_reverse.Statement.{statement}
 use Rattle.sendumaal_calls.proofs.peptides.test_reverse.Tie as tie
