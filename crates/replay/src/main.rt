@@ -1,51 +1,54 @@
-// Replays answers of the original Rust against the library: rules.txt holds rule texts, table.txt insertions into tables
-// of modifications, digest.txt digestions, forms.txt forms of peptides, masses.txt base masses. Says how many cases were
-// compared and how many differ, and the line of each that does.
-mod digests;
-mod forms;
-mod masses;
-mod rules;
-mod table;
+// Replays answers of the original Rust against the library. Each file of data/ holds answers of one kind, one to a line; how a line
+// reads stands at the head of the module that replays it (crates replay_peptides, replay_digests, replay_proteins). Says how many
+// answers of each file were compared and how many differ, and the line of each that does; of a file that is missing, that it has
+// none.
+mod lines;
+mod tally;
 
-use text_lines::load;
+use libc::STDOUT_FILENO;
+use lines::Kind;
+ghost use Rattle.io.specs.Counts.{Counts};
 
-fn replay_rules(buffer: &mut [u8]) {
-    let n = load(b"rules.txt", buffer);
-    let tally = rules::replay(&buffer[..n]);
-    tally.report(b"rule texts: ");
+// The bytes of a file at the front of a buffer: how many there are. Says so where they leave no byte free, as some may be lacking.
+fn load(path: &[u8], buffer: &mut [u8]) -> usize
+    ensures { λ r. ⌜ Counts r (now (buffer .exit)) ⌝ }
+{
+    let file = os::open_read(path);
+    if file < 0 {
+        os::fail(path);
+        return 0;
+    }
+    let n = io::read_full(file, buffer);
+    libc::close(file);
+    if n == buffer.len() {
+        io::write_all(STDOUT_FILENO, path);
+        io::write_all(STDOUT_FILENO, b" may be larger than its buffer\n");
+    }
+    n
 }
 
-fn replay_table(buffer: &mut [u8], table: &mut [u8]) {
-    let n = load(b"table.txt", buffer);
-    let tally = table::replay(&buffer[..n], table);
-    tally.report(b"table: ");
-}
-
-fn replay_digests(buffer: &mut [u8], out: &mut [u8]) {
-    let n = load(b"digest.txt", buffer);
-    let tally = digests::replay(&buffer[..n], out);
-    tally.report(b"digests: ");
-}
-
-fn replay_forms(buffer: &mut [u8], out: &mut [u8]) {
-    let n = load(b"forms.txt", buffer);
-    let tally = forms::replay(&buffer[..n], out);
-    tally.report(b"forms: ");
-}
-
-fn replay_masses(buffer: &mut [u8]) {
-    let n = load(b"masses.txt", buffer);
-    let tally = masses::replay(&buffer[..n]);
-    tally.report(b"base masses: ");
+fn replay_file(kind: Kind, path: &[u8], what: &[u8]) {
+    let mut text = io::large_buffer();
+    let mut memory = io::large_buffer();
+    let n = load(path, &mut text);
+    let tally = lines::replay(kind, &text[..n], &mut memory);
+    tally.report(what);
 }
 
 fn main() {
-    let mut buffer = io::large_buffer();
-    let mut table = [0u8; 2048];
-    let mut out = io::large_buffer();
-    replay_rules(&mut buffer);
-    replay_table(&mut buffer, &mut table);
-    replay_digests(&mut buffer, &mut out);
-    replay_forms(&mut buffer, &mut out);
-    replay_masses(&mut buffer);
+    replay_file(Kind::Rules, b"rules.txt", b"rule texts: ");
+    replay_file(Kind::Insertions, b"table.txt", b"table: ");
+    replay_file(Kind::Digests, b"digest.txt", b"digests: ");
+    replay_file(Kind::Forms, b"forms.txt", b"forms: ");
+    replay_file(Kind::Masses, b"masses.txt", b"base masses: ");
+    replay_file(Kind::DigestGroups, b"groups.txt", b"groups: ");
+    replay_file(Kind::Covers, b"cover.txt", b"covers: ");
+    replay_file(Kind::Updates, b"update.txt", b"updates: ");
+    replay_file(
+        Kind::ProteinGroups,
+        b"proteins.txt",
+        b"groups of proteins: ",
+    );
+    replay_file(Kind::ReportLines, b"lines.txt", b"report lines: ");
+    replay_file(Kind::Passes, b"passes.txt", b"passes: ");
 }

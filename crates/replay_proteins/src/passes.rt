@@ -6,19 +6,18 @@ use protein_groups::Sizes;
 use records::Counted;
 use records::u32_at;
 use report_lines::Reported;
+use text_fields::Verdict;
 use text_fields::bytes_at;
-use text_fields::count_of;
+use text_fields::field;
+use text_fields::is_set;
 use text_fields::is_text;
+use text_fields::item_end;
 use text_fields::marks_at;
 use text_fields::names_at;
 use text_fields::records_at;
-use text_fields::too_large;
-use text_lines::Tally;
-use text_lines::decimal;
-use text_lines::field;
-use text_lines::item_end;
-use text_lines::line_end;
 use text_lines::more;
+use text_lines::narrow;
+use text_lines::up_to;
 ghost use Prim.Native.Nat.{_+_, _≤_};
 ghost use lib.ListN.{length};
 ghost use Rattle.io.specs.Counts.{Counts};
@@ -62,7 +61,7 @@ fn is_written(
     let mut tag = [0u8; 17];
     let mut out = [7u8; 256];
     let t = bytes_at(line, 3, &mut tag);
-    let generated = decimal(line, field(line, 4)) == 1;
+    let generated = is_set(line, 4);
     let answer = report_lines::report_line(
         names,
         members,
@@ -137,22 +136,6 @@ fn are_lines(
     same
 }
 
-// The same with the first n marks.
-fn are_marked_lines(
-    line: &[u8],
-    names: &[u8],
-    members: &[u8],
-    marks: &[u8],
-    n: usize,
-    pairs: &[u8],
-    flags: &[u8],
-) -> bool {
-    if n <= marks.len() {
-        return are_lines(line, names, members, &marks[0..n], pairs, flags);
-    }
-    false
-}
-
 // Whether they are so with the library's cover: 1,024 numbers of work memory are enough for 128 groups, 31 meta-peptides and 63 edges.
 fn is_covered(
     line: &[u8],
@@ -166,46 +149,12 @@ fn is_covered(
     let mut work = [1u32; 1024];
     let mut marks = [2u8; 128];
     match cover::cover(edges, sizes.groups, sizes.metas, &mut work, &mut marks) {
-        Counted::Count(count) => are_marked_lines(
-            line,
-            names,
-            members,
-            &marks,
-            count as usize,
-            pairs,
-            flags,
-        ),
+        Counted::Count(count) => {
+            let n = up_to(count as usize, &marks);
+            are_lines(line, names, members, &marks[..n], pairs, flags)
+        }
         Counted::Refused(_) => false,
     }
-}
-
-// The same with as many members and edges as there are.
-fn is_made(
-    line: &[u8],
-    names: &[u8],
-    members: &[u8],
-    edges: &[u8],
-    sizes: Sizes,
-    pairs: &[u8],
-    flags: &[u8],
-) -> bool {
-    let e = 8 * sizes.edges as usize;
-    let m = 12 * sizes.members as usize;
-    if members.len() < m {
-        return false;
-    }
-    if edges.len() < e {
-        return false;
-    }
-    is_covered(
-        line,
-        names,
-        &members[0..m],
-        &edges[0..e],
-        sizes,
-        pairs,
-        flags,
-    )
 }
 
 // Whether they are so with the library's groups and their cover.
@@ -213,8 +162,8 @@ fn is_passed(line: &[u8], names: &[u8], flags: &[u8], pairs: &[u8]) -> bool {
     let mut work = [1u32; 1024];
     let mut edges = [0u8; 512];
     let mut members = [0u8; 1560];
-    let peptides = count_of(flags.len());
-    let proteins = count_of(names.len() / 64);
+    let peptides = narrow(flags.len());
+    let proteins = narrow(names.len() / 64);
     let answer = protein_groups::group_proteins(
         pairs,
         flags,
@@ -225,13 +174,16 @@ fn is_passed(line: &[u8], names: &[u8], flags: &[u8], pairs: &[u8]) -> bool {
         &mut members,
     );
     match answer {
-        Grouped::Made(sizes) => is_made(line, names, &members, &edges, sizes, pairs, flags),
+        Grouped::Made(sizes) => {
+            let e = up_to(8 * sizes.edges as usize, &edges);
+            let m = up_to(12 * sizes.members as usize, &members);
+            is_covered(line, names, &members[..m], &edges[..e], sizes, pairs, flags)
+        }
         Grouped::Refused(_) => false,
     }
 }
 
-// Whether the library answers a line as the Rust did.
-fn agrees(line: &[u8]) -> bool {
+pub fn replay_pass(line: &[u8]) -> Verdict {
     let mut names = [0u8; 896];
     let mut flags = [2u8; 32];
     let mut pairs = [0u8; 512];
@@ -239,20 +191,7 @@ fn agrees(line: &[u8]) -> bool {
     let f = marks_at(line, 1, &mut flags);
     let p = records_at(line, 2, &mut pairs);
     if (n < 896) & (f < 32) & (p < 512) {
-        return is_passed(line, &names[..n], &flags[..f], &pairs[..p]);
+        return Verdict::of(is_passed(line, &names[..n], &flags[..f], &pairs[..p]));
     }
-    too_large()
-}
-
-pub(crate) fn replay(s: &[u8]) -> Tally {
-    let mut tally = Tally::none();
-    let mut at = 0;
-    let mut number: u32 = 1;
-    while at < s.len() {
-        let end = line_end(s, at);
-        tally = tally.with(agrees(&s[at..end]), number);
-        number = more(number);
-        at = end + 1;
-    }
-    tally
+    Verdict::TooLarge
 }

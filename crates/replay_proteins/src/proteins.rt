@@ -2,25 +2,21 @@
 // by `;`, the numbers of the Rust's groups and meta-peptides, its edges as `group.meta` and its members as
 // `group.protein.decoy`, divided by `;`; `-` stands for none.
 use protein_groups::Grouped;
-use text_fields::count_of;
+use text_fields::Verdict;
+use text_fields::decimal_at;
 use text_fields::is_zero;
 use text_fields::marks_at;
 use text_fields::records_at;
 use text_fields::same_bytes;
-use text_fields::too_large;
-use text_lines::Tally;
-use text_lines::decimal;
-use text_lines::field;
-use text_lines::line_end;
-use text_lines::more;
+use text_lines::narrow;
 
 fn protein_count(line: &[u8]) -> u32 {
-    decimal(line, field(line, 1))
+    decimal_at(line, 1)
 }
 
 // Whether the numbers of groups and meta-peptides are those of a line.
 fn has_counts(line: &[u8], groups: u32, metas: u32) -> bool {
-    (decimal(line, field(line, 3)) == groups) & (decimal(line, field(line, 4)) == metas)
+    (decimal_at(line, 3) == groups) & (decimal_at(line, 4) == metas)
 }
 
 // Whether so many bytes are the records of field k, and nothing is written behind them: all were 7.
@@ -35,7 +31,7 @@ fn is_grouped(line: &[u8], flags: &[u8], pairs: &[u8]) -> bool {
     let mut work = [1u32; 1024];
     let mut edges = [7u8; 1560];
     let mut members = [7u8; 1560];
-    let peptides = count_of(flags.len());
+    let peptides = narrow(flags.len());
     let proteins = protein_count(line);
     let answer = protein_groups::group_proteins(
         pairs,
@@ -57,27 +53,13 @@ fn is_grouped(line: &[u8], flags: &[u8], pairs: &[u8]) -> bool {
     }
 }
 
-// Whether the library answers a line as the Rust did.
-fn agrees(line: &[u8]) -> bool {
+pub fn replay_groups(line: &[u8]) -> Verdict {
     let mut flags = [2u8; 32];
     let mut pairs = [0u8; 512];
     let f = marks_at(line, 0, &mut flags);
     let n = records_at(line, 2, &mut pairs);
     if (protein_count(line) <= 64) & (f < 32) & (n < 512) {
-        return is_grouped(line, &flags[..f], &pairs[..n]);
+        return Verdict::of(is_grouped(line, &flags[..f], &pairs[..n]));
     }
-    too_large()
-}
-
-pub(crate) fn replay(s: &[u8]) -> Tally {
-    let mut tally = Tally::none();
-    let mut at = 0;
-    let mut number: u32 = 1;
-    while at < s.len() {
-        let end = line_end(s, at);
-        tally = tally.with(agrees(&s[at..end]), number);
-        number = more(number);
-        at = end + 1;
-    }
-    tally
+    Verdict::TooLarge
 }

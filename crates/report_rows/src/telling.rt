@@ -4,11 +4,11 @@ use protein_groups::Sizes;
 use records::Counted;
 use records::Tested;
 use report_rows_read::Sought;
-use report_rows_read::narrow;
 use text_lines::line_end;
+use text_lines::narrow;
+use text_lines::up_to;
 ghost use mathlib.Core.Path.{_≡_};
 ghost use lib.ListN.{length};
-ghost use Rattle.io.specs.Counts.{Counts};
 
 // 16,384 columns.
 fn column_table() -> [u8; 196608]
@@ -50,13 +50,6 @@ fn work_memory() -> [u32; 147456]
     ensures { λ r. ⌜ 147456 ≡ length r ⌝ }
 {
     [0; 147456]
-}
-
-// So many bytes, as far as there are so many.
-fn up_to(n: usize, s: &[u8]) -> usize
-    ensures { λ r. ⌜ Counts r (now (s .entry)) ⌝ }
-{
-    if n < s.len() { n } else { s.len() }
 }
 
 // Marks the groups of the cover.

@@ -6,8 +6,8 @@ use report_rows_read::Row;
 use report_rows_read::Sought;
 use report_rows_read::column_at;
 use report_rows_read::find;
-use report_rows_read::narrow;
 use text_lines::column_end;
+use text_lines::narrow;
 
 fn text(s: &[u8]) {
     io::write_all(STDOUT_FILENO, s);

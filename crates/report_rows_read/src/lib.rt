@@ -5,7 +5,6 @@ mod rows;
 pub use names::Column;
 pub use names::column_at;
 pub use names::list_of;
-pub use names::narrow;
 pub use names::number_names;
 pub use names::put_names;
 pub use rows::Row;

@@ -4,6 +4,7 @@ use records::put_byte;
 use records::put_u32;
 use records::u32_at;
 use text_lines::more;
+use text_lines::narrow;
 ghost use Rattle.io.specs.Counts.{Counts};
 
 // A name as it stands in a row: where it begins in the text, how many bytes it has, and the row.
@@ -11,11 +12,6 @@ pub struct Column {
     pub from: u32,
     pub length: u32,
     pub row: u32,
-}
-
-// A number that fits, or the greatest that does.
-pub fn narrow(n: usize) -> u32 {
-    if n < 4294967295 { n as u32 } else { 4294967295 }
 }
 
 fn sum(a: u32, b: u32) -> u32 {

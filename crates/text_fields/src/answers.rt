@@ -1,5 +1,5 @@
 // What an answer is held to.
-use libc::STDOUT_FILENO;
+use crate::hexadecimals::unhex;
 use records::byte_at;
 use sorting_merge::number_at;
 
@@ -34,13 +34,9 @@ pub fn same_numbers(a: &[u32], b: &[u32]) -> bool {
     same
 }
 
-// A count as a number of 32 bits, or the greatest of these.
-pub fn count_of(n: usize) -> u32 {
-    if n < 4294967295 { n as u32 } else { 4294967295 }
-}
-
-// A case that this program's buffers do not hold differs, and it is said why.
-pub fn too_large() -> bool {
-    io::write_all(STDOUT_FILENO, b"larger than this program's buffers, so it ");
-    false
+// Whether so many bytes are the text at the front of s, and nothing is written behind them: all were 7. `-` stands for none.
+pub fn is_text(s: &[u8], ours: &[u8], bytes: u32) -> bool {
+    let mut theirs = [7u8; 256];
+    let n = unhex(s, &mut theirs);
+    (n == bytes as usize) & same_bytes(&theirs, ours)
 }

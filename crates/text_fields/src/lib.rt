@@ -1,20 +1,33 @@
-// Records, names and texts that stand in the fields of a line, and what an answer is held to. Only programs of this repository call these.
+// The fields of a line, which are parted by blanks: numbers, records, marks, names and texts, and what an answer is held to. Only
+// programs of this repository call these.
 mod answers;
+mod decimals;
+mod fields;
+mod hexadecimals;
 mod marks;
 mod names;
-mod texts;
+mod verdict;
 
-pub use answers::count_of;
+pub use answers::is_text;
 pub use answers::is_zero;
 pub use answers::same_bytes;
 pub use answers::same_numbers;
-pub use answers::too_large;
+pub use decimals::behind;
+pub use decimals::decimal;
+pub use decimals::decimal_at;
+pub use decimals::is_set;
+pub use decimals::numbers_at;
+pub use decimals::small_at;
+pub use fields::content;
+pub use fields::field;
+pub use fields::field_end;
+pub use fields::item_end;
+pub use fields::letter_count;
+pub use hexadecimals::bytes_at;
+pub use hexadecimals::from_hex;
+pub use hexadecimals::hex_at;
 pub use marks::are_marks;
-pub use marks::group_count;
-pub use marks::is_held;
 pub use marks::marks_at;
-pub use marks::meta_count;
 pub use marks::records_at;
-pub use names::bytes_at;
 pub use names::names_at;
-pub use texts::is_text;
+pub use verdict::Verdict;

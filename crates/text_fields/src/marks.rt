@@ -1,12 +1,11 @@
-// Edges and marks of a line. Buffers have room for one edge or mark more than they hold, so that one too many is seen.
+// Records and marks of a line. Buffers have room for one more than they hold, so that one too many is seen.
 use crate::answers::same_bytes;
+use crate::decimals::numbers_at;
+use crate::fields::content;
+use crate::fields::field;
+use crate::fields::field_end;
 use records::byte_at;
 use records::put_u32;
-use text_lines::content;
-use text_lines::decimal;
-use text_lines::field;
-use text_lines::field_end;
-use text_lines::numbers_at;
 ghost use Rattle.io.specs.Counts.{Counts};
 
 // Numbers as bytes at the front of out: how many there are.
@@ -58,19 +57,6 @@ pub fn marks_at(line: &[u8], k: usize, out: &mut [u8]) -> usize
     let from = field(line, k);
     let to = field_end(line, from);
     digits(&line[from..to], out)
-}
-
-pub fn group_count(line: &[u8]) -> u32 {
-    decimal(line, field(line, 0))
-}
-
-pub fn meta_count(line: &[u8]) -> u32 {
-    decimal(line, field(line, 1))
-}
-
-// Whether the buffers hold the marks and the work memory of a line.
-pub fn is_held(line: &[u8]) -> bool {
-    (group_count(line) <= 200) & (meta_count(line) <= 200)
 }
 
 // Whether so many marks are those of field k, and nothing is written behind them: all were 2.

@@ -1,22 +1,10 @@
-// Cases that stand in lines of a text file, their fields and numbers, and the tally of those that differ. Only programs of this
-// repository call these.
-mod tally;
-mod text;
+// The lines of a text, and counts in 32 bits. Only programs of this repository call these.
+mod counts;
+mod lines;
 
-pub use tally::Tally;
-pub use tally::load;
-pub use tally::more;
-pub use text::behind;
-pub use text::column_end;
-pub use text::content;
-pub use text::decimal;
-pub use text::field;
-pub use text::field_end;
-pub use text::from_hex;
-pub use text::hex;
-pub use text::item_end;
-pub use text::letter_count;
-pub use text::line_end;
-pub use text::numbers_at;
-pub use text::small;
-pub use text::unhex;
+pub use counts::more;
+pub use counts::narrow;
+pub use counts::up_to;
+pub use lines::column_end;
+pub use lines::line_end;
+pub use lines::next;
