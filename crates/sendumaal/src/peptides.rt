@@ -69,7 +69,7 @@ pub extern "C" fn sendumaal_forms(
     count: &mut u32,
     place: &mut usize,
 ) -> u32
-    ensures { λ r. ⌜ outcome r ((now (place .exit) ∷ []) ∷ (now (count .exit) ∷ []) ∷ now (out .exit) ∷ []) ≡ formsCall (now (letters .entry)) (now (ids .entry)) nterm cterm position (now (variable .entry)) (now (fixed .entry)) limit cap (now (out .entry)) (now (count .entry)) ⌝ }
+    ensures { λ r. ⌜ outcome r ((now (place .exit) ∷ []) ∷ (now (count .exit) ∷ []) ∷ now (out .exit) ∷ []) ≡ formsCall (record { letters = now (letters .entry); ids = now (ids .entry); nterm = nterm; cterm = cterm; position = position; variable = now (variable .entry); fixed = now (fixed .entry); limit = limit; cap = cap; out = now (out .entry); count = now (count .entry) }) ⌝ }
 {
     if too_large(letters.len(), variable, fixed, limit) {
         *place = 0;

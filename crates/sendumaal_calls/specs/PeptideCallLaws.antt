@@ -22,7 +22,7 @@ use Rattle.records.specs.declared.refusal.Refusal.the-variants.{Size, Length, F
 use Rattle.records.specs.declared.refusal.Tested.{Tested}
 use Rattle.records.specs.Refusals.{numberOf, placeOf}
 use Rattle.sendumaal_calls.specs.Calls.{accepted, refused, countedCall}
-use Rattle.sendumaal_calls.specs.PeptideCalls.{weight, peptideOf, formsCall, testedLengths, turning, testedTurn, testedReverse, otherFlag, reversedOr, turned, reverseCall}
+use Rattle.sendumaal_calls.specs.PeptideCalls.{weight, FormsArguments, formed, formsCall, testedLengths, turning, testedTurn, testedReverse, otherFlag, reversedOr, turned, reverseCall}
 
 pub weight-said : (r : Refusal) (n p : ℕ) (m : Float) → n ≡ numberOf r → p ≡ placeOf r → weight n p m ≡ weight (numberOf r) (placeOf r) m
 weight-said r n p m e f = rw (e, f)
@@ -32,17 +32,16 @@ pub tested-of : (t : Tested) (new other : Peptide) → madeOr t new other .teste
 tested-of Tested.Passed new other = refl
 tested-of (Tested.Refused why) new other = refl
 
-module _ (letters ids : List ℕ) (nterm cterm position : ℕ) (variable fixed : List ℕ) (limit cap : ℕ) (out : List ℕ) (count : ℕ) where
-  pub forms-size : tooLarge (length letters) variable fixed limit ≡ true → refused Size ((count ∷ []) ∷ out ∷ []) ≡ formsCall letters ids nterm cterm position variable fixed limit cap out count
+module _ (a : FormsArguments) where
+  pub forms-size : tooLarge (length (a .letters)) (a .variable) (a .fixed) (a .limit) ≡ true → refused Size ((a .count ∷ []) ∷ a .out ∷ []) ≡ formsCall a
   forms-size h = rw h
 
-  module _ (few : tooLarge (length letters) variable fixed limit ≡ false) where
-    pub forms-length : (length ids ≡ length letters → ⊥) → refused Length ((count ∷ []) ∷ out ∷ []) ≡ formsCall letters ids nterm cterm position variable fixed limit cap out count
-    forms-length h = rw (few, ne-eqb (length ids) (length letters) h)
+  module _ (few : tooLarge (length (a .letters)) (a .variable) (a .fixed) (a .limit) ≡ false) where
+    pub forms-length : (length (a .ids) ≡ length (a .letters) → ⊥) → refused Length ((a .count ∷ []) ∷ a .out ∷ []) ≡ formsCall a
+    forms-length h = rw (few, ne-eqb (length (a .ids)) (length (a .letters)) h)
 
-    pub forms-listed : length ids ≡ length letters
-        → countedCall (formsOutcome (peptideOf letters ids nterm cterm position false) variable fixed limit cap out) count ≡ formsCall letters ids nterm cterm position variable fixed limit cap out count
-    forms-listed h = rw (few, eq-eqb (length ids) (length letters) h)
+    pub forms-listed : length (a .ids) ≡ length (a .letters) → countedCall (formsOutcome (formed a) (a .variable) (a .fixed) (a .limit) (a .cap) (a .out)) (a .count) ≡ formsCall a
+    forms-listed h = rw (few, eq-eqb (length (a .ids)) (length (a .letters)) h)
 
 -- ---- reversal
 

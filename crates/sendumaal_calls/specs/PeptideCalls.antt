@@ -53,13 +53,30 @@ testedLengths letters ids =
 
 -- ---- forms
 
+-- the arguments in their order, and what `out` and `*count` hold at entry
+pub record FormsArguments : Type 0 where
+  pub letters : List ℕ
+  pub ids : List ℕ
+  pub nterm : ℕ
+  pub cterm : ℕ
+  pub position : ℕ
+  pub variable : List ℕ
+  pub fixed : List ℕ
+  pub limit : ℕ
+  pub cap : ℕ
+  pub out : List ℕ
+  pub count : ℕ
+
+abbrev pub formed : FormsArguments → Peptide
+formed a = peptideOf (a .letters) (a .ids) (a .nterm) (a .cterm) (a .position) false
+
 -- every size is 1 before any length is 8
-abbrev pub formsCall : List ℕ → List ℕ → ℕ → ℕ → ℕ → List ℕ → List ℕ → ℕ → ℕ → List ℕ → ℕ → Outcome ℕ
-formsCall letters ids nterm cterm position variable fixed limit cap out count =
-    cond (tooLarge (length letters) variable fixed limit) (refused Size ((count ∷ []) ∷ out ∷ []))
-    (cond (eqb (length ids) (length letters))
-    (countedCall (formsOutcome (peptideOf letters ids nterm cterm position false) variable fixed limit cap out) count)
-    (refused Length ((count ∷ []) ∷ out ∷ [])))
+abbrev pub formsCall : FormsArguments → Outcome ℕ
+formsCall a =
+    cond (tooLarge (length (a .letters)) (a .variable) (a .fixed) (a .limit)) (refused Size ((a .count ∷ []) ∷ a .out ∷ []))
+    (cond (eqb (length (a .ids)) (length (a .letters)))
+    (countedCall (formsOutcome (formed a) (a .variable) (a .fixed) (a .limit) (a .cap) (a .out)) (a .count))
+    (refused Length ((a .count ∷ []) ∷ a .out ∷ [])))
 
 -- ---- reversal
 
