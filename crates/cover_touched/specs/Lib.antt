@@ -1,4 +1,5 @@
--- What the tables say: Joining, Walking, Touching. The files named Laws say why the code keeps them so.
+-- Nothing here has to be believed: Joining, Walking and Touching say what the tables hold, the files named Laws why the code
+-- keeps them so.
 pub mod Joining
 pub mod JoiningLaws
 pub mod Walking

@@ -1,4 +1,4 @@
--- What a reader has to believe: Gathering. Word and Tables say what the code goes by, and the files named Laws what follows.
+-- What a reader has to believe: DigestGroups. Word and Tables say what the code goes by, and the files named Laws what follows.
 pub mod DigestGroups
 pub mod Word
 pub mod WordLaws

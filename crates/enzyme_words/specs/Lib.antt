@@ -1,3 +1,3 @@
--- What the tables hold stands in Words; WordLaws has what follows.
+-- Nothing here has to be believed: Words says what the tables hold, WordLaws what follows.
 pub mod Words
 pub mod WordLaws

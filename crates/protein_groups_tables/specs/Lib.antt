@@ -1,5 +1,5 @@
--- What a reader has to believe: Placed says where in the lent slice the grouping stands. The files named Laws say what the functions
--- leave there, in the words of protein_groups_spec, and why.
+-- Nothing here has to be believed: Placed says where in the lent slice the grouping stands, the files named Laws what the
+-- functions leave there, in the words of protein_groups_spec, and why.
 pub mod TakerLaws
 pub mod OrderingLaws
 pub mod EvidenceLaws

@@ -1,5 +1,5 @@
--- What a reader has to believe: nothing here; only crates of this repository call these functions. Noting and Gathering say what the
--- steps leave in the lent slice, Laying what is asked of the whole.
+-- Nothing here has to be believed: Noting and Selecting say what the steps leave in the lent slice, Laying what is asked of the
+-- whole.
 pub mod Noting
 pub mod NoteLaws
 pub mod Selecting
