@@ -1,5 +1,7 @@
--- What a reader has to believe: Refusals, Outcome, Tested, Le, Room, Search. The files named Laws say what follows from them.
+-- What a reader has to believe: Refusals, Outcome, Tested, Le, Room, Search. Cases says what a worked case is, and the files named
+-- Laws what follows.
 pub mod Refusals
+pub mod RefusalLaws
 pub mod Outcome
 pub mod Tested
 pub mod TestedLaws
