@@ -1,13 +1,17 @@
 -- Document 01, P6: "MAM, variable M without limit, combination limit 2: four forms; cap 3: the first three; cap 0: one." Then
 -- cases of the slips: a later fixed rule, `^M` and `^`, a rule's own limit, a slot used twice, protein rules off their end;
--- room, and each refusal of `forms`, alone and before a later one. Behind them, peptides made of a form.
+-- room, and each refusal of `forms`, alone and before a later one. Behind them, peptides made of a form, and of digests.
 use Prim.Native.Nat.{ℕ, _-_, _*_}
 use mathlib.Core.Path.{refl}
-use mathlib.Core.Bool.{false}
+use mathlib.Core.Bool.{true, false, cond}
 use mathlib.Core.List.{List, [], _∷_, _++_, flatten}
 use lib.ListN.{length, take, replicate}
-use Rattle.records.specs.Le.{numberAt}
+use lib.Count.{trailingZeros}
+use lib.IntN.{pos}
+use lib.Ieee.{Float, fin, span, climb, size, odd, units, round, sum, add, eq, toUnsigned}
+use Rattle.records.specs.Le.{le, numberAt}
 use Rattle.records.specs.Cases.{Case, Hold, counted, refused, told}
+use Rattle.records.specs.CaseLaws.{joined}
 use Rattle.records.specs.Refusals.{numberOf, placeOf}
 use Rattle.records.specs.Room.{written}
 use Rattle.records.specs.declared.refusal.Tested.{Tested}
@@ -15,11 +19,14 @@ use Rattle.records.specs.Search.{seek}
 use Rattle.letters.specs.Letters.{isLetter, firstBad}
 use Rattle.modification.specs.Rules.{goodRule, firstBadRule}
 use Rattle.peptide_choices.specs.Choices.{choicesOf, bySize}
-use Rattle.peptide_slots.specs.Mirror.{allZero}
+use Rattle.peptide_slots.specs.Mirror.{mirror, allZero}
 use Rattle.peptide_forms.specs.Enumeration.{noCap, accepted}
 use Rattle.peptide.specs.declared.making.Peptide.{Peptide}
 use Rattle.peptide.specs.declared.making.Made.{Made}
-use Rattle.peptide.specs.Peptides.{clear, testedContents, testedForm, given, madeOfForm}
+use Rattle.peptide.specs.declared.mass.Weighed.{Weighed}
+use Rattle.peptide.specs.Peptides.{lettersOf, clear, testedContents, testedForm, given, madeOfForm}
+use Rattle.peptide.specs.Masses.{addAll, noMass}
+use Rattle.peptide.specs.Digested.{unfit, firstUnfit, testedDigest, digested, madeOfDigest, weighedDigest}
 use Rattle.peptide.specs.Sites.{sitesOf, passes, filled}
 use Rattle.peptide.specs.Forms.{testedLists, testedForms, choices, formOf, formsOf, listed, formsOutcome}
 
@@ -84,8 +91,8 @@ making letters bytes position want = record { got = shown (madeOfForm letters by
 abbrev slots : ℕ → ℕ → List ℕ
 slots zeros last = 7 ∷ 8 ∷ 1 ∷ 0 ∷ 2 ∷ (replicate zeros 0 ++ (last ∷ []))
 
-abbrev pub table : List Case
-table =
+abbrev formCases : List Case
+formCases =
     -- P6: four forms, cap 3, cap 0
     listing 2 (onM 1) [] 2 noCap (form 0 0 0 0 0 ∷ form 0 0 1 0 0 ∷ form 0 0 0 0 1 ∷ form 0 0 1 0 1 ∷ [])
     ∷ listing 2 (onM 1) [] 2 3 (form 0 0 0 0 0 ∷ form 0 0 1 0 0 ∷ form 0 0 0 0 1 ∷ [])
@@ -152,6 +159,87 @@ table =
     ∷ making MAM (slots 60 0) 4 (refused 9 0)
     ∷ []
 
-pub cases : Hold table
+-- ---- digests
+
+-- ZABCAZ
+abbrev protein : List ℕ
+protein = 90 ∷ 65 ∷ 66 ∷ 67 ∷ 65 ∷ 90 ∷ []
+
+-- 16 bytes: the range, missed, semi, position and decoy
+abbrev digest : ℕ → ℕ → ℕ → ℕ → ℕ → ℕ → List ℕ
+digest start end missed semi position decoy = le 4 start ++ (le 4 end ++ (missed ∷ semi ∷ position ∷ decoy ∷ le 4 9))
+
+-- B is 2 ^ 24, the greatest number up to which a mass can be odd; Z is minus zero; all others are 1
+abbrev masses : List Float
+masses = fin false 1 (pos 0) ∷ fin false 1 (pos 24) ∷ (replicate 23 (fin false 1 (pos 0)) ++ (fin true 0 (pos 0) ∷ []))
+
+-- refusal 0 is none, and then come the position, the decoy flag and the letters
+abbrev cut : Made → List ℕ
+cut made = go (made .tested) (made .peptide)
+  where
+    go : Tested → Peptide → List ℕ
+    go Tested.Passed p = 0 ∷ 0 ∷ p .position ∷ cond (p .decoy) 1 0 ∷ lettersOf p
+    go (Tested.Refused why) p = refused (numberOf why) (placeOf why)
+
+-- or the mass, a whole number
+abbrev mass : Weighed → List ℕ
+mass (Weighed.Mass m) = 0 ∷ 0 ∷ toUnsigned 32 m ∷ []
+mass (Weighed.Refused why) = refused (numberOf why) (placeOf why)
+
+abbrev cutting : List ℕ → List ℕ → List Float → List ℕ → List ℕ → Case
+cutting letters bytes table peptide weight =
+    record { got = cut (madeOfDigest letters bytes table) ∷ mass (weighedDigest letters bytes table (fin false 0 (pos 0))) ∷ []; want = peptide ∷ weight ∷ [] }
+
+abbrev without : List ℕ → List ℕ → List Float → ℕ → ℕ → Case
+without letters bytes table number place = cutting letters bytes table (refused number place) (refused number place)
+
+digestCases : List Case
+digestCases =
+    -- a target, its decoy, whose sum rounds elsewhere, one letter, a position that is not the range's
+    cutting protein (digest 1 5 0 0 3 0) masses (0 ∷ 0 ∷ 3 ∷ 0 ∷ 65 ∷ 66 ∷ 67 ∷ 65 ∷ []) (0 ∷ 0 ∷ 16777216 ∷ [])
+    ∷ cutting protein (digest 1 5 16 1 3 1) masses (0 ∷ 0 ∷ 3 ∷ 1 ∷ 65 ∷ 67 ∷ 66 ∷ 65 ∷ []) (0 ∷ 0 ∷ 16777220 ∷ [])
+    ∷ cutting protein (digest 3 4 0 0 2 1) masses (0 ∷ 0 ∷ 2 ∷ 1 ∷ 67 ∷ []) (0 ∷ 0 ∷ 1 ∷ [])
+    -- 64 letters up to the end; 65, also past the end and where the masses are none
+    ∷ cutting (90 ∷ replicate 64 65) (digest 1 65 0 0 1 0) masses (0 ∷ 0 ∷ 1 ∷ 0 ∷ replicate 64 65) (0 ∷ 0 ∷ 64 ∷ [])
+    ∷ without (replicate 65 65) (digest 0 65 0 0 2 0) masses 1 0
+    ∷ without protein (digest 1 66 0 0 2 0) [] 1 0
+    -- 8: 15 bytes, 17 bytes, no masses for Z, also where the first byte is no letter; 15 bytes have no range
+    ∷ without protein (take 15 (digest 1 5 0 0 3 0)) masses 8 0
+    ∷ without (97 ∷ protein) (digest 1 5 0 0 3 0 ++ (0 ∷ [])) masses 8 0
+    ∷ without protein (digest 1 5 0 0 3 0) (take 25 masses) 8 0
+    ∷ without protein (take 15 (digest 1 66 0 0 3 0)) masses 8 0
+    -- 2: no letter before the range, behind it; a letter of mass zero inside, of which the place counts from the first letter
+    ∷ without (97 ∷ protein) (digest 2 5 0 0 3 0) masses 2 0
+    ∷ without (protein ++ (97 ∷ [])) (digest 1 5 0 0 3 0) masses 2 6
+    ∷ without protein (digest 1 6 0 0 1 0) masses 2 5
+    ∷ without protein (digest 0 5 0 0 1 1) masses 2 0
+    -- also where the record is bad; inside a range that ends past the letters
+    ∷ without (protein ++ (97 ∷ [])) (digest 1 5 0 0 4 0) masses 2 6
+    ∷ without protein (digest 2 9 0 0 3 0) masses 2 5
+    -- 9: an end past the letters, an empty range, one that falls, missed, semi, position, decoy
+    ∷ without MAM (digest 1 4 0 0 3 0) masses 9 0
+    ∷ without protein (digest 2 2 0 0 3 0) masses 9 0
+    ∷ without protein (digest 70 2 0 0 3 0) masses 9 0
+    ∷ without protein (digest 1 5 17 0 3 0) masses 9 0
+    ∷ without protein (digest 1 5 0 2 3 0) masses 9 0
+    ∷ without protein (digest 1 5 0 0 4 0) masses 9 0
+    ∷ without protein (digest 1 5 0 0 3 2) masses 9 0
+    ∷ without [] (digest 0 1 0 0 2 0) masses 9 0
+    ∷ []
+
+-- ---- in one table
+
+formCases-hold : Hold formCases
 unfolding flatten numberAt written seek isLetter firstBad goodRule firstBadRule choicesOf bySize allZero accepted clear testedContents testedForm sitesOf passes filled testedLists testedForms choices formOf formsOf listed formsOutcome
-cases = refl
+formCases-hold = refl
+
+digestCases-hold : Hold digestCases
+unfolding numberAt seek isLetter mirror sum add round units odd size span climb trailingZeros eq toUnsigned addAll noMass unfit firstUnfit testedDigest digested madeOfDigest weighedDigest digestCases
+digestCases-hold = refl
+
+pub table : List Case
+table = formCases ++ digestCases
+
+pub cases : Hold table
+unfolding table
+cases = joined formCases digestCases formCases-hold digestCases-hold

@@ -32,7 +32,7 @@ pub mass-of-other : (masses : List Float) (b : ℕ) → isLetter b ≡ false →
 unfolding noMass
 mass-of-other masses b e = rw e
 
-has-mass-letter : (masses : List Float) (b : ℕ) → noMass masses b ≡ false → isLetter b ≡ true
+pub has-mass-letter : (masses : List Float) (b : ℕ) → noMass masses b ≡ false → isLetter b ≡ true
 unfolding noMass
 has-mass-letter masses b e = not-false (isLetter b) (neither (not (isLetter b)) (eq (massOf masses b) (fin false 0 (pos 0))) e .0)
 

@@ -98,6 +98,11 @@ module _ (letters form : List ℕ) where
     pub of-form-tested : t ≡ Tested.Passed → (p : Peptide) → p ≡ new → (u v : Tested) → u ≡ testedContents p → u ≡ v → andThen (testedForm letters form) (testedContents new) ≡ v
     of-form-tested e p f u v g h = sym (first-passes (testedForm letters form) (testedContents new) (sym is ∙ e)) ∙ ap testedContents (sym f) ∙ sym g ∙ h
 
+-- what the tests found is told of what was made
+pub tested-of : (t : Tested) (new other : Peptide) → madeOr t new other .tested ≡ t
+tested-of Tested.Passed new other = refl
+tested-of (Tested.Refused why) new other = refl
+
 -- where tests refuse, no peptide is made
 pub made-refused : (t : Tested) (why : Refusal) (p : Peptide) → t ≡ Tested.Refused why → madeOr (Tested.Refused why) none none ≡ madeOr t p none
 made-refused t why p e = ap (λ (x : Tested). madeOr x p none) (sym e)

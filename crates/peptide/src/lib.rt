@@ -1,9 +1,11 @@
-// Peptides: made from a part of a protein, weighed, reversed, and their forms.
+// Peptides: made from a part of a protein or a digest record, weighed, reversed, and their forms.
+mod digested;
 mod listing;
 mod making;
 mod mass;
 mod tests;
 
+pub use digested::digest_mass;
 pub use making::Made;
 pub use making::Peptide;
 pub use mass::Weighed;

@@ -30,7 +30,7 @@ pub struct Made {
 }
 
 // The peptide of some letters with the ids of a form, its contents untested.
-fn given(letters: &[u8], form: &[u8], position: u8, decoy: bool) -> Peptide
+pub(crate) fn given(letters: &[u8], form: &[u8], position: u8, decoy: bool) -> Peptide
     requires { ⌜ length (now letters) ≤ 64 ⌝ }
     ensures { λ r. ⌜ r ≡ given (now (letters .entry)) (now (form .entry)) position decoy ⌝ }
 {
@@ -66,12 +66,33 @@ fn none() -> Peptide
 }
 
 // What is answered where tests refuse.
-fn refused(why: Refusal) -> Made
+pub(crate) fn refused(why: Refusal) -> Made
     ensures { λ r. ⌜ r ≡ madeOr (Refused why) none none ⌝ }
 {
     let tested = Tested::Refused(why);
     let peptide = none();
     Made { tested, peptide }
+}
+
+// A peptide reversed, its contents untested: the inner letters and residue ids, the ends as they are, the decoy flag flipped.
+pub(crate) fn turned(p: Peptide) -> Peptide
+    requires { ⌜ p .len ≤ 64 ⌝ }
+    ensures { λ r. ⌜ r ≡ reversed p ⌝ }
+{
+    let n = p.len as usize;
+    let old_letters = p.letters;
+    let old_ids = p.ids;
+    let letters = peptide_slots::mirrored(old_letters, n);
+    let ids = peptide_slots::mirrored(old_ids, n);
+    Peptide {
+        letters,
+        ids,
+        nterm: p.nterm,
+        cterm: p.cterm,
+        len: p.len,
+        position: p.position,
+        decoy: !p.decoy,
+    }
 }
 
 impl Peptide {
@@ -113,20 +134,7 @@ impl Peptide {
                 peptide: self,
             };
         }
-        let n = self.len as usize;
-        let old_letters = self.letters;
-        let old_ids = self.ids;
-        let letters = peptide_slots::mirrored(old_letters, n);
-        let ids = peptide_slots::mirrored(old_ids, n);
-        let peptide = Peptide {
-            letters,
-            ids,
-            nterm: self.nterm,
-            cterm: self.cterm,
-            len: self.len,
-            position: self.position,
-            decoy: !self.decoy,
-        };
+        let peptide = turned(self);
         let tested = Tested::Passed;
         Made { tested, peptide }
     }

@@ -13,7 +13,7 @@ pub enum Weighed {
 }
 
 // Whether a byte is no letter, or one of mass zero.
-fn has_no_mass(masses: &[f32], b: u8) -> bool
+pub(crate) fn has_no_mass(masses: &[f32], b: u8) -> bool
     requires { ⌜ length (now masses) ≡ 26 ⌝ }
     ensures { λ r. ⌜ r ≡ noMass (now (masses .entry)) b ⌝ }
 {

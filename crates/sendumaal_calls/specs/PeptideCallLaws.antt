@@ -1,6 +1,6 @@
 -- From the answers on peptides to what the calls leave. Assumes nothing.
 use Prim.Native.Nat.{ℕ, suc, _+_, _≤_, _<_}
-use mathlib.Core.Path.{_≡_, refl, sym, ap, _∙_}
+use mathlib.Core.Path.{_≡_, sym, ap, _∙_}
 use mathlib.Core.Bool.{true, false, cond}
 use mathlib.Core.List.{List, [], _∷_, _++_, append-nil}
 use native.Mathlib.Omega.{arith}
@@ -26,11 +26,6 @@ use Rattle.sendumaal_calls.specs.PeptideCalls.{weight, FormsArguments, f
 
 pub weight-said : (r : Refusal) (n p : ℕ) (m : Float) → n ≡ numberOf r → p ≡ placeOf r → weight n p m ≡ weight (numberOf r) (placeOf r) m
 weight-said r n p m e f = rw (e, f)
-
--- what the tests found is told of what was made
-pub tested-of : (t : Tested) (new other : Peptide) → madeOr t new other .tested ≡ t
-tested-of Tested.Passed new other = refl
-tested-of (Tested.Refused why) new other = refl
 
 module _ (a : FormsArguments) where
   pub forms-size : tooLarge (length (a .letters)) (a .variable) (a .fixed) (a .limit) ≡ true → refused Size ((a .count ∷ []) ∷ a .out ∷ []) ≡ formsCall a

@@ -7,7 +7,7 @@ use mathlib.Core.Path.{_≡_, ap, _∙_}
 use denote.Ref.{now}
 use Rattle.peptide.specs.declared.making.Made.{Made}
 use Rattle.sendumaal_calls.specs.Calls.{testCall}
-use Rattle.sendumaal_calls.specs.PeptideCallLaws.{tested-of}
+use Rattle.peptide.specs.PeptideLaws.{tested-of}
 use borrow.Author.Needs.{needs}
 use Rattle.sendumaal.proofs.peptides.sendumaal_peptide_test.Statement.{statement}
 use Rattle.sendumaal.proofs.peptides.sendumaal_peptide_test.Tie as tie

@@ -8,7 +8,7 @@ use Rattle.records.specs.declared.refusal.Tested.{Tested}
 use Rattle.peptide.specs.declared.making.Made.{Made}
 use Rattle.peptide.specs.Peptides.{testedPeptide, reversed}
 use Rattle.records.specs.TestedLaws.{first-refuses, first-passes}
-use Rattle.sendumaal_calls.specs.PeptideCallLaws.{tested-of}
+use Rattle.peptide.specs.PeptideLaws.{tested-of}
 use borrow.Author.Needs.{needs}
 use Rattle.sendumaal_calls.proofs.peptides.test_turn.Statement.{statement}
 use Rattle.sendumaal_calls.proofs.peptides.test_turn.Tie as tie

@@ -20,30 +20,15 @@ returns c =
 enum-told : tie.Need-enum-told
 enum-told c = search needs
 
-cast-n : tie.Need-cast-n
-cast-n c = search needs
-
-mirrored-requires : tie.Need-mirrored-requires
-mirrored-requires c κs = passed-fits (c .before .before .before .before .before .before .args .self) (sym (c .before .before .before .before .before .test-peptide .ensures) ∙ c .before .before .before .enum-told .given .1)
-
-mirrored-requires-2 : tie.Need-mirrored-requires-2
-mirrored-requires-2 c κs = passed-fits (c .before .before .before .before .before .before .before .args .self) (sym (c .before .before .before .before .before .before .test-peptide .ensures) ∙ c .before .before .before .before .enum-told .given .1)
+turned-requires : tie.Need-turned-requires
+turned-requires c κs = passed-fits (c .before .before .before .args .self) (sym (c .before .before .test-peptide .ensures) ∙ c .enum-told .given .1)
 
 returns-2 : tie.Need-returns-2
 returns-2 c =
-    let p = c .before .before .before .before .before .before .before .before .before .args .self in
-    let e = sym (c .before .before .before .before .before .before .enum-told .given .1) ∙ c .before .before .before .before .before .before .before .before .test-peptide .ensures in
-    rw (← e, c .before .before .mirrored .ensures, c .before .mirrored2 .ensures)
+    let e = sym (c .before .enum-told .given .1) ∙ c .before .before .before .test-peptide .ensures in
+    rw (← e, c .turned .ensures)
 
 pub reverse-spec : {M : Type 1} → statement M
 reverse-spec =
     tie.close
-    (tie.spec
-    test-peptide-requires
-    enum-known-why
-    returns
-    enum-told
-    cast-n
-    mirrored-requires
-    mirrored-requires-2
-    returns-2)
+    (tie.spec test-peptide-requires enum-known-why returns enum-told turned-requires returns-2)

@@ -1,0 +1,85 @@
+-- `digest_mass` meets its contract. Assumes nothing.
+use Prim.Native.Nat.{ℕ, _≤_}
+use mathlib.Core.Path.{_≡_, sym, ap, _∙_, subst}
+use native.Mathlib.Omega.{arith}
+use native.Mathlib.Nat.{sub-zero}
+use lib.ListN.{length, take}
+use denote.Ref.{now}
+use Rattle.records.specs.declared.refusal.Tested.{Tested}
+use Rattle.peptide.specs.declared.making.Peptide.{Peptide}
+use Rattle.peptide.specs.Peptides.{lettersOf}
+use Rattle.peptide.specs.PeptideLaws.{passed-fits}
+use Rattle.peptide.specs.Masses.{weighed}
+use Rattle.peptide.specs.Digested.{digested, testedDigest}
+use Rattle.peptide.specs.DigestedLaws.{made-tested, made-digested, mass-refused, digested-passes, digested-mass}
+use borrow.Author.Needs.{needs}
+use Rattle.peptide.proofs.digested.digest_mass.Statement.{statement}
+use Rattle.peptide.proofs.digested.digest_mass.Tie as tie
+
+passed : (c : tie.After-enum-told) → testedDigest (now (c .before .before .before .before .before .before .args .letters)) (now (c .before .before .before .before .before .before .args .bytes)) (now (c .before .before .before .before .before .before .args .masses)) ≡ Tested.Passed
+passed c =
+    let a = c .before .before .before .before .before .before .args in
+    sym (made-tested (now (a .letters)) (now (a .bytes)) (now (a .masses)) (c .before .before .of-digest .result) (c .before .before .of-digest .ensures)) ∙ c .enum-told .given .1
+
+is : (c : tie.After-enum-told) → c .before .before .of-digest .result .peptide ≡ digested (now (c .before .before .before .before .before .before .args .letters)) (now (c .before .before .before .before .before .before .args .bytes))
+is c =
+    let a = c .before .before .before .before .before .before .args in
+    made-digested (now (a .letters)) (now (a .bytes)) (now (a .masses)) (passed c) (c .before .before .of-digest .result) (c .before .before .of-digest .ensures)
+
+of-digest-requires : tie.Need-of-digest-requires
+of-digest-requires c κs = search needs
+
+enum-known-tested : tie.Need-enum-known-tested
+enum-known-tested c = search needs
+
+returns : tie.Need-returns
+returns c =
+    let a = c .before .before .before .before .before .before .before .args in
+    mass-refused (now (a .letters)) (now (a .bytes)) (now (a .masses)) (a .water) _ (sym (made-tested (now (a .letters)) (now (a .bytes)) (now (a .masses)) (c .before .before .before .of-digest .result) (c .before .before .before .of-digest .ensures)) ∙ c .before .tested .given .1)
+
+enum-told : tie.Need-enum-told
+enum-told c = search needs
+
+cast-n : tie.Need-cast-n
+cast-n c = search needs
+
+sub-base-mass : tie.Need-sub-base-mass
+sub-base-mass c = search needs
+
+part-base-mass-start : tie.Need-part-base-mass-start
+part-base-mass-start c = search needs
+
+part-base-mass-end : tie.Need-part-base-mass-end
+part-base-mass-end c =
+    let a = c .before .before .before .before .before .before .before .before .before .before .args in
+    let p = digested-passes (now (a .letters)) (now (a .bytes)) (now (a .masses)) (passed (c .before .before .before .before)) in
+    let n : length (c .before .before .before .before .before .before .of-digest .result .peptide .letters) ≡ 64 = search needs in
+    let f : c .before .before .before .before .before .before .of-digest .result .peptide .len ≤ 64 = subst (λ (q : Peptide). q .len ≤ 64) (sym (is (c .before .before .before .before))) (passed-fits (digested (now (a .letters)) (now (a .bytes))) p) in
+    omega arith
+
+base-mass-requires : tie.Need-base-mass-requires
+base-mass-requires c κs = search needs
+
+returns-2 : tie.Need-returns-2
+returns-2 c =
+    let a = c .before .before .before .before .before .before .before .before .before .before .before .before .args in
+    let p = c .before .before .before .before .before .before .before .before .of-digest .result .peptide in
+    c .base-mass .ensures
+    ∙ ap (λ (k : ℕ). weighed (take k (p .letters)) (now (a .masses)) (a .water)) (sub-zero (p .len))
+    ∙ ap (λ (q : Peptide). weighed (lettersOf q) (now (a .masses)) (a .water)) (is (c .before .before .before .before .before .before))
+    ∙ digested-mass (now (a .letters)) (now (a .bytes)) (now (a .masses)) (passed (c .before .before .before .before .before .before)) (a .water)
+
+pub digest-mass-spec : {M : Type 1} → statement M
+digest-mass-spec =
+    tie.close
+    (tie.spec
+    of-digest-requires
+    enum-known-tested
+    returns
+    enum-told
+    cast-n
+    sub-base-mass
+    part-base-mass-start
+    part-base-mass-end
+    base-mass-requires
+    returns-2)

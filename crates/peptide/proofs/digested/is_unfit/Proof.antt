@@ -1,0 +1,27 @@
+-- `is_unfit` meets its contract. Assumes nothing.
+use mathlib.Core.Path.{ap, _∙_}
+use mathlib.Core.Bool.{not}
+use denote.Ref.{now}
+use Rattle.peptide.specs.DigestedLaws.{unfit-inside, unfit-outside}
+use borrow.Author.Needs.{needs}
+use Rattle.peptide.proofs.digested.is_unfit.Statement.{statement}
+use Rattle.peptide.proofs.digested.is_unfit.Tie as tie
+
+has-no-mass-requires : tie.Need-has-no-mass-requires
+has-no-mass-requires c κs = search needs
+
+is-letter-requires : tie.Need-is-letter-requires
+is-letter-requires c κs = search needs
+
+returns : tie.Need-returns
+returns c =
+    let a = c .before .before .before .args in
+    c .has-no-mass .ensures ∙ unfit-inside (now (a .masses)) (a .inside) (a .b) (c .before .if1 .taken)
+
+returns-2 : tie.Need-returns-2
+returns-2 c =
+    let a = c .before .before .before .args in
+    ap not (c .is-letter .ensures) ∙ unfit-outside (now (a .masses)) (a .inside) (a .b) (c .before .if1 .left)
+
+pub is-unfit-spec : {M : Type 1} → statement M
+is-unfit-spec = tie.close (tie.spec has-no-mass-requires is-letter-requires returns returns-2)

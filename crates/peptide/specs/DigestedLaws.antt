@@ -1,0 +1,290 @@
+-- What the tests of a digest come to, and that the other entries take the peptide that is made of it. Assumes nothing.
+use Prim.Native.Nat.{ℕ, suc, _+_, _-_, _≤_, _<_}
+use mathlib.Core.Path.{_≡_, refl, sym, ap, _∙_, subst}
+use mathlib.Core.Bool.{Bool, true, false, cond, not, _&&_, true≢false}
+use mathlib.Core.Logic.{_⊎_, inl, inr, ⊎-elim}
+use mathlib.Core.List.{List, [], _∷_, _++_}
+use native.Mathlib.Omega.{arith}
+use lib.ListN.{length, getD, take, drop, replicate, length-replicate, getD-replicate, length-append, length-drop, List·getD-append}
+use lib.Seq.{getD-take, getD-drop, getD-append-add, length-take-le}
+use lib.Dec.{leb, ltb, eqb}
+use lib.Ieee.{Float}
+use borrow.Author.Tests.{le-leb, leb-true, lt-ltb, le-ltb, ltb-true, ltb-false, eqb-true, ne-eqb, not-false}
+use Rattle.records.specs.declared.refusal.Refusal.{Refusal}
+use Rattle.records.specs.declared.refusal.Refusal.the-variants.{Size, Letter, Length, Field}
+use Rattle.records.specs.declared.refusal.Tested.{Tested}
+use Rattle.records.specs.Search.{seek}
+use Rattle.records.specs.SearchLaws.{seek-before, seek-passes}
+use Rattle.records.specs.Tests.{below?, both, neither}
+use Rattle.records.specs.TestedLaws.{passed-first, passed-second}
+use Rattle.letters.specs.Letters.{isLetter, noLetter, firstBad}
+use Rattle.enzyme_keep.specs.Digests.{goodRecord}
+use Rattle.peptide_slots.specs.Mirror.{mirror, allZero}
+use Rattle.peptide_slots.specs.MirrorLaws.{Turned, until, mirror-turned}
+use Rattle.peptide_slots.specs.Windows.{window}
+use Rattle.peptide.specs.declared.making.Peptide.{Peptide}
+use Rattle.peptide.specs.declared.making.Made.{Made}
+use Rattle.peptide.specs.declared.mass.Weighed.{Weighed}
+use Rattle.peptide.specs.Peptides.{wrongSize, lettersOf, clear, testedPeptide, given, none, madeOr, reversed}
+use Rattle.peptide.specs.PeptideLaws.{contents-clear, tested-on, tested-of}
+use Rattle.peptide.specs.Masses.{addAll, noMass, firstNoMass, testedLetters, weighed, weighedOr}
+use Rattle.peptide.specs.MassLaws.{noMassAt, has-mass-letter, letters-passed, weighed-passed}
+use Rattle.peptide.specs.Digested.{startOf, endOf, positionIn, isDecoy, tooLong, notWhole, unfit, firstUnfit, testedDigest, ofRange, digested, madeOfDigest, weighedDigest}
+
+-- ---- the tests, one after the other
+
+pub unfit-inside : (masses : List Float) (inside : Bool) (b : ℕ) → inside ≡ true → noMass masses b ≡ unfit masses inside b
+unfolding unfit
+unfit-inside masses inside b e = rw e
+
+pub unfit-outside : (masses : List Float) (inside : Bool) (b : ℕ) → inside ≡ false → not (isLetter b) ≡ unfit masses inside b
+unfolding unfit
+unfit-outside masses inside b e = rw e
+
+-- the test at a place
+abbrev pub unfitAt : List Float → ℕ → ℕ → List ℕ → ℕ → Bool
+unfitAt masses start end s i = unfit masses (leb start i && ltb i end) (getD s i 0)
+
+pub whole-masses : (r : List ℕ) (masses : List Float) → notWhole r masses ≡ false → length masses ≡ 26
+whole-masses r masses e = eqb-true (length masses) 26 (both (eqb (length r) 16) (eqb (length masses) 26) (not-false (eqb (length r) 16 && eqb (length masses) 26) e) .1)
+
+module _ (s r : List ℕ) (masses : List Float) where
+  pub digest-size : tooLong s r ≡ true → Tested.Refused Size ≡ testedDigest s r masses
+  unfolding testedDigest
+  digest-size e = rw e
+
+  module _ (sized : tooLong s r ≡ false) where
+    pub digest-length : notWhole r masses ≡ true → Tested.Refused Length ≡ testedDigest s r masses
+    unfolding testedDigest
+    digest-length e = rw (sized, e)
+
+    module _ (whole : notWhole r masses ≡ false) (bad : ℕ) (first : bad ≡ firstUnfit masses (startOf r) (endOf r) s) where
+      pub digest-letter : bad < length s → Tested.Refused (Letter bad) ≡ testedDigest s r masses
+      unfolding testedDigest
+      digest-letter h = rw (sized, whole, first, lt-ltb (firstUnfit masses (startOf r) (endOf r) s) (length s) (subst (λ (x : ℕ). x < length s) first h))
+
+      module _ (fit : length s ≤ bad) where
+        pub digest-passed : (goodRecord r && leb (endOf r) (length s)) ≡ true → Tested.Passed ≡ testedDigest s r masses
+        unfolding testedDigest
+        digest-passed e = rw (sized, whole, le-ltb (firstUnfit masses (startOf r) (endOf r) s) (length s) (subst (λ (x : ℕ). length s ≤ x) first fit), e)
+
+        pub digest-field : (goodRecord r && leb (endOf r) (length s)) ≡ false → Tested.Refused (Field 0) ≡ testedDigest s r masses
+        unfolding testedDigest
+        digest-field e = rw (sized, whole, le-ltb (firstUnfit masses (startOf r) (endOf r) s) (length s) (subst (λ (x : ℕ). length s ≤ x) first fit), e)
+
+-- ---- what is known once they passed
+
+first-and-fifth : (a b c d e f : Bool) → (a && b && c && d && e && f) ≡ true → (a ≡ true) × (e ≡ true)
+first-and-fifth a b c d e f h =
+    let x = both (a && b && c && d && e) f h in
+    let y = both (a && b && c && d) e (x .0) in
+    (both a b (both (a && b) c (both (a && b && c) d (y .0) .0) .0) .0, y .1)
+
+module _ (s r : List ℕ) (masses : List Float) where
+  abbrev pub rangeIn : List ℕ
+  rangeIn = take (endOf r - startOf r) (drop (startOf r) s)
+
+  pub record Digestible : Type 0 where
+    pub rises : startOf r < endOf r
+    pub within : endOf r ≤ length s
+    pub few : endOf r ≤ startOf r + 64
+    pub placed : positionIn r ≤ 3
+    pub whole : length masses ≡ 26
+    pub fit : (i : ℕ) → i < endOf r - startOf r → noMass masses (getD rangeIn i 0) ≡ false
+
+  pub passed-digestible : testedDigest s r masses ≡ Tested.Passed → Digestible
+  unfolding testedDigest firstUnfit
+  passed-digestible h =
+      let bad : ℕ = firstUnfit masses (startOf r) (endOf r) s in
+      let last : Tested = cond (goodRecord r && leb (endOf r) (length s)) Tested.Passed (Tested.Refused (Field 0)) in
+      let third : Tested = cond (ltb bad (length s)) (Tested.Refused (Letter bad)) last in
+      let second : Tested = cond (notWhole r masses) (Tested.Refused Length) third in
+      let a = passed-first (tooLong s r) Size second h in
+      let b = passed-first (notWhole r masses) Length third (a .1) in
+      let c = passed-first (ltb bad (length s)) (Letter bad) last (b .1) in
+      let d = passed-second (goodRecord r && leb (endOf r) (length s)) (Field 0) Tested.Passed (c .1) in
+      let g = both (goodRecord r) (leb (endOf r) (length s)) (d .0) in
+      let f = first-and-fifth (ltb (startOf r) (endOf r)) (leb (endOf r) 65536) (leb (getD r 8 0) 16) (leb (getD r 9 0) 1) (leb (getD r 10 0) 3) (leb (getD r 11 0) 1) (g .0) in
+      record {
+        rises = ltb-true (startOf r) (endOf r) (f .0);
+        within = leb-true (endOf r) (length s) (g .1);
+        few = few-of (a .0) (b .0);
+        placed = leb-true (positionIn r) 3 (f .1);
+        whole = whole-masses r masses (b .0);
+        fit = fit-at (leb-true (endOf r) (length s) (g .1)) (ltb-false bad (length s) (c .0));
+      }
+    where
+      few-of : tooLong s r ≡ false → notWhole r masses ≡ false → endOf r ≤ startOf r + 64
+      few-of e w =
+          let x = neither (ltb 65536 (length s)) (eqb (length r) 16 && ltb (startOf r + 64) (endOf r)) e in
+          let y = both (eqb (length r) 16) (eqb (length masses) 26) (not-false (eqb (length r) 16 && eqb (length masses) 26) w) in
+          ltb-false (startOf r + 64) (endOf r) (rw (y .0) at (x .1))
+
+      fit-at : endOf r ≤ length s → length s ≤ firstUnfit masses (startOf r) (endOf r) s → (i : ℕ) → i < endOf r - startOf r → noMass masses (getD rangeIn i 0) ≡ false
+      fit-at w l i g =
+          let j : ℕ = startOf r + i in
+          let e : (leb (startOf r) j && ltb j (endOf r)) ≡ true = rw (le-leb (startOf r) j (omega arith), lt-ltb j (endOf r) (omega arith)) in
+          ap (noMass masses) (getD-take (endOf r - startOf r) (drop (startOf r) s) i 0 g ∙ getD-drop (startOf r) s i 0)
+          ∙ unfit-inside masses (leb (startOf r) j && ltb j (endOf r)) (getD s j 0) e
+          ∙ seek-before (unfitAt masses (startOf r) (endOf r) s) 0 (length s) j (omega arith) (omega arith)
+
+-- ---- letters in a peptide's array
+
+-- none of the places passes the test
+none-found : (p : ℕ → Bool) (n : ℕ) → ((k : ℕ) → k < n → p k ≡ false) → n ≤ seek p 0 n
+none-found p n h = ⊎-elim (λ (l : seek p 0 n < n). absurd (true≢false (sym (seek-passes p 0 n (omega arith)) ∙ h (seek p 0 n) l))) (λ (l : n ≤ seek p 0 n). l) (below? (seek p 0 n) n)
+
+all-zero : (xs : List ℕ) → ((k : ℕ) → k < length xs → getD xs k 0 ≡ 0) → allZero xs ≡ true
+unfolding allZero
+all-zero [] h = refl
+all-zero (b ∷ bs) h = rw (h 0 (omega arith), all-zero bs (λ k g. h (suc k) (omega arith)))
+
+-- zeros from a place of 64 on
+abbrev ZeroFrom : ℕ → List ℕ → Type 0
+ZeroFrom n xs = (k : ℕ) → n ≤ k → k < 64 → getD xs k 0 ≡ 0
+
+zero-from : (n : ℕ) (xs : List ℕ) → length xs ≡ 64 → ZeroFrom n xs → allZero (drop n xs) ≡ true
+zero-from n xs l z = all-zero (drop n xs) (λ k g. getD-drop n xs k 0 ∙ z (n + k) (omega arith) (omega (arith, length-drop n xs)))
+
+module _ (n : ℕ) (xs : List ℕ) (some : 1 ≤ n) (fits : n ≤ 64) (l : length xs ≡ 64) where
+  turn : Turned n (until n) xs (mirror n xs)
+  turn = mirror-turned n xs (omega arith)
+
+  -- what is mirrored stood inside too, what is not stays
+  mirror-in : (k : ℕ) → k < n → (j : ℕ) × (j < n) × (getD (mirror n xs) k 0 ≡ getD xs j 0)
+  mirror-in k h = go (below? k 1) (below? k (until n))
+    where
+      go : (k < 1) ⊎ (1 ≤ k) → (k < until n) ⊎ (until n ≤ k) → (j : ℕ) × (j < n) × (getD (mirror n xs) k 0 ≡ getD xs j 0)
+      go (inl a) b = (k, h, turn .outer k (inl a))
+      go (inr a) (inl b) = (n - 1 - k, omega arith, turn .inner k a b)
+      go (inr a) (inr b) = (k, h, turn .outer k (inr b))
+
+  mirror-past : ZeroFrom n xs → ZeroFrom n (mirror n xs)
+  mirror-past z k h g = turn .outer k (inr (omega arith)) ∙ z k h g
+
+module _ (part : List ℕ) (some : 1 ≤ length part) (fits : length part ≤ 64) where
+  held-length : length (window 64 0 part) ≡ 64
+  held-length = length-take-le 64 (part ++ replicate 64 0) (omega (arith, length-append part (replicate 64 0), length-replicate {A = ℕ} 64 0))
+
+  held-in : (k : ℕ) → k < length part → getD (window 64 0 part) k 0 ≡ getD part k 0
+  held-in k h = getD-take 64 (part ++ replicate 64 0) k 0 (omega arith) ∙ List·getD-append part (replicate 64 0) 0 k h
+
+  held-past : ZeroFrom (length part) (window 64 0 part)
+  held-past k h g =
+      let e : length part + (k - length part) ≡ k = omega arith in
+      getD-take 64 (part ++ replicate 64 0) k 0 g
+      ∙ ap (λ (i : ℕ). getD (part ++ replicate 64 0) i 0) (sym e)
+      ∙ getD-append-add part (replicate 64 0) (k - length part) 0
+      ∙ getD-replicate 64 (k - length part) 0 0 (omega arith)
+
+-- ---- the peptide of a range
+
+-- a peptide of letters that lies clear passes its tests
+passes-of : (q : Peptide) → 1 ≤ q .len → q .len ≤ 64 → length (lettersOf q) ≡ q .len → ((k : ℕ) → k < q .len → noLetter (lettersOf q) k ≡ false) → clear q ≡ true → testedPeptide q ≡ Tested.Passed
+unfolding firstBad
+passes-of q a b l h e =
+    let low = none-found (noLetter (lettersOf q)) (length (lettersOf q)) (λ k g. h k (omega arith)) in
+    let sized : wrongSize (q .len) ≡ false = rw (ne-eqb (q .len) 0 (λ x. omega arith), le-ltb 64 (q .len) b) in
+    sym (tested-on q Tested.Passed sized (contents-clear q (firstBad (lettersOf q)) refl (omega arith) e))
+
+clear-of : (q : Peptide) → length (q .letters) ≡ 64 → length (q .ids) ≡ 64 → ZeroFrom (q .len) (q .letters) → ZeroFrom (q .len) (q .ids) → q .position ≤ 3 → clear q ≡ true
+unfolding clear
+clear-of q l m y z h = rw (zero-from (q .len) (q .letters) l y, zero-from (q .len) (q .ids) m z, le-leb (q .position) 3 h)
+
+module _ (part : List ℕ) (position : ℕ) (decoy : Bool) where
+  pub range-decoy : decoy ≡ true → reversed (given part [] position false) ≡ ofRange part position decoy
+  range-decoy e = rw e
+
+  pub range-target : decoy ≡ false → given part [] position false ≡ ofRange part position decoy
+  range-target e = rw e
+
+module _ (part : List ℕ) (some : 1 ≤ length part) (fits : length part ≤ 64) (position : ℕ) where
+  abbrev plain : Peptide
+  plain = given part [] position false
+
+  held-turned : Turned (length part) (until (length part)) (window 64 0 part) (mirror (length part) (window 64 0 part))
+  held-turned = turn (length part) (window 64 0 part) some fits (held-length part some fits)
+
+  pub range-length : (decoy : Bool) → length (lettersOf (ofRange part position decoy)) ≡ length part
+  range-length false = length-take-le (length part) (window 64 0 part) (omega (arith, held-length part some fits))
+  range-length true = length-take-le (length part) (mirror (length part) (window 64 0 part)) (omega (arith, held-length part some fits, held-turned .len))
+
+  range-letter : (decoy : Bool) (k : ℕ) → k < length part → (j : ℕ) × (j < length part) × (getD (lettersOf (ofRange part position decoy)) k 0 ≡ getD part j 0)
+  range-letter false k h = (k, h, getD-take (length part) (window 64 0 part) k 0 h ∙ held-in part some fits k h)
+  range-letter true k h =
+      let m = mirror-in (length part) (window 64 0 part) some fits (held-length part some fits) k h in
+      (m .0, m .1, getD-take (length part) (mirror (length part) (window 64 0 part)) k 0 h ∙ m .2 ∙ held-in part some fits (m .0) (m .1))
+
+  -- what no letter of the range passes, no letter of the peptide does
+  pub range-each : (p : ℕ → Bool) → ((k : ℕ) → k < length part → p (getD part k 0) ≡ false) → (decoy : Bool) (k : ℕ) → k < length part → p (getD (lettersOf (ofRange part position decoy)) k 0) ≡ false
+  range-each p h decoy k g = let m = range-letter decoy k g in ap p (m .2) ∙ h (m .0) (m .1)
+
+  no-ids : ZeroFrom (length part) (window 64 2 [])
+  no-ids k h g = getD-take 64 (replicate 64 0) k 0 g ∙ getD-replicate 64 k 0 0 g
+
+  range-clear : position ≤ 3 → (decoy : Bool) → clear (ofRange part position decoy) ≡ true
+  range-clear h false = clear-of plain (held-length part some fits) refl (held-past part some fits) no-ids h
+  range-clear h true =
+      clear-of (reversed plain) (held-turned .len ∙ held-length part some fits) (turn (length part) (window 64 2 []) some fits refl .len)
+      (mirror-past (length part) (window 64 0 part) some fits (held-length part some fits) (held-past part some fits))
+      (mirror-past (length part) (window 64 2 []) some fits refl no-ids) h
+
+  pub range-passes : position ≤ 3 → ((k : ℕ) → k < length part → noLetter part k ≡ false) → (decoy : Bool) → testedPeptide (ofRange part position decoy) ≡ Tested.Passed
+  range-passes h l false = passes-of plain some fits (range-length false) (range-each (λ (b : ℕ). not (isLetter b)) l false) (range-clear h false)
+  range-passes h l true = passes-of (reversed plain) some fits (range-length true) (range-each (λ (b : ℕ). not (isLetter b)) l true) (range-clear h true)
+
+  module _ (masses : List Float) (whole : length masses ≡ 26) where
+    pub range-weighed : ((k : ℕ) → k < length part → noMass masses (getD part k 0) ≡ false) → (decoy : Bool) → Tested.Passed ≡ testedLetters (lettersOf (ofRange part position decoy)) masses
+    unfolding firstNoMass
+    range-weighed h decoy =
+        let q : List ℕ = lettersOf (ofRange part position decoy) in
+        let l : length q ≡ length part = range-length decoy in
+        let low = none-found (noMassAt masses q) (length q) (λ k g. range-each (noMass masses) h decoy k (omega arith)) in
+        let sized : wrongSize (length q) ≡ false = rw (ne-eqb (length q) 0 (λ x. omega arith), le-ltb 64 (length q) (omega arith)) in
+        letters-passed q masses sized whole (firstNoMass masses q) refl low
+
+-- ---- the peptide of a digest that passed
+
+module _ (s r : List ℕ) (masses : List Float) (h : testedDigest s r masses ≡ Tested.Passed) where
+  d : Digestible s r masses
+  d = passed-digestible s r masses h
+
+  range-many : length (rangeIn s r masses) ≡ endOf r - startOf r
+  range-many = length-take-le (endOf r - startOf r) (drop (startOf r) s) (omega (arith, d .within, d .rises, length-drop (startOf r) s))
+
+  some : 1 ≤ length (rangeIn s r masses)
+  some = omega (arith, range-many, d .rises)
+
+  pub range-fits : length (rangeIn s r masses) ≤ 64
+  range-fits = omega (arith, range-many, d .few)
+
+  masses-in : (k : ℕ) → k < length (rangeIn s r masses) → noMass masses (getD (rangeIn s r masses) k 0) ≡ false
+  masses-in k g = d .fit k (omega (arith, range-many))
+
+  letters-in : (k : ℕ) → k < length (rangeIn s r masses) → noLetter (rangeIn s r masses) k ≡ false
+  letters-in k g = ap not (has-mass-letter masses (getD (rangeIn s r masses) k 0) (masses-in k g))
+
+  -- reversal and forms take it
+  pub digested-passes : testedPeptide (digested s r) ≡ Tested.Passed
+  unfolding digested
+  digested-passes = range-passes (rangeIn s r masses) some range-fits (positionIn r) (d .placed) letters-in (isDecoy r)
+
+  -- its mass is that of its letters
+  pub digested-mass : (water : Float) → weighed (lettersOf (digested s r)) masses water ≡ weighedDigest s r masses water
+  unfolding digested weighedDigest
+  digested-mass water = sym (weighed-passed (lettersOf (digested s r)) masses water (range-weighed (rangeIn s r masses) some range-fits (positionIn r) masses (d .whole) masses-in (isDecoy r))) ∙ ap (λ (t : Tested). weighedOr t (addAll masses water (lettersOf (digested s r)))) (sym h)
+
+-- ---- what was made, and what was weighed
+
+module _ (s r : List ℕ) (masses : List Float) where
+  pub made-tested : (m : Made) → m ≡ madeOfDigest s r masses → m .tested ≡ testedDigest s r masses
+  unfolding madeOfDigest
+  made-tested m e = ap (λ (x : Made). x .tested) e ∙ tested-of (testedDigest s r masses) (digested s r) none
+
+  pub made-digested : testedDigest s r masses ≡ Tested.Passed → (m : Made) → m ≡ madeOfDigest s r masses → m .peptide ≡ digested s r
+  unfolding madeOfDigest
+  made-digested h m e = ap (λ (x : Made). x .peptide) e ∙ ap (λ (t : Tested). madeOr t (digested s r) none .peptide) h
+
+  pub mass-refused : (water : Float) (why : Refusal) → testedDigest s r masses ≡ Tested.Refused why → Weighed.Refused why ≡ weighedDigest s r masses water
+  unfolding weighedDigest
+  mass-refused water why e = rw e
