@@ -22,7 +22,7 @@ pub extern "C" fn sendumaal_group_proteins(
     member_count: &mut u32,
     place: &mut usize,
 ) -> u32
-    ensures { λ r. ⌜ outcome r ((now (place .exit) ∷ []) ∷ (now (groups .exit) ∷ []) ∷ (now (metas .exit) ∷ []) ∷ (now (edge-count .exit) ∷ []) ∷ (now (member-count .exit) ∷ []) ∷ now (work .exit) ∷ now (edges .exit) ∷ now (members .exit) ∷ []) ≡ proteinsCall (record { pairs = now (pairs .entry); flags = now (flags .entry); peptides = peptides; proteins = proteins; work = now (work .entry); edges = now (edges .entry); members = now (members .entry); groups = now (groups .entry); metas = now (metas .entry); edge-count = now (edge-count .entry); member-count = now (member-count .entry) }) ⌝ }
+    ensures { λ r. ⌜ outcome r ((now (place .exit) ∷ []) ∷ (now (groups .exit) ∷ []) ∷ (now (metas .exit) ∷ []) ∷ (now («edge_count» .exit) ∷ []) ∷ (now («member_count» .exit) ∷ []) ∷ now (work .exit) ∷ now (edges .exit) ∷ now (members .exit) ∷ []) ≡ proteinsCall (record { pairs = now (pairs .entry); flags = now (flags .entry); peptides = peptides; proteins = proteins; work = now (work .entry); edges = now (edges .entry); members = now (members .entry); groups = now (groups .entry); metas = now (metas .entry); edge-count = now («edge_count» .entry); member-count = now («member_count» .entry) }) ⌝ }
 {
     let answer = protein_groups::group_proteins(
         pairs,
