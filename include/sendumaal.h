@@ -153,7 +153,16 @@ uint32_t sendumaal_digest_letters(const uint8_t *letters, size_t letters_len, co
 uint32_t sendumaal_base_mass(const uint8_t *letters, size_t letters_len, const float *masses, size_t masses_len,
                              float water, float *mass, size_t *place);
 
-/* Tests letters that are to be a peptide. Refuses with 1, 8, 2 as above, then 9 (position above 3: 0). */
+/* The same of a digest's peptide, from the letters of its protein and its record: the letters are not copied out. A decoy's
+ * are added in their own order. Refuses with 1 (letters_len above 65536, or, in a record of 16 bytes, a range of more than
+ * 64 letters), 8 (the record is not 16 bytes, or masses are not 26), 2 (in all of letters, not A to Z, and in the range also
+ * a letter whose mass is zero: its index in letters), 9 (a field out of range, or an end past the letters: 0). Accepted:
+ * *mass, and *position is the record's. */
+uint32_t sendumaal_digest_mass(const uint8_t *letters, size_t letters_len, const uint8_t *record, size_t record_len,
+                               const float *masses, size_t masses_len, float water,
+                               float *mass, uint32_t *position, size_t *place);
+
+/* Tests letters that are to be a peptide. Refuses with 1, 8, 2 as sendumaal_base_mass, then 9 (position above 3: 0). */
 uint32_t sendumaal_peptide_test(const uint8_t *letters, size_t letters_len, const float *masses, size_t masses_len,
                                 uint8_t position, size_t *place);
 

@@ -18,6 +18,7 @@ pub use groups::sendumaal_update;
 pub use names::sendumaal_letters_test;
 pub use names::sendumaal_names_test;
 pub use peptides::sendumaal_base_mass;
+pub use peptides::sendumaal_digest_mass;
 pub use peptides::sendumaal_forms;
 pub use peptides::sendumaal_peptide_reverse;
 pub use peptides::sendumaal_peptide_test;

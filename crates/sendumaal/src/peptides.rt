@@ -14,7 +14,7 @@ ghost use mathlib.Core.List.{List, [], _∷_};
 ghost use Rattle.records.specs.Outcome.{outcome};
 ghost use Rattle.peptide.specs.Masses.{testedPart, weighed};
 ghost use Rattle.sendumaal_calls.specs.Calls.{testCall};
-ghost use Rattle.sendumaal_calls.specs.PeptideCalls.{weight, weightCall, formsCall, reverseCall};
+ghost use Rattle.sendumaal_calls.specs.PeptideCalls.{weight, weightCall, digestWeight, digestMassCall, formsCall, reverseCall};
 
 #[no_mangle]
 pub extern "C" fn sendumaal_base_mass(
@@ -30,6 +30,33 @@ pub extern "C" fn sendumaal_base_mass(
     match answer {
         Weighed::Mass(m) => {
             *mass = m;
+            *place = 0;
+            0
+        }
+        Weighed::Refused(why) => {
+            *place = why.place();
+            why.number()
+        }
+    }
+}
+
+#[no_mangle]
+pub extern "C" fn sendumaal_digest_mass(
+    letters: &[u8],
+    bytes: &[u8],
+    masses: &[f32],
+    water: f32,
+    mass: &mut f32,
+    position: &mut u32,
+    place: &mut usize,
+) -> u32
+    ensures { λ r. ⌜ digestWeight r (now (place .exit)) (now (mass .exit)) (now (position .exit)) ≡ digestMassCall (now (letters .entry)) (now (bytes .entry)) (now (masses .entry)) water (now (mass .entry)) (now (position .entry)) ⌝ }
+{
+    let answer = peptide::digest_mass(letters, bytes, masses, water);
+    match answer {
+        Weighed::Mass(m) => {
+            *mass = m;
+            *position = records::byte_at(bytes, 10) as u32;
             *place = 0;
             0
         }

@@ -22,10 +22,13 @@ use Rattle.records.specs.declared.refusal.Refusal.the-variants.{Size, Length, F
 use Rattle.records.specs.declared.refusal.Tested.{Tested}
 use Rattle.records.specs.Refusals.{numberOf, placeOf}
 use Rattle.sendumaal_calls.specs.Calls.{accepted, refused, countedCall}
-use Rattle.sendumaal_calls.specs.PeptideCalls.{weight, FormsArguments, formed, formsCall, testedLengths, turning, testedTurn, testedReverse, otherFlag, reversedOr, turned, reverseCall}
+use Rattle.sendumaal_calls.specs.PeptideCalls.{weight, digestWeight, FormsArguments, formed, formsCall, testedLengths, turning, testedTurn, testedReverse, otherFlag, reversedOr, turned, reverseCall}
 
 pub weight-said : (r : Refusal) (n p : ℕ) (m : Float) → n ≡ numberOf r → p ≡ placeOf r → weight n p m ≡ weight (numberOf r) (placeOf r) m
 weight-said r n p m e f = rw (e, f)
+
+pub digest-weight-said : (r : Refusal) (n p : ℕ) (m : Float) (q : ℕ) → n ≡ numberOf r → p ≡ placeOf r → digestWeight n p m q ≡ digestWeight (numberOf r) (placeOf r) m q
+digest-weight-said r n p m q e f = rw (e, f)
 
 module _ (a : FormsArguments) where
   pub forms-size : tooLarge (length (a .letters)) (a .variable) (a .fixed) (a .limit) ≡ true → refused Size ((a .count ∷ []) ∷ a .out ∷ []) ≡ formsCall a

@@ -1,5 +1,6 @@
 -- What the calls on peptides leave: as in Calls, *place first, then the other results and the lent slices.
 use Prim.Native.Nat.{ℕ}
+use mathlib.Core.Path.{_≡_, ap}
 use mathlib.Core.Bool.{Bool, false, cond}
 use mathlib.Core.List.{List, [], _∷_}
 use lib.ListN.{length, take}
@@ -10,11 +11,12 @@ use Rattle.peptide.specs.declared.mass.Weighed.{Weighed}
 use Rattle.records.specs.Tested.{andThen}
 use Rattle.peptide_slots.specs.Windows.{window}
 use Rattle.peptide.specs.Peptides.{wrongSize, testedPeptide, reversed}
+use Rattle.peptide.specs.Digested.{positionIn, weighedDigest}
 use Rattle.peptide.specs.Forms.{tooLarge, formsOutcome}
 use Rattle.records.specs.declared.refusal.Refusal.the-variants.{Size, Length, Field}
 use Rattle.records.specs.declared.refusal.Tested.{Tested}
 use Rattle.records.specs.Refusals.{numberOf, placeOf}
-use Rattle.records.specs.Outcome.{Outcome}
+use Rattle.records.specs.Outcome.{Outcome, equal-only}
 use Rattle.sendumaal_calls.specs.Calls.{accepted, refused, countedCall}
 
 -- ---- the base mass: the number, *place and *mass
@@ -30,6 +32,34 @@ weight n p m = record { number = n; place = p; mass = m }
 abbrev pub weightCall : Weighed → Float → Weight
 weightCall (Weighed.Mass m) old = weight 0 0 m
 weightCall (Weighed.Refused r) old = weight (numberOf r) (placeOf r) old
+
+-- ---- the base mass of a digest: the number, *place, *mass and *position
+
+pub record DigestWeight : Type 0 where
+  pub number : ℕ
+  pub place : ℕ
+  pub mass : Float
+  pub position : ℕ
+
+abbrev pub digestWeight : ℕ → ℕ → Float → ℕ → DigestWeight
+digestWeight n p m q = record { number = n; place = p; mass = m; position = q }
+
+-- the position is the record's
+abbrev pub digestWeightCall : Weighed → ℕ → Float → ℕ → DigestWeight
+digestWeightCall (Weighed.Mass m) position oldMass oldPosition = digestWeight 0 0 m position
+digestWeightCall (Weighed.Refused r) position oldMass oldPosition = digestWeight (numberOf r) (placeOf r) oldMass oldPosition
+
+-- the arguments in their order, and what `*mass` and `*position` hold at entry
+abbrev pub digestMassCall : List ℕ → List ℕ → List Float → Float → Float → ℕ → DigestWeight
+digestMassCall letters bytes masses water oldMass oldPosition = digestWeightCall (weighedDigest letters bytes masses water) (positionIn bytes) oldMass oldPosition
+
+-- no second number, place, mass or position meets the contract
+pub digest-mass-only : (letters bytes : List ℕ) (masses : List Float) (water oldMass : Float) (oldPosition : ℕ) (n m p q i j : ℕ) (x y : Float)
+    → digestWeight n p x i ≡ digestMassCall letters bytes masses water oldMass oldPosition → digestWeight m q y j ≡ digestMassCall letters bytes masses water oldMass oldPosition
+    → (n ≡ m) × (p ≡ q) × (x ≡ y) × (i ≡ j)
+digest-mass-only letters bytes masses water oldMass oldPosition n m p q i j x y e f =
+    let g = equal-only (digestWeight n p x i) (digestWeight m q y j) (digestMassCall letters bytes masses water oldMass oldPosition) e f in
+    (ap (λ (w : DigestWeight). w .number) g, ap (λ (w : DigestWeight). w .place) g, ap (λ (w : DigestWeight). w .mass) g, ap (λ (w : DigestWeight). w .position) g)
 
 -- ---- a peptide of 1 to 64 lent letters and their ids
 
