@@ -17,6 +17,7 @@ REAL(letters_reverse);
 REAL(digest_reverse);
 REAL(digest_letters);
 REAL(base_mass);
+REAL(digest_mass);
 REAL(peptide_test);
 REAL(peptide_reverse);
 REAL(forms);
@@ -329,6 +330,35 @@ uint32_t sendumaal_base_mass(const uint8_t *letters, size_t len, const float *ma
         return real_letters_test(letters, len, place) ? 2 : 8;
     if (planted("masses: an infinity is not a number") && number == 0 && sendumaal_mass_bits(*mass) == 0x7f800000)
         *mass -= *mass;
+    return number;
+}
+
+/* The position that the range has, whatever the record says. */
+static uint32_t position_of(const uint8_t *record, size_t len)
+{
+    int at_end = word(record + 4) == len;
+    return word(record) == 0 ? (at_end ? 2 : 0) : (at_end ? 1 : 3);
+}
+
+uint32_t sendumaal_digest_mass(const uint8_t *letters, size_t len, const uint8_t *record, size_t record_len,
+                               const float *masses, size_t masses_len, float water, float *mass, uint32_t *position,
+                               size_t *place)
+{
+    uint8_t target[16];
+    if (planted("digest masses: a decoy is weighed as its target") && record_len == 16 && record[11] == 1) {
+        memcpy(target, record, 16);
+        target[11] = 0;
+        record = target;
+    }
+    uint32_t number = real_digest_mass(letters, len, record, record_len, masses, masses_len, water, mass, position, place);
+    if (planted("digest masses: the position is that of the range") && number == 0)
+        *position = position_of(record, len);
+    if (planted("digest masses: the place of 2 counts from the range") && number == 2 && *place >= word(record))
+        *place -= word(record);
+    if (planted("digest masses: 9 comes before 2") && number == 2 && word(record + 4) > len)
+        return *place = 0, 9;
+    if (planted("digest masses: a refusal writes the position") && number == 9)
+        *position = record[10];
     return number;
 }
 

@@ -94,6 +94,18 @@ extern "C" {
         mass: *mut f32,
         place: *mut usize,
     ) -> u32;
+    pub fn sendumaal_digest_mass(
+        letters: *const u8,
+        letters_len: usize,
+        record: *const u8,
+        record_len: usize,
+        masses: *const f32,
+        masses_len: usize,
+        water: f32,
+        mass: *mut f32,
+        position: *mut u32,
+        place: *mut usize,
+    ) -> u32;
     pub fn sendumaal_peptide_test(
         letters: *const u8,
         letters_len: usize,

@@ -8,6 +8,7 @@ mod calls;
 mod cover;
 mod digest;
 mod digest_groups;
+mod digest_masses;
 mod entry;
 mod ffi;
 mod forms;
@@ -91,6 +92,15 @@ const SUBJECTS: &[(&str, &[Entry])] = &[
             masses::any_table,
             masses::beyond_the_rust,
             masses::model_sums,
+        ],
+    ),
+    (
+        "digest masses",
+        &[
+            digest_masses::any_call,
+            digest_masses::single_reasons,
+            digest_masses::greatest,
+            digest_masses::of_the_rust,
         ],
     ),
     (

@@ -39,7 +39,7 @@ fn wanted(said: Said, letters: &[u8], masses: &[u32]) -> Answer<u32> {
 }
 
 /// One pattern for all not-a-numbers.
-fn as_number(mass: u32) -> u32 {
+pub fn as_number(mass: u32) -> u32 {
     match f32::from_bits(mass).is_nan() {
         true => f32::NAN.to_bits(),
         false => mass,

@@ -1,5 +1,5 @@
 //! Reversal: of letters and of digest records against the original, any call against the model.
-mod cases;
+pub mod cases;
 pub mod model;
 
 use crate::answer::*;

@@ -11,7 +11,7 @@ use crate::entry::{Against, Context, Tally};
 use crate::forms::cases::{rules_on_m, unmodified};
 use crate::model::{Record, Rule};
 use crate::rng::Rng;
-use crate::{cover, digest_groups, forms, peptides, protein_groups, report_lines, update};
+use crate::{cover, digest_groups, forms, peptides, protein_groups, report_lines, reversal, update};
 use painted::used;
 
 const MOST: usize = 1 << 20;
@@ -139,8 +139,12 @@ fn of_peptides(rng: &mut Rng) -> Vec<Run> {
     let letters = vec![b'M'; 64];
     let (masses, long) = (vec![0x42f0_0000; 26], vec![b'M'; MOST_LETTERS]);
     let (of_mass, of_test) = (letters.clone(), letters);
-    let of_tests = masses.clone();
+    let (of_tests, of_digest) = (masses.clone(), masses.clone());
+    let (protein, record) = (long.clone(), reversal::cases::record_of(rng, 0..64, 1));
     runs.push(run("base_mass", move || is_served(calls::peptides::base_mass(&of_mass, &masses, 0))));
+    runs.push(run("digest_mass", move || {
+        is_served(calls::peptides::digest_mass(&protein, &record, &of_digest, 0))
+    }));
     runs.push(run("peptide_test", move || is_served(calls::peptides::peptide_test(&of_test, &of_tests, 2))));
     let good = peptides::cases::good(rng).swap_remove(0);
     runs.push(run("peptide_reverse", move || {

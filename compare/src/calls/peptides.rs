@@ -27,6 +27,34 @@ pub fn base_mass(letters: &[u8], masses: &[u32], water: u32) -> Checked<Answer<u
     })
 }
 
+/// The answer is the bit pattern of the mass, and the position.
+pub fn digest_mass(letters: &[u8], record: &[u8], masses: &[u32], water: u32) -> Checked<Answer<(u32, u32)>> {
+    lend_all([letters, record], |[mut letters, mut record]| {
+        let (first, many) = (letters.pointer(), letters.len());
+        let (bytes, long) = (record.pointer(), record.len());
+        lend(masses, |mut masses| {
+            let (mut mass, mut position) = (Lent::<u32>::result(), Lent::<u32>::result());
+            let mut place = Lent::result();
+            let (table, size) = (masses.pointer().cast(), masses.len());
+            #[rustfmt::skip]
+            let number = unsafe {
+                ffi::sendumaal_digest_mass(
+                    first, many, bytes, long, table, size, f32::from_bits(water),
+                    mass.pointer().cast(), position.pointer(), place.pointer(),
+                )
+            };
+            let lent: [(&str, &dyn Memory, May); 5] = [
+                ("letters", &letters, May::Read),
+                ("record", &record, May::Read),
+                ("masses", &masses, May::Read),
+                ("mass", &mass, May::Answer),
+                ("position", &position, May::Answer),
+            ];
+            Ok(answer(number, &place, &lent)?.map(|()| (mass.value(), position.value())))
+        })
+    })
+}
+
 pub fn peptide_test(letters: &[u8], masses: &[u32], position: u8) -> Checked<Answer<()>> {
     lend(letters, |mut letters| {
         let (first, many) = (letters.pointer(), letters.len());

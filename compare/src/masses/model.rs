@@ -5,7 +5,7 @@ use crate::peptides::model::wrong_size;
 
 pub const MASSES: usize = 26;
 
-fn mass(masses: &[u32], letter: u8) -> f32 {
+pub fn mass(masses: &[u32], letter: u8) -> f32 {
     f32::from_bits(masses[usize::from(letter - b'A')])
 }
 

@@ -49,7 +49,7 @@ pub fn digest_reverse(record: &[u8]) -> Filled<()> {
     Filled { answer, buffer }
 }
 
-fn letters_of(letters: &[u8], record: &[u8]) -> Answer<Vec<u8>> {
+pub fn letters_of(letters: &[u8], record: &[u8]) -> Answer<Vec<u8>> {
     if letters.len() > MOST_LETTERS {
         return refuse(SIZE, 0);
     }
