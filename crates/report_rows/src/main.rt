@@ -1,7 +1,7 @@
 // Shows what the library does with the rows of a search: it groups their proteins, covers the peptides by groups, and writes each
 // peptide's report line. Rows that are wrong it refuses, with a number and a place.
 //
-// `story FILE..` tells of each file, `story` of standard input. The first line is the decoy tag, or `-` where decoys are not
+// `report_rows FILE..` tells of each file, `report_rows` of standard input. The first line is the decoy tag, or `-` where decoys are not
 // generated. Each other line that is not empty is a row, its columns parted by tabs (byte 9):
 //     PEPTIDE FLAG NAME..
 // FLAG is 1 for a decoy, else 0. A name is taken as it stands, byte for byte: with a blank at its end it is another name, and a bad

@@ -1,4 +1,4 @@
-// What story prints: report lines, and why a text is refused. Only that program calls these.
+// What report_rows prints: report lines, and why a text is refused. Only that program calls these.
 mod reports;
 mod saying;
 

@@ -1,4 +1,4 @@
-// The rows of a text, and the catalogue of their names. Only the program story calls these.
+// The rows of a text, and the catalogue of their names. Only the program report_rows calls these.
 mod names;
 mod rows;
 
