@@ -21,19 +21,10 @@ loop-holds : tie.Need-loop-holds Inv-loop μ-loop
 unfolding firstBadBound
 loop-holds c = let a = c .before .args in (omega arith, seek-start (badBound (now (a .bounds)) (a .letters)) (length (now (a .bounds))))
 
-is-bad-bound-requires : tie.Need-is-bad-bound-requires Inv-loop μ-loop
-is-bad-bound-requires c κs = search needs
-
 returns : tie.Need-returns Inv-loop μ-loop
 returns c =
     let a = c .before .before .before .before .before .args in
     sym (seek-stop (badBound (now (a .bounds)) (a .letters)) (c .before .before .before .loop .i) (length (now (a .bounds))) (c .before .before .loop-test .taken) (sym (c .before .is-bad-bound .ensures) ∙ c .if1 .taken)) ∙ c .before .before .before .loop .inv .1
-
-add-i : tie.Need-add-i Inv-loop μ-loop
-add-i c = search needs
-
-loop-less : tie.Need-loop-less Inv-loop μ-loop
-loop-less c = search needs
 
 loop-again : tie.Need-loop-again Inv-loop μ-loop
 loop-again c =
@@ -47,14 +38,5 @@ returns-2 c =
 
 pub first-bad-bound-spec : {M : Type 1} → statement M
 first-bad-bound-spec =
-    tie.close
-    (tie.spec
-    Inv-loop
-    μ-loop
-    loop-holds
-    is-bad-bound-requires
-    returns
-    add-i
-    loop-less
-    loop-again
-    returns-2)
+    tie.close (tie.spec Inv-loop μ-loop loop-holds (λ c κs. search needs) returns (λ c. search needs)
+    (λ c. search needs) loop-again returns-2)

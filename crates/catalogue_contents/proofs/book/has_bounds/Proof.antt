@@ -11,11 +11,8 @@ use Rattle.catalogue_contents.proofs.book.has_bounds.Tie as tie
 returns : tie.Need-returns
 returns c = let e = c .if1 .taken in rw e (sym (ne-eqb 0 (c .before .args .proteins + 1) (λ (z : 0 ≡ c .before .args .proteins + 1). omega arith)))
 
-sub-result : tie.Need-sub-result
-sub-result c = search needs
-
 returns-2 : tie.Need-returns-2
 returns-2 c = counted _ _ (c .if1 .left)
 
 pub has-bounds-spec : {M : Type 1} → statement M
-has-bounds-spec = tie.close (tie.spec returns sub-result returns-2)
+has-bounds-spec = tie.close (tie.spec returns (λ c. search needs) returns-2)

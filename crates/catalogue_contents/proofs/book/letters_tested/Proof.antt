@@ -10,9 +10,6 @@ use borrow.Author.Needs.{needs}
 use Rattle.catalogue_contents.proofs.book.letters_tested.Statement.{statement}
 use Rattle.catalogue_contents.proofs.book.letters_tested.Tie as tie
 
-first-bad-requires : tie.Need-first-bad-requires
-first-bad-requires c κs = search needs
-
 returns : tie.Need-returns
 returns c =
     let s = now (c .before .before .before .args .letters) in
@@ -27,4 +24,4 @@ returns-2 c =
     rw g
 
 pub letters-tested-spec : {M : Type 1} → statement M
-letters-tested-spec = tie.close (tie.spec first-bad-requires returns returns-2)
+letters-tested-spec = tie.close (tie.spec (λ c κs. search needs) returns returns-2)

@@ -3,12 +3,6 @@ use borrow.Author.Needs.{needs}
 use Rattle.catalogue_contents.proofs.name.is_name.Statement.{statement}
 use Rattle.catalogue_contents.proofs.name.is_name.Tie as tie
 
-name-length-requires : tie.Need-name-length-requires
-name-length-requires c κs = search needs
-
-zeros-to-requires : tie.Need-zeros-to-requires
-zeros-to-requires c κs = search needs
-
 returns : tie.Need-returns
 returns c =
     let e = c .before .name-length .ensures in
@@ -16,4 +10,4 @@ returns c =
     rw (z, e)
 
 pub is-name-spec : {M : Type 1} → statement M
-is-name-spec = tie.close (tie.spec name-length-requires zeros-to-requires returns)
+is-name-spec = tie.close (tie.spec (λ c κs. search needs) (λ c κs. search needs) returns)

@@ -22,18 +22,6 @@ loop-holds : tie.Need-loop-holds Inv-loop μ-loop
 unfolding nameLength
 loop-holds c = let s = now (c .before .args .name) in (omega arith, seek-start (hidden s) (length s))
 
-shared-slice-read-is-visible : tie.Need-shared-slice-read-is-visible Inv-loop μ-loop
-shared-slice-read-is-visible c = search needs
-
-is-visible-requires : tie.Need-is-visible-requires Inv-loop μ-loop
-is-visible-requires c κs = search needs
-
-add-i : tie.Need-add-i Inv-loop μ-loop
-add-i c = search needs
-
-loop-less : tie.Need-loop-less Inv-loop μ-loop
-loop-less c = search needs
-
 loop-again : tie.Need-loop-again Inv-loop μ-loop
 loop-again c =
     let s = now (c .before .before .before .before .before .before .args .name) in
@@ -51,15 +39,5 @@ returns-2 c =
 
 pub name-length-spec : {M : Type 1} → statement M
 name-length-spec =
-    tie.close
-    (tie.spec
-    Inv-loop
-    μ-loop
-    loop-holds
-    shared-slice-read-is-visible
-    is-visible-requires
-    add-i
-    loop-less
-    loop-again
-    returns
-    returns-2)
+    tie.close (tie.spec Inv-loop μ-loop loop-holds (λ c. search needs) (λ c κs. search needs) (λ c. search needs)
+    (λ c. search needs) loop-again returns returns-2)

@@ -6,19 +6,10 @@ use borrow.Author.Needs.{needs}
 use Rattle.catalogue_contents.proofs.names.contents_tested.Statement.{statement}
 use Rattle.catalogue_contents.proofs.names.contents_tested.Tie as tie
 
-first-bad-name-requires : tie.Need-first-bad-name-requires
-first-bad-name-requires c κs = search needs
-
-first-repeat-requires : tie.Need-first-repeat-requires
-first-repeat-requires c κs = search needs
-
-told-requires : tie.Need-told-requires
-told-requires c κs = search needs
-
 returns : tie.Need-returns
 returns c =
     c .told .ensures ∙ sym (tested-parts (now (c .before .before .before .before .args .names)) (c .before .before .first-bad-name .result) (c .before .first-repeat .result) (c .before .before .first-bad-name .ensures) (c .before .first-repeat .ensures))
 
 pub contents-tested-spec : {M : Type 1} → statement M
 contents-tested-spec =
-    tie.close (tie.spec first-bad-name-requires first-repeat-requires told-requires returns)
+    tie.close (tie.spec (λ c κs. search needs) (λ c κs. search needs) (λ c κs. search needs) returns)

@@ -5,14 +5,8 @@ use borrow.Author.Needs.{needs}
 use Rattle.catalogue_contents.proofs.names.names_tested.Statement.{statement}
 use Rattle.catalogue_contents.proofs.names.names_tested.Tie as tie
 
-too-many-names-requires : tie.Need-too-many-names-requires
-too-many-names-requires c κs = search needs
-
 returns : tie.Need-returns
 returns c = rw (sym (c .before .too-many-names .ensures) ∙ c .if1 .taken)
-
-are-whole-names-requires : tie.Need-are-whole-names-requires
-are-whole-names-requires c κs = search needs
 
 contents-tested-requires : tie.Need-contents-tested-requires
 contents-tested-requires c κs = ltb-false _ _ (sym (c .before .before .before .too-many-names .ensures) ∙ c .before .before .if1 .left)
@@ -25,11 +19,5 @@ returns-3 c = rw (sym (c .before .before .before .too-many-names .ensures) ∙ c
 
 pub names-tested-spec : {M : Type 1} → statement M
 names-tested-spec =
-    tie.close
-    (tie.spec
-    too-many-names-requires
-    returns
-    are-whole-names-requires
-    contents-tested-requires
-    returns-2
+    tie.close (tie.spec (λ c κs. search needs) returns (λ c κs. search needs) contents-tested-requires returns-2
     returns-3)

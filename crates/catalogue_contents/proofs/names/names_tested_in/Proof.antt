@@ -11,23 +11,11 @@ use borrow.Author.Needs.{needs}
 use Rattle.catalogue_contents.proofs.names.names_tested_in.Statement.{statement}
 use Rattle.catalogue_contents.proofs.names.names_tested_in.Tie as tie
 
-too-many-names-requires : tie.Need-too-many-names-requires
-too-many-names-requires c κs = search needs
-
 returns : tie.Need-returns
 returns c = let a = c .before .before .before .before .args in sym (names-many (now (a .names)) (now (a .tab)) (sym (c .before .too-many-names .ensures) ∙ c .if1 .taken))
 
-are-whole-names-requires : tie.Need-are-whole-names-requires
-are-whole-names-requires c κs = search needs
-
-add-if3 : tie.Need-add-if3
-add-if3 c = search needs
-
 contents-over-requires : tie.Need-contents-over-requires
 contents-over-requires c κs = (ltb-false _ _ (sym (c .before .before .before .before .before .too-many-names .ensures) ∙ c .before .before .before .before .if1 .left), c .before .if3 .taken)
-
-same-length : tie.Need-same-length
-same-length c = search needs
 
 returns-2 : tie.Need-returns-2
 returns-2 c =
@@ -50,15 +38,5 @@ returns-4 c = let a = c .before .before .before .before .before .before .args in
 
 pub names-tested-in-spec : {M : Type 1} → statement M
 names-tested-in-spec =
-    tie.close
-    (tie.spec
-    too-many-names-requires
-    returns
-    are-whole-names-requires
-    add-if3
-    contents-over-requires
-    same-length
-    returns-2
-    contents-tested-requires
-    returns-3
-    returns-4)
+    tie.close (tie.spec (λ c κs. search needs) returns (λ c κs. search needs) (λ c. search needs)
+    contents-over-requires (λ c. search needs) returns-2 contents-tested-requires returns-3 returns-4)

@@ -6,15 +6,6 @@ use borrow.Author.Needs.{needs}
 use Rattle.catalogue_contents.proofs.repeat.repeat_over.Statement.{statement}
 use Rattle.catalogue_contents.proofs.repeat.repeat_over.Tie as tie
 
-first-repeated-requires : tie.Need-first-repeated-requires
-first-repeated-requires c κs = search needs
-
-place-in-requires : tie.Need-place-in-requires
-place-in-requires c κs = search needs
-
-same-length : tie.Need-same-length
-same-length c = search needs
-
 returns : tie.Need-returns
 returns c =
     let a = c .before .before .before .before .before .before .before .args in
@@ -26,4 +17,4 @@ returns c =
 
 pub repeat-over-spec : {M : Type 1} → statement M
 repeat-over-spec =
-    tie.close (tie.spec first-repeated-requires place-in-requires same-length returns)
+    tie.close (tie.spec (λ c κs. search needs) (λ c κs. search needs) (λ c. search needs) returns)

@@ -7,24 +7,6 @@ use borrow.Author.Needs.{needs}
 use Rattle.cover.proofs.handing.cover_all.Statement.{statement}
 use Rattle.cover.proofs.handing.cover_all.Tie as tie
 
-sub-cover-into : tie.Need-sub-cover-into
-sub-cover-into c = search needs
-
-part-cover-into-start : tie.Need-part-cover-into-start
-part-cover-into-start c = search needs
-
-part-cover-into-end : tie.Need-part-cover-into-end
-part-cover-into-end c = search needs
-
-cover-into-requires : tie.Need-cover-into-requires
-cover-into-requires c κs = search needs
-
-same-length : tie.Need-same-length
-same-length c = search needs
-
-same-length-2 : tie.Need-same-length-2
-same-length-2 c = search needs
-
 returns : tie.Need-returns
 returns c =
     let a = c .before .before .before .before .before .before .before .before .before .before .args in
@@ -32,12 +14,5 @@ returns c =
 
 pub cover-all-spec : {M : Type 1} → statement M
 cover-all-spec =
-    tie.close
-    (tie.spec
-    sub-cover-into
-    part-cover-into-start
-    part-cover-into-end
-    cover-into-requires
-    same-length
-    same-length-2
-    returns)
+    tie.close (tie.spec (λ c. search needs) (λ c. search needs) (λ c. search needs) (λ c κs. search needs)
+    (λ c. search needs) (λ c. search needs) returns)

@@ -13,9 +13,6 @@ use Rattle.cover.specs.CoveringLaws.{Small, small}
 use Rattle.cover.proofs.tests.tested.Statement.{statement}
 use Rattle.cover.proofs.tests.tested.Tie as tie
 
-too-large-requires : tie.Need-too-large-requires
-too-large-requires c κs = search needs
-
 returns : tie.Need-returns
 returns c = rw (sym (c .before .too-large .ensures) ∙ c .if1 .taken)
 
@@ -50,12 +47,5 @@ returns-4 c = rw (sizes (c .before .before .before .before), eq-eqb _ _ (c .befo
 
 pub tested-spec : {M : Type 1} → statement M
 tested-spec =
-    tie.close
-    (tie.spec
-    too-large-requires
-    returns
-    returns-2
-    work-needed-requires
-    returns-3
-    edges-tested-requires
-    returns-4)
+    tie.close (tie.spec (λ c κs. search needs) returns returns-2 work-needed-requires returns-3
+    edges-tested-requires returns-4)

@@ -14,9 +14,6 @@ use borrow.Author.Needs.{needs}
 use Rattle.cover.proofs.update_tests.update_tested.Statement.{statement}
 use Rattle.cover.proofs.update_tests.update_tested.Tie as tie
 
-either-too-large-requires : tie.Need-either-too-large-requires
-either-too-large-requires c κs = search needs
-
 -- the sizes are within their limits
 sizes : (c : tie.Else1) → eitherTooLarge (length (c .before .before .before .before .before .args .old .now) / 8) (length (c .before .before .before .before .before .args .new .now) / 8) (c .before .before .before .before .before .args .groups) (c .before .before .before .before .before .args .metas) ≡ false
 sizes c = sym (c .before .either-too-large .ensures) ∙ c .if1 .left
@@ -38,14 +35,8 @@ enough c = rw (c .before .work-needed .ensures) at (le-ltb _ _ (c .if3 .left))
 returns : tie.Need-returns
 returns c = rw (sym (c .before .either-too-large .ensures) ∙ c .if1 .taken)
 
-lengths-wrong-requires : tie.Need-lengths-wrong-requires
-lengths-wrong-requires c κs = search needs
-
 returns-2 : tie.Need-returns-2
 returns-2 c = rw (sizes (c .before .before), sym (c .before .lengths-wrong .ensures) ∙ c .if2 .taken)
-
-add-work-needed : tie.Need-add-work-needed
-add-work-needed c = search needs
 
 work-needed-requires : tie.Need-work-needed-requires
 work-needed-requires c κs = let (s, t) = limits (c .before .before) in (s .groups-max, s .metas-max, omega (arith, s .few, t .few))
@@ -61,14 +52,5 @@ returns-4 c = rw (sizes (c .before .before .before .before .before), lengths (c 
 
 pub update-tested-spec : {M : Type 1} → statement M
 update-tested-spec =
-    tie.close
-    (tie.spec
-    either-too-large-requires
-    returns
-    lengths-wrong-requires
-    returns-2
-    add-work-needed
-    work-needed-requires
-    returns-3
-    contents-requires
-    returns-4)
+    tie.close (tie.spec (λ c κs. search needs) returns (λ c κs. search needs) returns-2 (λ c. search needs)
+    work-needed-requires returns-3 contents-requires returns-4)

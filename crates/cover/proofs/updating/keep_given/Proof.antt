@@ -8,18 +8,6 @@ use borrow.Author.Needs.{needs}
 use Rattle.cover.proofs.updating.keep_given.Statement.{statement}
 use Rattle.cover.proofs.updating.keep_given.Tie as tie
 
-least-requires : tie.Need-least-requires
-least-requires c κs = search needs
-
-clear-requires : tie.Need-clear-requires
-clear-requires c κs = search needs
-
-same-length : tie.Need-same-length
-same-length c = search needs
-
-returns : tie.Need-returns
-returns c = search needs
-
 -- there is a group
 positive : (c : tie.Else1) → 1 ≤ c .before .before .before .before .before .before .before .args .groups
 positive c = ⊎-elim (λ (h : 0 < c .before .least .result). omega (arith, c .before .least .ensures)) (λ (h : c .before .least .result ≤ 0). absurd (c .if1 .left (omega arith))) (below? 0 (c .before .least .result))
@@ -30,24 +18,10 @@ renew-requires c κs =
     let k = c .before .before .before .least .ensures in
     (sized (st .pre) (positive (c .before .before)), (omega (arith, k), omega (arith, k, st .pre .as-many), omega (arith, k)))
 
-same-length-2 : tie.Need-same-length-2
-same-length-2 c = search needs
-
-same-length-3 : tie.Need-same-length-3
-same-length-3 c = search needs
-
 returns-2 : tie.Need-returns-2
 returns-2 c = (rw (c .before .before .before .before .before .before .before .before .least .ensures) at (c .before .before .before .before .renew .ensures .0), c .before .before .before .before .renew .ensures .1)
 
 pub keep-given-spec : {M : Type 1} → statement M
 keep-given-spec =
-    tie.close
-    (tie.spec
-    least-requires
-    clear-requires
-    same-length
-    returns
-    renew-requires
-    same-length-2
-    same-length-3
-    returns-2)
+    tie.close (tie.spec (λ c κs. search needs) (λ c κs. search needs) (λ c. search needs) (λ c. search needs)
+    renew-requires (λ c. search needs) (λ c. search needs) returns-2)

@@ -7,20 +7,11 @@ use borrow.Author.Needs.{needs}
 use Rattle.cover.proofs.updating.update_passed.Statement.{statement}
 use Rattle.cover.proofs.updating.update_passed.Tie as tie
 
-cover-passed-requires : tie.Need-cover-passed-requires
-cover-passed-requires c κs = search needs
-
 keep-given-requires : tie.Need-keep-given-requires
 keep-given-requires c κs =
     let st = c .before .before .before .before .before .before .before .before .before .before .before .before .before .before in
     let a = st .args in
     subst (λ (n : ℕ). UpdateReady (a .old .now) (a .new .now) (a .groups) (a .metas) (a .given .now) n) (sym (c .before .before .before .before .before .before .cover-passed .kept .1 .1 .1 .0)) (st .pre)
-
-same-length : tie.Need-same-length
-same-length c = search needs
-
-same-length-2 : tie.Need-same-length-2
-same-length-2 c = search needs
 
 returns : tie.Need-returns
 returns c =
@@ -32,5 +23,5 @@ returns c =
 
 pub update-passed-spec : {M : Type 1} → statement M
 update-passed-spec =
-    tie.close
-    (tie.spec cover-passed-requires keep-given-requires same-length same-length-2 returns)
+    tie.close (tie.spec (λ c κs. search needs) keep-given-requires (λ c. search needs) (λ c. search needs)
+    returns)

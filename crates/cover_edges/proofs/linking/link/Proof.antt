@@ -28,12 +28,6 @@ link-one-requires c κs =
     let inside = st .pre .1 .1 .0 (lp .i) (c .before .loop-test .taken) in
     ((omega arith, omega arith), (omega (arith, inside, lp .inv .1), omega (arith, lp .inv .1)))
 
-add-i : tie.Need-add-i Inv-loop μ-loop
-add-i c = search needs
-
-loop-less : tie.Need-loop-less Inv-loop μ-loop
-loop-less c = search needs
-
 loop-again : tie.Need-loop-again Inv-loop μ-loop
 loop-again c =
     let st = c .before .before .before .before .before .before .before .before in
@@ -60,14 +54,5 @@ returns c =
 
 pub link-spec : {M : Type 1} → statement M
 link-spec =
-    tie.close
-    (tie.spec
-    Inv-loop
-    μ-loop
-    loop-holds
-    link-one-requires
-    add-i
-    loop-less
-    loop-again
-    same-length
-    returns)
+    tie.close (tie.spec Inv-loop μ-loop loop-holds link-one-requires (λ c. search needs) (λ c. search needs)
+    loop-again same-length returns)

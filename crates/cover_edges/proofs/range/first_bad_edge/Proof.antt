@@ -27,20 +27,11 @@ loop-holds c =
     let a = c .before .args in
     (omega arith, seek-start (bad (a .edges .now) (a .groups) (a .metas)) (length (a .edges .now) / 8))
 
-is-bad-edge-requires : tie.Need-is-bad-edge-requires Inv-loop μ-loop
-is-bad-edge-requires c κs = search needs
-
 returns : tie.Need-returns Inv-loop μ-loop
 returns c =
     let a = c .before .before .before .before .before .args in
     let lp = c .before .before .before .loop in
     sym (seek-stop (bad (a .edges .now) (a .groups) (a .metas)) (lp .i) (length (a .edges .now) / 8) (c .before .before .loop-test .taken) (sym (c .before .is-bad-edge .ensures) ∙ c .if1 .taken)) ∙ lp .inv .1
-
-add-i : tie.Need-add-i Inv-loop μ-loop
-add-i c = search needs
-
-loop-less : tie.Need-loop-less Inv-loop μ-loop
-loop-less c = search needs
 
 loop-again : tie.Need-loop-again Inv-loop μ-loop
 loop-again c =
@@ -57,14 +48,5 @@ returns-2 c =
 
 pub first-bad-edge-spec : {M : Type 1} → statement M
 first-bad-edge-spec =
-    tie.close
-    (tie.spec
-    Inv-loop
-    μ-loop
-    loop-holds
-    is-bad-edge-requires
-    returns
-    add-i
-    loop-less
-    loop-again
-    returns-2)
+    tie.close (tie.spec Inv-loop μ-loop loop-holds (λ c κs. search needs) returns (λ c. search needs)
+    (λ c. search needs) loop-again returns-2)

@@ -21,20 +21,11 @@ loop-holds : tie.Need-loop-holds Inv-loop μ-loop
 unfolding firstBadMark
 loop-holds c = (omega arith, seek-start (badMark (c .args .marks .now)) (length (c .args .marks .now)))
 
-shared-slice-read-if1 : tie.Need-shared-slice-read-if1 Inv-loop μ-loop
-shared-slice-read-if1 c = search needs
-
 returns : tie.Need-returns Inv-loop μ-loop
 returns c =
     let marks = c .before .before .before .before .args .marks .now in
     let lp = c .before .before .before .loop in
     sym (seek-stop (badMark marks) (lp .i) (length marks) (c .before .before .loop-test .taken) (lt-ltb _ _ (c .if1 .taken))) ∙ lp .inv .1
-
-add-i : tie.Need-add-i Inv-loop μ-loop
-add-i c = search needs
-
-loop-less : tie.Need-loop-less Inv-loop μ-loop
-loop-less c = search needs
 
 loop-again : tie.Need-loop-again Inv-loop μ-loop
 loop-again c =
@@ -50,14 +41,5 @@ returns-2 c =
 
 pub first-bad-mark-spec : {M : Type 1} → statement M
 first-bad-mark-spec =
-    tie.close
-    (tie.spec
-    Inv-loop
-    μ-loop
-    loop-holds
-    shared-slice-read-if1
-    returns
-    add-i
-    loop-less
-    loop-again
-    returns-2)
+    tie.close (tie.spec Inv-loop μ-loop loop-holds (λ c. search needs) returns (λ c. search needs)
+    (λ c. search needs) loop-again returns-2)

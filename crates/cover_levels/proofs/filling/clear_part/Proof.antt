@@ -18,9 +18,6 @@ abbrev μ-loop : tie.MeasureT-loop
 inside : (c : tie.In-loop Inv-loop μ-loop) → c .before .before .args .a + c .before .loop .i < length (c .before .loop .w)
 inside c = omega (arith, c .before .loop .inv .2 .size, c .before .before .pre .0, c .before .before .pre .1)
 
-sub-len : tie.Need-sub-len Inv-loop μ-loop
-sub-len c = search needs
-
 loop-holds : tie.Need-loop-holds Inv-loop μ-loop
 loop-holds c = (omega arith, refl, subst (λ (z : ℕ). Puts (λ j. 0) (c .args .a) z (now (c .args .w)) (now (c .args .w))) (omega arith) (puts-start (λ j. 0) (c .args .a) (now (c .args .w))))
 
@@ -33,12 +30,6 @@ mul-w c = omega (arith, inside c)
 slice-write-w : tie.Need-slice-write-w Inv-loop μ-loop
 slice-write-w c = inside c
 
-add-i : tie.Need-add-i Inv-loop μ-loop
-add-i c = search needs
-
-loop-less : tie.Need-loop-less Inv-loop μ-loop
-loop-less c = search needs
-
 loop-again : tie.Need-loop-again Inv-loop μ-loop
 loop-again c = (omega arith, refl, puts-step (λ j. 0) (c .before .before .args .a) (c .before .loop .i) 0 (now (c .before .before .args .w)) (c .before .loop .w) (c .before .loop .inv .2) (inside c) refl)
 
@@ -50,17 +41,5 @@ returns c = let s = c .before .before in subst (λ (z : ℕ). Puts (λ j. 0) (s 
 
 pub clear-part-spec : {M : Type 1} → statement M
 clear-part-spec =
-    tie.close
-    (tie.spec
-    Inv-loop
-    μ-loop
-    sub-len
-    loop-holds
-    add-w
-    mul-w
-    slice-write-w
-    add-i
-    loop-less
-    loop-again
-    same-length
-    returns)
+    tie.close (tie.spec Inv-loop μ-loop (λ c. search needs) loop-holds add-w mul-w slice-write-w
+    (λ c. search needs) (λ c. search needs) loop-again same-length returns)

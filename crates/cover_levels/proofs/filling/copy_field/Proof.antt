@@ -28,9 +28,6 @@ mul-u32-at c = omega (arith, c .before .before .before .before .pre .1)
 add-u32-at : tie.Need-add-u32-at Inv-loop μ-loop
 add-u32-at c = omega (arith, c .before .before .before .before .pre .1, c .before .before .before .before .pre .2)
 
-u32-at-requires : tie.Need-u32-at-requires Inv-loop μ-loop
-u32-at-requires c κs = search needs
-
 add-w : tie.Need-add-w Inv-loop μ-loop
 add-w c = omega (arith, inside (c .before))
 
@@ -39,12 +36,6 @@ mul-w c = omega (arith, inside (c .before))
 
 slice-write-w : tie.Need-slice-write-w Inv-loop μ-loop
 slice-write-w c = inside (c .before)
-
-add-i : tie.Need-add-i Inv-loop μ-loop
-add-i c = search needs
-
-loop-less : tie.Need-loop-less Inv-loop μ-loop
-loop-less c = search needs
 
 loop-again : tie.Need-loop-again Inv-loop μ-loop
 loop-again c = let at′ = c .before .before in let s = c .before .before .before .before .before in (omega arith, puts-step (λ j. numberAt 4 (now (s .args .edges)) (8 * j + s .args .f)) (s .args .a) (at′ .loop .i) (c .u32-at .result) (now (s .args .w)) (at′ .loop .w) (at′ .loop .inv .1) (inside (c .before)) (c .u32-at .ensures))
@@ -57,19 +48,5 @@ returns c = let s = c .before .before .before .before in subst (λ (z : ℕ). Pu
 
 pub copy-field-spec : {M : Type 1} → statement M
 copy-field-spec =
-    tie.close
-    (tie.spec
-    Inv-loop
-    μ-loop
-    loop-holds
-    mul-u32-at
-    add-u32-at
-    u32-at-requires
-    add-w
-    mul-w
-    slice-write-w
-    add-i
-    loop-less
-    loop-again
-    same-length
-    returns)
+    tie.close (tie.spec Inv-loop μ-loop loop-holds mul-u32-at add-u32-at (λ c κs. search needs) add-w mul-w
+    slice-write-w (λ c. search needs) (λ c. search needs) loop-again same-length returns)

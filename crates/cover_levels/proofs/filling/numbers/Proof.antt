@@ -33,12 +33,6 @@ mul-w c = omega (arith, inside c)
 slice-write-w : tie.Need-slice-write-w Inv-loop μ-loop
 slice-write-w c = inside c
 
-add-i : tie.Need-add-i Inv-loop μ-loop
-add-i c = search needs
-
-loop-less : tie.Need-loop-less Inv-loop μ-loop
-loop-less c = search needs
-
 loop-again : tie.Need-loop-again Inv-loop μ-loop
 loop-again c = let at′ = c .before .before in let s = at′ .before .before in (omega arith, puts-step (λ j. j) (s .args .a) (at′ .loop .i) (c .narrow .result) (now (s .args .w)) (at′ .loop .w) (at′ .loop .inv .1) (inside c) (c .narrow .ensures))
 
@@ -50,17 +44,5 @@ returns c = let s = c .before .before .before in subst (λ (z : ℕ). Puts (λ j
 
 pub numbers-spec : {M : Type 1} → statement M
 numbers-spec =
-    tie.close
-    (tie.spec
-    Inv-loop
-    μ-loop
-    loop-holds
-    narrow-requires
-    add-w
-    mul-w
-    slice-write-w
-    add-i
-    loop-less
-    loop-again
-    same-length
-    returns)
+    tie.close (tie.spec Inv-loop μ-loop loop-holds narrow-requires add-w mul-w slice-write-w (λ c. search needs)
+    (λ c. search needs) loop-again same-length returns)

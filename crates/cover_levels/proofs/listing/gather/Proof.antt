@@ -6,12 +6,6 @@ use Rattle.cover_levels.specs.PrepareLaws.{gathered}
 use Rattle.cover_levels.proofs.listing.gather.Statement.{statement}
 use Rattle.cover_levels.proofs.listing.gather.Tie as tie
 
-add-clear-part : tie.Need-add-clear-part
-add-clear-part c = search needs
-
-clear-part-requires : tie.Need-clear-part-requires
-clear-part-requires c κs = search needs
-
 copy-field-requires : tie.Need-copy-field-requires
 copy-field-requires c κs = let s = c .before .before .before .before .before .before .before in (omega (arith, s .pre .0 .edges-at, s .pre .0 .groups-at, s .pre .0 .metas-at, s .pre .0 .group-lists-at, s .pre .0 .meta-lists-at, s .pre .0 .order-at, s .pre .0 .fits, c .before .before .before .clear-part .kept .0), s .pre .0 .few, omega arith)
 
@@ -21,13 +15,10 @@ add-copy-field c = let s = c .before .before .before .before .before .before .be
 copy-field-requires-2 : tie.Need-copy-field-requires-2
 copy-field-requires-2 c κs = let s = c .before .before .before .before .before .before .before .before .before .before .before in (omega (arith, s .pre .0 .edges-at, s .pre .0 .groups-at, s .pre .0 .metas-at, s .pre .0 .group-lists-at, s .pre .0 .meta-lists-at, s .pre .0 .order-at, s .pre .0 .fits, c .before .before .before .before .before .before .before .clear-part .kept .0, c .before .before .before .copy-field .kept .1 .1 .1 .0), s .pre .0 .few, omega arith)
 
-same-length : tie.Need-same-length
-same-length c = search needs
-
 returns : tie.Need-returns
 returns c = let s = c .before .before .before .before .before .before .before .before .before .before .before .before .before .before in gathered (s .args .groups) (s .args .metas) (s .args .ge) (s .args .go) (s .args .mo) (s .args .gm) (s .args .mg) (s .args .od) (now (s .args .edges)) (s .args .n) (now (s .args .w)) (c .before .before .before .before .before .before .before .before .before .before .clear-part .last .0) (c .before .before .before .before .before .before .copy-field .last .1 .1 .1 .0) (c .before .before .copy-field2 .last .1 .1 .1 .0) (s .pre .0) (s .pre .1) (c .before .before .before .before .before .before .before .before .before .before .clear-part .ensures) (c .before .before .before .before .before .before .copy-field .ensures) (c .before .before .copy-field2 .ensures)
 
 pub gather-spec : {M : Type 1} → statement M
 gather-spec =
-    tie.close
-    (tie.spec add-clear-part clear-part-requires copy-field-requires add-copy-field copy-field-requires-2 same-length returns)
+    tie.close (tie.spec (λ c. search needs) (λ c κs. search needs) copy-field-requires add-copy-field
+    copy-field-requires-2 (λ c. search needs) returns)

@@ -6,9 +6,6 @@ use Rattle.cover_levels.specs.PrepareLaws.{group-regions, group-zeros, m
 use Rattle.cover_levels.proofs.listing.lists.Statement.{statement}
 use Rattle.cover_levels.proofs.listing.lists.Tie as tie
 
-gather-requires : tie.Need-gather-requires
-gather-requires c κs = search needs
-
 add-index : tie.Need-add-index
 add-index c = let s = c .before .before .before .before .before .before .before in omega (arith, s .pre .0 .edges-at, s .pre .0 .groups-at, s .pre .0 .metas-at, s .pre .0 .group-lists-at, s .pre .0 .meta-lists-at, s .pre .0 .order-at, s .pre .0 .fits)
 
@@ -21,20 +18,10 @@ add-index-2 c = let s = c .before .before .before .before .before .before .befor
 index-requires-2 : tie.Need-index-requires-2
 index-requires-2 c κs = let s = c .before .before .before .before .before .before .before .before .before .before .before in let g = c .before .before .before .before .before .before .before .gather in let x = c .before .before .before .index in (meta-regions (s .args .groups) (s .args .metas) (s .args .ge) (s .args .go) (s .args .mo) (s .args .gm) (s .args .mg) (s .args .od) (now (s .args .edges)) (s .args .n) (g .last .1 .1 .0) (layout-kept (s .args .groups) (s .args .metas) (s .args .n) (s .args .ge) (s .args .go) (s .args .mo) (s .args .gm) (s .args .mg) (s .args .od) (now (s .args .w)) (g .last .1 .1 .0) (g .kept .1 .1 .0) (s .pre .0)) (s .pre .1) (g .ensures) (x .last .0) (x .kept .0) (x .ensures), meta-zeros (s .args .groups) (s .args .metas) (s .args .ge) (s .args .go) (s .args .mo) (s .args .gm) (s .args .mg) (s .args .od) (now (s .args .edges)) (s .args .n) (g .last .1 .1 .0) (layout-kept (s .args .groups) (s .args .metas) (s .args .n) (s .args .ge) (s .args .go) (s .args .mo) (s .args .gm) (s .args .mg) (s .args .od) (now (s .args .w)) (g .last .1 .1 .0) (g .kept .1 .1 .0) (s .pre .0)) (s .pre .1) (g .ensures) (x .last .0) (x .kept .0) (x .ensures))
 
-same-length : tie.Need-same-length
-same-length c = search needs
-
 returns : tie.Need-returns
 returns c = let s = c .before .before .before .before .before .before .before .before .before .before .before .before .before .before in let g = c .before .before .before .before .before .before .before .before .before .before .gather in let x = c .before .before .before .before .before .before .index in listed (s .args .groups) (s .args .metas) (s .args .ge) (s .args .go) (s .args .mo) (s .args .gm) (s .args .mg) (s .args .od) (now (s .args .edges)) (s .args .n) (g .last .1 .1 .0) (layout-kept (s .args .groups) (s .args .metas) (s .args .n) (s .args .ge) (s .args .go) (s .args .mo) (s .args .gm) (s .args .mg) (s .args .od) (now (s .args .w)) (g .last .1 .1 .0) (g .kept .1 .1 .0) (s .pre .0)) (s .pre .1) (g .ensures) (x .last .0) (x .kept .0) (x .ensures) (c .before .before .index2 .last .0) (c .before .before .index2 .ensures)
 
 pub lists-spec : {M : Type 1} → statement M
 lists-spec =
-    tie.close
-    (tie.spec
-    gather-requires
-    add-index
-    index-requires
-    add-index-2
-    index-requires-2
-    same-length
-    returns)
+    tie.close (tie.spec (λ c κs. search needs) add-index index-requires add-index-2 index-requires-2
+    (λ c. search needs) returns)

@@ -43,9 +43,6 @@ mul-fresh c = omega (arith, inside c .1)
 slice-read-fresh : tie.Need-slice-read-fresh Inv-loop μ-loop
 slice-read-fresh c = inside (c .before) .1
 
-fresh-requires : tie.Need-fresh-requires Inv-loop μ-loop
-fresh-requires c κs = search needs
-
 mul-w : tie.Need-mul-w Inv-loop μ-loop
 mul-w c = omega (arith, inside (c .before .before) .0)
 
@@ -61,12 +58,6 @@ mul-w-2 c = omega (arith, inside (c .before .before .before) .0)
 slice-write-w : tie.Need-slice-write-w Inv-loop μ-loop
 slice-write-w c = inside (c .before .before .before) .0
 
-add-i : tie.Need-add-i Inv-loop μ-loop
-add-i c = search needs
-
-loop-less : tie.Need-loop-less Inv-loop μ-loop
-loop-less c = search needs
-
 loop-again : tie.Need-loop-again Inv-loop μ-loop
 loop-again c = let at′ = c .before .before .before .before .before .before in let s = c .before .before .before .before .before .before .before .before .before in (omega arith, rw (c .before .before .before .before .group-of .ensures) (counted-step (s .args .groups) (s .args .metas) (now (s .args .edges)) (s .args .n) (now (s .args .w)) (s .pre .1) (at′ .loop .w) (at′ .loop .i) (omega arith) (s .pre .0) (at′ .loop .inv .1) (c .before .fresh .result) (rw (← c .before .before .before .meta-of .ensures) (c .before .fresh .ensures))))
 
@@ -78,24 +69,6 @@ returns c = let s = c .before .before .before .before in subst (λ (z : ℕ). Co
 
 pub counts-spec : {M : Type 1} → statement M
 counts-spec =
-    tie.close
-    (tie.spec
-    Inv-loop
-    μ-loop
-    loop-holds
-    group-of-requires
-    meta-of-requires
-    add-fresh
-    mul-fresh
-    slice-read-fresh
-    fresh-requires
-    mul-w
-    slice-read-w
-    add-w
-    mul-w-2
-    slice-write-w
-    add-i
-    loop-less
-    loop-again
-    same-length
-    returns)
+    tie.close (tie.spec Inv-loop μ-loop loop-holds group-of-requires meta-of-requires add-fresh mul-fresh
+    slice-read-fresh (λ c κs. search needs) mul-w slice-read-w add-w mul-w-2 slice-write-w (λ c. search needs)
+    (λ c. search needs) loop-again same-length returns)

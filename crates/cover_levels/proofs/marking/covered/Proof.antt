@@ -48,9 +48,6 @@ mul-flagged-2 c = omega (arith, inside (c .before) .1)
 slice-read-flagged-2 : tie.Need-slice-read-flagged-2 Inv-loop μ-loop
 slice-read-flagged-2 c = inside (c .before .before) .1
 
-flagged-requires : tie.Need-flagged-requires Inv-loop μ-loop
-flagged-requires c κs = search needs
-
 add-w : tie.Need-add-w Inv-loop μ-loop
 add-w c = omega (arith, inside (c .before .before .before) .1)
 
@@ -59,12 +56,6 @@ mul-w c = omega (arith, inside (c .before .before .before) .1)
 
 slice-write-w : tie.Need-slice-write-w Inv-loop μ-loop
 slice-write-w c = inside (c .before .before .before) .1
-
-add-i : tie.Need-add-i Inv-loop μ-loop
-add-i c = search needs
-
-loop-less : tie.Need-loop-less Inv-loop μ-loop
-loop-less c = search needs
 
 loop-again : tie.Need-loop-again Inv-loop μ-loop
 loop-again c = let at′ = c .before .before .before .before .before .before in let s = c .before .before .before .before .before .before .before .before .before in (omega arith, rw (c .before .before .before .meta-of .ensures) (covered-step (s .args .groups) (s .args .metas) (now (s .args .edges)) (s .args .n) (now (s .args .w)) (s .pre .1) (at′ .loop .w) (at′ .loop .i) (omega arith) (s .pre .0) (at′ .loop .inv .1) (c .flagged .result) (rw (← c .before .before .before .before .group-of .ensures, ← c .before .before .before .meta-of .ensures) (c .flagged .ensures))))
@@ -77,26 +68,6 @@ returns c = let s = c .before .before .before .before in subst (λ (z : ℕ). Co
 
 pub covered-spec : {M : Type 1} → statement M
 covered-spec =
-    tie.close
-    (tie.spec
-    Inv-loop
-    μ-loop
-    loop-holds
-    group-of-requires
-    meta-of-requires
-    add-flagged
-    add-flagged-2
-    mul-flagged
-    slice-read-flagged
-    add-flagged-3
-    mul-flagged-2
-    slice-read-flagged-2
-    flagged-requires
-    add-w
-    mul-w
-    slice-write-w
-    add-i
-    loop-less
-    loop-again
-    same-length
-    returns)
+    tie.close (tie.spec Inv-loop μ-loop loop-holds group-of-requires meta-of-requires add-flagged add-flagged-2
+    mul-flagged slice-read-flagged add-flagged-3 mul-flagged-2 slice-read-flagged-2 (λ c κs. search needs) add-w
+    mul-w slice-write-w (λ c. search needs) (λ c. search needs) loop-again same-length returns)

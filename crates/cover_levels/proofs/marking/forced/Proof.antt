@@ -63,9 +63,6 @@ mul-flagged c = omega (arith, inside (c .before .before) .0)
 slice-read-flagged : tie.Need-slice-read-flagged Inv-loop μ-loop
 slice-read-flagged c = inside (c .before .before .before) .0
 
-flagged-requires : tie.Need-flagged-requires Inv-loop μ-loop
-flagged-requires c κs = search needs
-
 add-w : tie.Need-add-w Inv-loop μ-loop
 add-w c = omega (arith, inside (c .before .before .before .before) .0)
 
@@ -78,12 +75,6 @@ mul-w c = omega (arith, inside (c .before .before .before .before) .0)
 slice-write-w : tie.Need-slice-write-w Inv-loop μ-loop
 slice-write-w c = inside (c .before .before .before .before) .0
 
-add-i : tie.Need-add-i Inv-loop μ-loop
-add-i c = search needs
-
-loop-less : tie.Need-loop-less Inv-loop μ-loop
-loop-less c = search needs
-
 loop-again : tie.Need-loop-again Inv-loop μ-loop
 loop-again c = let at′ = c .before .before .before .before .before .before .before in let s = c .before .before .before .before .before .before .before .before .before .before in (omega arith, rw (c .before .before .before .before .before .group-of .ensures) (forced-step (s .args .groups) (s .args .metas) (s .args .go) (s .args .mo) (s .args .od) (now (s .args .edges)) (s .args .n) (now (s .args .w)) (s .pre .1) (at′ .loop .w) (at′ .loop .i) (omega arith) (s .pre .0) (at′ .loop .inv .1) (c .flagged .result) (rw (← c .before .before .before .before .before .group-of .ensures, ← c .before .before .before .before .meta-of .ensures) (c .flagged .ensures))))
 
@@ -95,32 +86,7 @@ returns c = let s = c .before .before .before .before in subst (λ (z : ℕ). Fo
 
 pub forced-spec : {M : Type 1} → statement M
 forced-spec =
-    tie.close
-    (tie.spec
-    Inv-loop
-    μ-loop
-    loop-holds
-    group-of-requires
-    meta-of-requires
-    add-d
-    add-d-2
-    mul-d
-    slice-read-d
-    add-d-3
-    mul-d-2
-    slice-read-d-2
-    sub-d
-    add-flagged
-    add-flagged-2
-    mul-flagged
-    slice-read-flagged
-    flagged-requires
-    add-w
-    add-w-2
-    mul-w
-    slice-write-w
-    add-i
-    loop-less
-    loop-again
-    same-length
-    returns)
+    tie.close (tie.spec Inv-loop μ-loop loop-holds group-of-requires meta-of-requires add-d add-d-2 mul-d
+    slice-read-d add-d-3 mul-d-2 slice-read-d-2 sub-d add-flagged add-flagged-2 mul-flagged slice-read-flagged
+    (λ c κs. search needs) add-w add-w-2 mul-w slice-write-w (λ c. search needs) (λ c. search needs) loop-again
+    same-length returns)

@@ -6,21 +6,13 @@ use Rattle.cover_levels.specs.PrepareLaws.{layout-kept}
 use Rattle.cover_levels.proofs.preparing.prepare.Statement.{statement}
 use Rattle.cover_levels.proofs.preparing.prepare.Tie as tie
 
-lists-requires : tie.Need-lists-requires
-lists-requires c κs = search needs
-
 order-requires : tie.Need-order-requires
 order-requires c κs = let s = c .before .before .before .before .before .before .before in ((layout-kept (s .args .groups) (s .args .metas) (s .args .n) (s .args .ge) (s .args .go) (s .args .mo) (s .args .gm) (s .args .mg) (s .args .od) (now (s .args .w)) (c .before .before .before .lists .last .1 .1 .0) (c .before .before .before .lists .kept .1 .1 .0) (s .pre .0)), s .pre .1, c .before .before .before .lists .ensures)
 
 first-requires : tie.Need-first-requires
 first-requires c κs = let s = c .before .before .before .before .before .before .before .before .before .before .before in (c .before .before .before .order .ensures .0, s .pre .1, c .before .before .before .order .ensures .1, s .pre .0 .few)
 
-same-length : tie.Need-same-length
-same-length c = search needs
-
-returns : tie.Need-returns
-returns c = search needs
-
 pub prepare-spec : {M : Type 1} → statement M
 prepare-spec =
-    tie.close (tie.spec lists-requires order-requires first-requires same-length returns)
+    tie.close (tie.spec (λ c κs. search needs) order-requires first-requires (λ c. search needs)
+    (λ c. search needs))

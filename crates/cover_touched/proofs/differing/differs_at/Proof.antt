@@ -7,27 +7,6 @@ use borrow.Author.Needs.{needs}
 use Rattle.cover_touched.proofs.differing.differs_at.Statement.{statement}
 use Rattle.cover_touched.proofs.differing.differs_at.Tie as tie
 
-add-ho : tie.Need-add-ho
-add-ho c = search needs
-
-add-ho-2 : tie.Need-add-ho-2
-add-ho-2 c = search needs
-
-add-ho-3 : tie.Need-add-ho-3
-add-ho-3 c = search needs
-
-add-hn : tie.Need-add-hn
-add-hn c = search needs
-
-add-no : tie.Need-add-no
-add-no c = search needs
-
-add-nx : tie.Need-add-nx
-add-nx c = search needs
-
-count-up-requires : tie.Need-count-up-requires
-count-up-requires c κs = search needs
-
 take-off-requires : tie.Need-take-off-requires
 take-off-requires c κs =
     let st = c .before .before .before .before .before .before .before .before in
@@ -45,9 +24,6 @@ sweep-requires c κs =
       (st .pre .1, swept-clean (up .ensures) (off .ensures)),
     )
 
-same-length : tie.Need-same-length
-same-length c = search needs
-
 returns : tie.Need-returns
 returns c =
     let st = c .before .before .before .before .before .before .before .before .before .before .before .before .before .before .before in
@@ -61,16 +37,6 @@ returns c =
 
 pub differs-at-spec : {M : Type 1} → statement M
 differs-at-spec =
-    tie.close
-    (tie.spec
-    add-ho
-    add-ho-2
-    add-ho-3
-    add-hn
-    add-no
-    add-nx
-    count-up-requires
-    take-off-requires
-    sweep-requires
-    same-length
-    returns)
+    tie.close (tie.spec (λ c. search needs) (λ c. search needs) (λ c. search needs) (λ c. search needs)
+    (λ c. search needs) (λ c. search needs) (λ c κs. search needs) take-off-requires sweep-requires
+    (λ c. search needs) returns)

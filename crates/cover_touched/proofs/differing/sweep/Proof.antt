@@ -34,15 +34,6 @@ falls c v =
     let lp = c .before .before .loop in
     rw (c .u32-at .ensures) (walk-falls (a .w .now) (a .edges .now) (a .n) (a .groups) (a .metas) (a .hd) (a .nx) (a .g) (c .before .before .before .before .before .before .pre .0) (c .before .before .before .before .before .before .pre .1 .0) (lp .w) (lp .h) (lp .inv .0) (c .before .loop-test .taken) v)
 
-add-h : tie.Need-add-h Inv-loop μ-loop
-add-h c = search needs
-
-mul-h : tie.Need-mul-h Inv-loop μ-loop
-mul-h c = search needs
-
-slice-read-h : tie.Need-slice-read-h Inv-loop μ-loop
-slice-read-h c = search needs
-
 cast-h : tie.Need-cast-h Inv-loop μ-loop
 cast-h c = omega (arith, c .slice-known2 .given (c .before .before .before .args .hd + c .before .before .before .args .g))
 
@@ -52,38 +43,11 @@ loop-holds c =
     let a = st .args in
     (walk-start (a .w .now) (a .edges .now) (a .n) (a .groups) (a .metas) (a .hd) (a .nx) (a .g) (st .pre .0) (st .pre .1 .0) _ refl, sweeping-start (a .w .now) (a .edges .now) (a .n) (a .groups) (a .metas) (a .hd) (a .nx) (a .g) (st .pre .0) (st .pre .1 .0) _ refl (st .pre .1 .1))
 
-sub-i : tie.Need-sub-i Inv-loop μ-loop
-sub-i c = search needs
-
-mul-u32-at : tie.Need-mul-u32-at Inv-loop μ-loop
-mul-u32-at c = search needs
-
-add-u32-at : tie.Need-add-u32-at Inv-loop μ-loop
-add-u32-at c = search needs
-
-u32-at-requires : tie.Need-u32-at-requires Inv-loop μ-loop
-u32-at-requires c κs = search needs
-
-cast-m : tie.Need-cast-m Inv-loop μ-loop
-cast-m c = search needs
-
-mul-v : tie.Need-mul-v Inv-loop μ-loop
-mul-v c = search needs
-
 slice-read-v : tie.Need-slice-read-v Inv-loop μ-loop
 slice-read-v c = inside (c .before)
 
-mul-w : tie.Need-mul-w Inv-loop μ-loop
-mul-w c = search needs
-
 slice-write-w : tie.Need-slice-write-w Inv-loop μ-loop
 slice-write-w c = inside (c .before)
-
-add-h-2 : tie.Need-add-h-2 Inv-loop μ-loop
-add-h-2 c = search needs
-
-mul-h-2 : tie.Need-mul-h-2 Inv-loop μ-loop
-mul-h-2 c = search needs
 
 slice-read-h-2 : tie.Need-slice-read-h-2 Inv-loop μ-loop
 slice-read-h-2 c = place (c .before .before) _
@@ -115,29 +79,7 @@ returns c =
 
 pub sweep-spec : {M : Type 1} → statement M
 sweep-spec =
-    tie.close
-    (tie.spec
-    Inv-loop
-    μ-loop
-    add-h
-    mul-h
-    slice-read-h
-    cast-h
-    loop-holds
-    sub-i
-    mul-u32-at
-    add-u32-at
-    u32-at-requires
-    cast-m
-    mul-v
-    slice-read-v
-    mul-w
-    slice-write-w
-    add-h-2
-    mul-h-2
-    slice-read-h-2
-    cast-h-2
-    loop-less
-    loop-again
-    same-length
-    returns)
+    tie.close (tie.spec Inv-loop μ-loop (λ c. search needs) (λ c. search needs) (λ c. search needs) cast-h
+    loop-holds (λ c. search needs) (λ c. search needs) (λ c. search needs) (λ c κs. search needs)
+    (λ c. search needs) (λ c. search needs) slice-read-v (λ c. search needs) slice-write-w (λ c. search needs)
+    (λ c. search needs) slice-read-h-2 cast-h-2 loop-less loop-again same-length returns)

@@ -16,44 +16,8 @@ Inv-loop edges n groups metas w₀ p size i₀ w i = (i ≤ n) × (size ≡ node
 abbrev μ-loop : tie.MeasureT-loop
 μ-loop edges n groups metas w₀ p size i₀ w i = n - i
 
-add-size : tie.Need-add-size Inv-loop μ-loop
-add-size c = search needs
-
-add-size-2 : tie.Need-add-size-2 Inv-loop μ-loop
-add-size-2 c = search needs
-
 loop-holds : tie.Need-loop-holds Inv-loop μ-loop
 loop-holds c = let a = c .before .before .args in (omega arith, refl, refl, edges-start (a .groups) (a .edges .now) (a .w .now) (a .p) (nodes (a .groups) (a .metas)) (c .before .before .pre .1))
-
-mul-u32-at : tie.Need-mul-u32-at Inv-loop μ-loop
-mul-u32-at c = search needs
-
-u32-at-requires : tie.Need-u32-at-requires Inv-loop μ-loop
-u32-at-requires c κs = search needs
-
-cast-g : tie.Need-cast-g Inv-loop μ-loop
-cast-g c = search needs
-
-mul-u32-at-2 : tie.Need-mul-u32-at-2 Inv-loop μ-loop
-mul-u32-at-2 c = search needs
-
-add-u32-at : tie.Need-add-u32-at Inv-loop μ-loop
-add-u32-at c = search needs
-
-u32-at-requires-2 : tie.Need-u32-at-requires-2 Inv-loop μ-loop
-u32-at-requires-2 c κs = search needs
-
-cast-m : tie.Need-cast-m Inv-loop μ-loop
-cast-m c = search needs
-
-add-join : tie.Need-add-join Inv-loop μ-loop
-add-join c = search needs
-
-add-join-2 : tie.Need-add-join-2 Inv-loop μ-loop
-add-join-2 c = search needs
-
-add-join-3 : tie.Need-add-join-3 Inv-loop μ-loop
-add-join-3 c = search needs
 
 join-requires : tie.Need-join-requires Inv-loop μ-loop
 join-requires c κs =
@@ -61,9 +25,6 @@ join-requires c κs =
     let lp = c .before .before .before .before .loop in
     let inside = st .pre .0 .3 (lp .i) (c .before .before .before .loop-test .taken) in
     rw (c .before .before .u32-at .ensures, c .before .u32-at2 .ensures) (lp .inv .3 .forest, (omega (arith, inside), omega (arith, inside), omega arith))
-
-add-i : tie.Need-add-i Inv-loop μ-loop
-add-i c = search needs
 
 loop-less : tie.Need-loop-less Inv-loop μ-loop
 loop-less c = omega arith
@@ -83,26 +44,7 @@ returns c = let e : c .before .loop .i ≡ c .before .before .before .before .ar
 
 pub join-edges-spec : {M : Type 1} → statement M
 join-edges-spec =
-    tie.close
-    (tie.spec
-    Inv-loop
-    μ-loop
-    add-size
-    add-size-2
-    loop-holds
-    mul-u32-at
-    u32-at-requires
-    cast-g
-    mul-u32-at-2
-    add-u32-at
-    u32-at-requires-2
-    cast-m
-    add-join
-    add-join-2
-    add-join-3
-    join-requires
-    add-i
-    loop-less
-    loop-again
-    same-length
-    returns)
+    tie.close (tie.spec Inv-loop μ-loop (λ c. search needs) (λ c. search needs) loop-holds (λ c. search needs)
+    (λ c κs. search needs) (λ c. search needs) (λ c. search needs) (λ c. search needs) (λ c κs. search needs)
+    (λ c. search needs) (λ c. search needs) (λ c. search needs) (λ c. search needs) join-requires
+    (λ c. search needs) loop-less loop-again same-length returns)

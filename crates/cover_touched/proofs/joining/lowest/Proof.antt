@@ -18,38 +18,11 @@ abbrev μ-loop : tie.MeasureT-loop
 below : (c : tie.In-loop Inv-loop μ-loop) → getD (c .before .loop .w) (c .before .before .before .args .p + c .before .loop .up) 0 < c .before .loop .y
 below c = let a = c .before .before .before .args in let lp = c .before .loop in finding-less (a .w .now) (lp .w) (a .p) (a .n) (a .x) (lp .y) (lp .up) (getD (lp .w) (a .p + lp .up) 0) (lp .inv .1) (c .loop-test .taken) refl
 
-add-up : tie.Need-add-up Inv-loop μ-loop
-add-up c = search needs
-
-mul-up : tie.Need-mul-up Inv-loop μ-loop
-mul-up c = search needs
-
-slice-read-up : tie.Need-slice-read-up Inv-loop μ-loop
-slice-read-up c = search needs
-
 cast-up : tie.Need-cast-up Inv-loop μ-loop
 cast-up c = omega (arith, c .slice-known .given (c .before .args .p + c .before .args .x))
 
 loop-holds : tie.Need-loop-holds Inv-loop μ-loop
 loop-holds c = let a = c .before .args in (refl, finding-start (a .w .now) (a .p) (a .n) (a .x) _ (c .before .pre .0) (c .before .pre .1) refl)
-
-add-next : tie.Need-add-next Inv-loop μ-loop
-add-next c = search needs
-
-mul-next : tie.Need-mul-next Inv-loop μ-loop
-mul-next c = search needs
-
-slice-read-next : tie.Need-slice-read-next Inv-loop μ-loop
-slice-read-next c = search needs
-
-add-w : tie.Need-add-w Inv-loop μ-loop
-add-w c = search needs
-
-mul-w : tie.Need-mul-w Inv-loop μ-loop
-mul-w c = search needs
-
-slice-write-w : tie.Need-slice-write-w Inv-loop μ-loop
-slice-write-w c = search needs
 
 cast-y : tie.Need-cast-y Inv-loop μ-loop
 cast-y c = omega (arith, c .slice-known2 .given (c .before .before .before .before .args .p + c .before .before .loop .up))
@@ -76,35 +49,12 @@ loop-again c =
     let next = getD (lp .w) (a .p + lp .up) 0 in
     (length-set (lp .w) (a .p + lp .y) next ∙ lp .inv .0, finding-turn (a .w .now) (lp .w) (a .p) (a .n) (a .x) (lp .y) (lp .up) next (lp .inv .1) (c .before .before .loop-test .taken) refl _ refl)
 
-same-length : tie.Need-same-length Inv-loop μ-loop
-same-length c = search needs
-
 returns : tie.Need-returns Inv-loop μ-loop
 returns c = let a = c .before .before .before .args in let lp = c .before .loop in finding-end (a .w .now) (lp .w) (a .p) (a .n) (a .x) (lp .y) (lp .up) (lp .inv .1) (c .loop-test .left)
 
 pub lowest-spec : {M : Type 1} → statement M
 lowest-spec =
-    tie.close
-    (tie.spec
-    Inv-loop
-    μ-loop
-    add-up
-    mul-up
-    slice-read-up
-    cast-up
-    loop-holds
-    add-next
-    mul-next
-    slice-read-next
-    add-w
-    mul-w
-    slice-write-w
-    cast-y
-    add-up-2
-    mul-up-2
-    slice-read-up-2
-    cast-up-2
-    loop-less
-    loop-again
-    same-length
-    returns)
+    tie.close (tie.spec Inv-loop μ-loop (λ c. search needs) (λ c. search needs) (λ c. search needs) cast-up
+    loop-holds (λ c. search needs) (λ c. search needs) (λ c. search needs) (λ c. search needs) (λ c. search needs)
+    (λ c. search needs) cast-y add-up-2 mul-up-2 slice-read-up-2 cast-up-2 loop-less loop-again
+    (λ c. search needs) returns)

@@ -7,21 +7,6 @@ use borrow.Author.Needs.{needs}
 use Rattle.cover_touched.proofs.mixing.renew.Statement.{statement}
 use Rattle.cover_touched.proofs.mixing.renew.Tie as tie
 
-touch-requires : tie.Need-touch-requires
-touch-requires c κs = search needs
-
-mix-requires : tie.Need-mix-requires
-mix-requires c κs = search needs
-
-clear-requires : tie.Need-clear-requires
-clear-requires c κs = search needs
-
-same-length : tie.Need-same-length
-same-length c = search needs
-
-same-length-2 : tie.Need-same-length-2
-same-length-2 c = search needs
-
 returns : tie.Need-returns
 returns c =
     let a = c .before .before .before .before .before .before .before .before .before .before .before .before .before .before .before .before .before .before .before .before .args in
@@ -32,5 +17,5 @@ returns c =
 
 pub renew-spec : {M : Type 1} → statement M
 renew-spec =
-    tie.close
-    (tie.spec touch-requires mix-requires clear-requires same-length same-length-2 returns)
+    tie.close (tie.spec (λ c κs. search needs) (λ c κs. search needs) (λ c κs. search needs) (λ c. search needs)
+    (λ c. search needs) returns)

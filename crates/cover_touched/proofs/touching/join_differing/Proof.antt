@@ -29,12 +29,6 @@ join-if-requires c κs =
     let lp = c .before .before .loop in
     (lp .inv .2, (lp .inv .3 .forest, c .before .loop-test .taken))
 
-add-g : tie.Need-add-g Inv-loop μ-loop
-add-g c = search needs
-
-loop-less : tie.Need-loop-less Inv-loop μ-loop
-loop-less c = search needs
-
 loop-again : tie.Need-loop-again Inv-loop μ-loop
 loop-again c =
     let a = c .before .before .before .before .before .before .before .before .before .args in
@@ -55,14 +49,5 @@ returns c = let a = c .before .before .before .before .before .args in let lp = 
 
 pub join-differing-spec : {M : Type 1} → statement M
 join-differing-spec =
-    tie.close
-    (tie.spec
-    Inv-loop
-    μ-loop
-    loop-holds
-    join-if-requires
-    add-g
-    loop-less
-    loop-again
-    same-length
-    returns)
+    tie.close (tie.spec Inv-loop μ-loop loop-holds join-if-requires (λ c. search needs) (λ c. search needs)
+    loop-again same-length returns)

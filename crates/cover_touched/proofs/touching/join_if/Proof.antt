@@ -7,34 +7,16 @@ use borrow.Author.Needs.{needs}
 use Rattle.cover_touched.proofs.touching.join_if.Statement.{statement}
 use Rattle.cover_touched.proofs.touching.join_if.Tie as tie
 
-add-size : tie.Need-add-size
-add-size c = search needs
-
-add-size-2 : tie.Need-add-size-2
-add-size-2 c = search needs
-
-differs-at-requires : tie.Need-differs-at-requires
-differs-at-requires c κs = search needs
-
-add-join : tie.Need-add-join
-add-join c = search needs
-
 join-requires : tie.Need-join-requires
 join-requires c κs =
     let st = c .before .before .before .before .before .before .before .before .before in
     (rw (c .before .before .before .before .differs-at .ensures .1) (st .pre .1 .0), (omega arith, omega (arith, st .pre .1 .1), omega (arith, st .pre .0 .groups-max, st .pre .0 .metas-max)))
-
-same-length : tie.Need-same-length
-same-length c = search needs
 
 returns : tie.Need-returns
 returns c =
     let a = c .before .before .before .before .before .before .before .before .before .before .before .before .args in
     let say = c .before .before .before .before .before .before .before .differs-at .ensures in
     seed-yes (c .before .before .before .before .before .before .before .differs-at .result) (differing (edgesTo (a .old .now) (a .on)) (edgesTo (a .new .now) (a .nn)) (a .g)) (a .g) (say .0) (c .before .before .before .before .if1 .taken) (rw (say .1) at (c .before .before .join .ensures))
-
-same-length-2 : tie.Need-same-length-2
-same-length-2 c = search needs
 
 returns-2 : tie.Need-returns-2
 returns-2 c =
@@ -45,14 +27,5 @@ returns-2 c =
 
 pub join-if-spec : {M : Type 1} → statement M
 join-if-spec =
-    tie.close
-    (tie.spec
-    add-size
-    add-size-2
-    differs-at-requires
-    add-join
-    join-requires
-    same-length
-    returns
-    same-length-2
-    returns-2)
+    tie.close (tie.spec (λ c. search needs) (λ c. search needs) (λ c κs. search needs) (λ c. search needs)
+    join-requires (λ c. search needs) returns (λ c. search needs) returns-2)

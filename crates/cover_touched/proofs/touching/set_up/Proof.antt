@@ -8,24 +8,6 @@ use borrow.Author.Needs.{needs}
 use Rattle.cover_touched.proofs.touching.set_up.Statement.{statement}
 use Rattle.cover_touched.proofs.touching.set_up.Tie as tie
 
-add-size : tie.Need-add-size
-add-size c = search needs
-
-add-size-2 : tie.Need-add-size-2
-add-size-2 c = search needs
-
-add-ho : tie.Need-add-ho
-add-ho c = search needs
-
-add-hn : tie.Need-add-hn
-add-hn c = search needs
-
-add-no : tie.Need-add-no
-add-no c = search needs
-
-clear-requires : tie.Need-clear-requires
-clear-requires c κs = search needs
-
 link-requires : tie.Need-link-requires
 link-requires c κs =
     let st = c .before .before .before .before .before .before .before .before in
@@ -33,9 +15,6 @@ link-requires c κs =
     let w₁ = c .before .before .before .clear .last .0 in
     let r = st .pre .room in
     ((st .pre .old-few, omega arith), ((omega arith, omega (arith, c .before .before .before .clear .kept .0)), (field-inside (a .old .now) (a .on) (a .groups) (a .metas) (st .pre .old-inside), λ x l. cleared-at (a .w .now) w₁ (atOld (a .groups) (a .metas) + x) (c .before .before .before .clear .ensures))))
-
-add-link : tie.Need-add-link
-add-link c = search needs
 
 link-requires-2 : tie.Need-link-requires-2
 link-requires-2 c κs =
@@ -51,9 +30,6 @@ part-requires c κs =
     let st = c .before .before .before .before .before .before .before .before .before .before .before .before .before .before .before .before in
     (omega (arith, st .pre .room, c .before .before .before .before .before .before .before .before .before .before .before .clear .kept .0, c .before .before .before .before .before .before .before .link .kept .1 .1 .1 .0, c .before .before .before .link2 .kept .1 .1 .1 .0), omega (arith, st .pre .groups-max, st .pre .metas-max))
 
-same-length : tie.Need-same-length
-same-length c = search needs
-
 returns : tie.Need-returns
 returns c =
     let st = c .before .before .before .before .before .before .before .before .before .before .before .before .before .before .before .before .before .before .before in
@@ -68,17 +44,6 @@ returns c =
 
 pub set-up-spec : {M : Type 1} → statement M
 set-up-spec =
-    tie.close
-    (tie.spec
-    add-size
-    add-size-2
-    add-ho
-    add-hn
-    add-no
-    clear-requires
-    link-requires
-    add-link
-    link-requires-2
-    part-requires
-    same-length
-    returns)
+    tie.close (tie.spec (λ c. search needs) (λ c. search needs) (λ c. search needs) (λ c. search needs)
+    (λ c. search needs) (λ c κs. search needs) link-requires (λ c. search needs) link-requires-2 part-requires
+    (λ c. search needs) returns)

@@ -9,9 +9,6 @@ use borrow.Author.Needs.{needs}
 use Rattle.cover_touched.proofs.touching.touch.Statement.{statement}
 use Rattle.cover_touched.proofs.touching.touch.Tie as tie
 
-set-up-requires : tie.Need-set-up-requires
-set-up-requires c κs = search needs
-
 join-edges-requires : tie.Need-join-edges-requires
 join-edges-requires c κs =
     let st = c .before .before .before .before .before .before .before .before in
@@ -19,18 +16,12 @@ join-edges-requires c κs =
     let made = c .before .before .before .set-up in
     ((st .pre .old-few, st .pre .groups-max, st .pre .metas-max, st .pre .old-inside), part-forest (made .last .1 .1 .1 .1 .1 .1 .0) (a .metas) (nodes (a .groups) (a .metas)) (made .ensures .1) (omega (arith, st .pre .room, made .kept .1 .1 .1 .1 .1 .1 .0)))
 
-join-edges-requires-2 : tie.Need-join-edges-requires-2
-join-edges-requires-2 c κs = search needs
-
 join-differing-requires : tie.Need-join-differing-requires
 join-differing-requires c κs =
     let made = c .before .before .before .before .before .before .before .before .before .before .before .set-up in
     let first = c .before .before .before .before .before .before .before .join-edges in
     let second = c .before .before .before .join-edges2 in
     (linked-same (made .last .1 .1 .1 .1 .1 .1 .0) (second .last .1 .1 .1 .1 .0) (second .kept .1 .1 .1 .1 .0 ∙ first .kept .1 .1 .1 .1 .0) (λ i o. second .ensures .rest i o ∙ first .ensures .rest i o) (made .ensures .0), second .ensures .forest)
-
-same-length : tie.Need-same-length
-same-length c = search needs
 
 returns : tie.Need-returns
 returns c =
@@ -45,11 +36,5 @@ returns c =
 
 pub touch-spec : {M : Type 1} → statement M
 touch-spec =
-    tie.close
-    (tie.spec
-    set-up-requires
-    join-edges-requires
-    join-edges-requires-2
-    join-differing-requires
-    same-length
-    returns)
+    tie.close (tie.spec (λ c κs. search needs) join-edges-requires (λ c κs. search needs) join-differing-requires
+    (λ c. search needs) returns)

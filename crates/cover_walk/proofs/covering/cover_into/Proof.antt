@@ -11,18 +11,6 @@ use Rattle.cover_walk.specs.RunLaws.{room, nothing-marked}
 use Rattle.cover_walk.proofs.covering.cover_into.Statement.{statement}
 use Rattle.cover_walk.proofs.covering.cover_into.Tie as tie
 
-clear-marks-requires : tie.Need-clear-marks-requires
-clear-marks-requires c κs = search needs
-
-clear-requires : tie.Need-clear-requires
-clear-requires c κs = search needs
-
-same-length : tie.Need-same-length
-same-length c = search needs
-
-same-length-2 : tie.Need-same-length-2
-same-length-2 c = search needs
-
 returns : tie.Need-returns
 returns c =
     let s = c .before .before .before .before .before .before .before .before .before .before .before .before in (
@@ -37,21 +25,6 @@ run-requires c κs =
     let r = room (s .pre) p in
     (s .pre .inside, p, s .pre .few, r .fits, r .narrow)
 
-add-write-marks : tie.Need-add-write-marks
-add-write-marks c = search needs
-
-write-marks-requires : tie.Need-write-marks-requires
-write-marks-requires c κs = search needs
-
-clear-requires-2 : tie.Need-clear-requires-2
-clear-requires-2 c κs = search needs
-
-same-length-3 : tie.Need-same-length-3
-same-length-3 c = search needs
-
-same-length-4 : tie.Need-same-length-4
-same-length-4 c = search needs
-
 returns-2 : tie.Need-returns-2
 unfolding coverList
 returns-2 c =
@@ -62,17 +35,6 @@ returns-2 c =
 
 pub cover-into-spec : {M : Type 1} → statement M
 cover-into-spec =
-    tie.close
-    (tie.spec
-    clear-marks-requires
-    clear-requires
-    same-length
-    same-length-2
-    returns
-    run-requires
-    add-write-marks
-    write-marks-requires
-    clear-requires-2
-    same-length-3
-    same-length-4
-    returns-2)
+    tie.close (tie.spec (λ c κs. search needs) (λ c κs. search needs) (λ c. search needs) (λ c. search needs)
+    returns run-requires (λ c. search needs) (λ c κs. search needs) (λ c κs. search needs) (λ c. search needs)
+    (λ c. search needs) returns-2)

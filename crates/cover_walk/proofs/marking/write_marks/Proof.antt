@@ -30,15 +30,6 @@ mul-mark c = let s = c .before .before .before .before in omega (arith, s .pre, 
 shared-slice-read-mark : tie.Need-shared-slice-read-mark Inv-loop μ-loop
 shared-slice-read-mark c = let s = c .before .before .before .before .before in omega (arith, s .pre, c .before .before .loop .inv .1)
 
-mark-requires : tie.Need-mark-requires Inv-loop μ-loop
-mark-requires c κs = search needs
-
-slice-write-out : tie.Need-slice-write-out Inv-loop μ-loop
-slice-write-out c = search needs
-
-add-i : tie.Need-add-i Inv-loop μ-loop
-add-i c = search needs
-
 loop-less : tie.Need-loop-less Inv-loop μ-loop
 loop-less c = omega (arith, c .before .before .before .loop .inv .1)
 
@@ -53,18 +44,5 @@ returns c = let at = c .before in let s = at .before .before .before in listed-i
 
 pub write-marks-spec : {M : Type 1} → statement M
 write-marks-spec =
-    tie.close
-    (tie.spec
-    Inv-loop
-    μ-loop
-    loop-holds
-    add-mark
-    mul-mark
-    shared-slice-read-mark
-    mark-requires
-    slice-write-out
-    add-i
-    loop-less
-    loop-again
-    same-length
-    returns)
+    tie.close (tie.spec Inv-loop μ-loop loop-holds add-mark mul-mark shared-slice-read-mark (λ c κs. search needs)
+    (λ c. search needs) (λ c. search needs) loop-less loop-again same-length returns)

@@ -9,18 +9,6 @@ use Rattle.cover_levels.specs.StepLaws.{mark-walk, takes-all}
 use Rattle.cover_walk.proofs.taking.choose.Statement.{statement}
 use Rattle.cover_walk.proofs.taking.choose.Tie as tie
 
-add-w : tie.Need-add-w
-add-w c = search needs
-
-add-w-2 : tie.Need-add-w-2
-add-w-2 c = search needs
-
-mul-w : tie.Need-mul-w
-mul-w c = search needs
-
-slice-write-w : tie.Need-slice-write-w
-slice-write-w c = search needs
-
 reach-requires : tie.Need-reach-requires
 reach-requires c κs = let s = c .before .before .before in (mark-walk (s .args .groups) (s .args .metas) (s .args .go) (s .args .mo) (s .args .od) (edgesTo (now (s .args .edges)) (s .args .n)) (s .args .c) (s .pre .1) (now (s .args .w)) (s .pre .0), s .pre .1)
 
@@ -32,4 +20,5 @@ returns c = let s = c .before .before .before .before .before .before in takes-a
 
 pub choose-spec : {M : Type 1} → statement M
 choose-spec =
-    tie.close (tie.spec add-w add-w-2 mul-w slice-write-w reach-requires same-length returns)
+    tie.close (tie.spec (λ c. search needs) (λ c. search needs) (λ c. search needs) (λ c. search needs)
+    reach-requires same-length returns)

@@ -21,14 +21,8 @@ inside c = let at = c .before .before .before in let s = at .before .before in
 loop-holds : tie.Need-loop-holds Inv-loop μ-loop
 loop-holds c = lowered-start (c .before .args .groups) (c .before .args .a) (c .before .args .e) (now (c .before .args .w)) (c .before .pre)
 
-mul-wide : tie.Need-mul-wide Inv-loop μ-loop
-mul-wide c = search needs
-
 slice-read-wide : tie.Need-slice-read-wide Inv-loop μ-loop
 slice-read-wide c = omega (arith, c .before .before .loop .inv .size, c .before .before .before .before .pre .fits)
-
-wide-requires : tie.Need-wide-requires Inv-loop μ-loop
-wide-requires c κs = search needs
 
 mul-w : tie.Need-mul-w Inv-loop μ-loop
 mul-w c = omega (arith, inside c)
@@ -46,12 +40,6 @@ mul-w-2 c = omega (arith, inside (c .before))
 slice-write-w : tie.Need-slice-write-w Inv-loop μ-loop
 slice-write-w c = inside (c .before)
 
-add-p : tie.Need-add-p Inv-loop μ-loop
-add-p c = search needs
-
-loop-less : tie.Need-loop-less Inv-loop μ-loop
-loop-less c = search needs
-
 loop-again : tie.Need-loop-again Inv-loop μ-loop
 loop-again c = let at = c .before .before .before .before in let s = at .before .before in
     rw (c .before .wide .ensures) (lowered-step (s .args .groups) (s .args .a) (s .args .e) (now (s .args .w)) (s .pre) (at .loop .w) (at .loop .p) (at .loop .inv) (omega arith))
@@ -64,21 +52,6 @@ returns c = (lowered-end (c .before .before .before .args .groups) (c .before .b
 
 pub lower-spec : {M : Type 1} → statement M
 lower-spec =
-    tie.close
-    (tie.spec
-    Inv-loop
-    μ-loop
-    loop-holds
-    mul-wide
-    slice-read-wide
-    wide-requires
-    mul-w
-    slice-read-w
-    sub-w
-    mul-w-2
-    slice-write-w
-    add-p
-    loop-less
-    loop-again
-    same-length
+    tie.close (tie.spec Inv-loop μ-loop loop-holds (λ c. search needs) slice-read-wide (λ c κs. search needs)
+    mul-w slice-read-w sub-w mul-w-2 slice-write-w (λ c. search needs) (λ c. search needs) loop-again same-length
     returns)

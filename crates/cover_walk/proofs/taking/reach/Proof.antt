@@ -28,9 +28,6 @@ mul-wide c = omega (arith, here (c .before .before) .1)
 slice-read-wide : tie.Need-slice-read-wide Inv-loop μ-loop
 slice-read-wide c = here (c .before .before .before) .0
 
-wide-requires : tie.Need-wide-requires Inv-loop μ-loop
-wide-requires c κs = search needs
-
 add-wide-2 : tie.Need-add-wide-2 Inv-loop μ-loop
 add-wide-2 c = omega (arith, here (c .before .before .before .before) .1)
 
@@ -43,9 +40,6 @@ mul-wide-2 c = omega (arith, here (c .before .before .before .before) .1)
 slice-read-wide-2 : tie.Need-slice-read-wide-2 Inv-loop μ-loop
 slice-read-wide-2 c = here (c .before .before .before .before .before) .1
 
-wide-requires-2 : tie.Need-wide-requires-2 Inv-loop μ-loop
-wide-requires-2 c κs = search needs
-
 loop-holds : tie.Need-loop-holds Inv-loop μ-loop
 loop-holds c = let s = c .before .before .before .before .before .before in (c .wide2 .ensures, rw (c .before .before .wide .ensures) (spread-start (s .args .groups) (s .args .metas) (s .args .go) (s .args .mo) (s .args .od) (edgesTo (now (s .args .edges)) (s .args .n)) (s .args .c) (s .pre .1) (now (s .args .w)) (s .pre .0)))
 
@@ -55,17 +49,8 @@ mul-wide-3 c = let at = c .before in let s = at .before .before .before .before 
 slice-read-wide-3 : tie.Need-slice-read-wide-3 Inv-loop μ-loop
 slice-read-wide-3 c = let at = c .before .before in let s = at .before .before .before .before .before .before .before in spread-inside (s .args .groups) (s .args .metas) (s .args .go) (s .args .mo) (s .args .od) (edgesTo (now (s .args .edges)) (s .args .n)) (s .args .c) (s .pre .1) (now (s .args .w)) (s .pre .0) (at .loop .w) (at .loop .p) (at .loop .inv .1) (omega (arith, at .loop .inv .0))
 
-wide-requires-3 : tie.Need-wide-requires-3 Inv-loop μ-loop
-wide-requires-3 c κs = search needs
-
 visit-requires : tie.Need-visit-requires Inv-loop μ-loop
 visit-requires c κs = let at = c .before .before .before .before in let s = at .before .before .before .before .before .before .before in (at .loop .inv .1 .walk, rw (c .before .wide3 .ensures) (spread-meta (s .args .groups) (s .args .metas) (s .args .go) (s .args .mo) (s .args .od) (edgesTo (now (s .args .edges)) (s .args .n)) (s .args .c) (s .pre .1) (now (s .args .w)) (s .pre .0) (at .loop .w) (at .loop .p) (at .loop .inv .1) (omega (arith, at .loop .inv .0))))
-
-add-p : tie.Need-add-p Inv-loop μ-loop
-add-p c = search needs
-
-loop-less : tie.Need-loop-less Inv-loop μ-loop
-loop-less c = search needs
 
 loop-again : tie.Need-loop-again Inv-loop μ-loop
 loop-again c = let at = c .before .before .before .before .before .before .before in let s = at .before .before .before .before .before .before .before in (at .loop .inv .0, spread-step (s .args .groups) (s .args .metas) (s .args .go) (s .args .mo) (s .args .od) (edgesTo (now (s .args .edges)) (s .args .n)) (s .args .c) (s .pre .1) (now (s .args .w)) (s .pre .0) (at .loop .w) (at .loop .p) (at .loop .inv .1) (omega (arith, at .loop .inv .0)) (c .before .before .visit .last .1 .1 .0) (c .before .before .visit .kept .1 .1 .0) (rw (← c .before .before .before .before .wide3 .ensures) (c .before .before .visit .ensures)))
@@ -78,26 +63,6 @@ returns c = let at = c .before in let s = at .before .before .before .before .be
 
 pub reach-spec : {M : Type 1} → statement M
 reach-spec =
-    tie.close
-    (tie.spec
-    Inv-loop
-    μ-loop
-    add-wide
-    mul-wide
-    slice-read-wide
-    wide-requires
-    add-wide-2
-    add-wide-3
-    mul-wide-2
-    slice-read-wide-2
-    wide-requires-2
-    loop-holds
-    mul-wide-3
-    slice-read-wide-3
-    wide-requires-3
-    visit-requires
-    add-p
-    loop-less
-    loop-again
-    same-length
-    returns)
+    tie.close (tie.spec Inv-loop μ-loop add-wide mul-wide slice-read-wide (λ c κs. search needs) add-wide-2
+    add-wide-3 mul-wide-2 slice-read-wide-2 (λ c κs. search needs) loop-holds mul-wide-3 slice-read-wide-3
+    (λ c κs. search needs) visit-requires (λ c. search needs) (λ c. search needs) loop-again same-length returns)

@@ -22,12 +22,6 @@ loop-holds c = (refl, c .before .before .pre)
 sweep-requires : tie.Need-sweep-requires Inv-loop μ-loop
 sweep-requires c κs = (c .before .before .loop .inv .1, omega arith)
 
-sub-d : tie.Need-sub-d Inv-loop μ-loop
-sub-d c = search needs
-
-loop-less : tie.Need-loop-less Inv-loop μ-loop
-loop-less c = search needs
-
 loop-again : tie.Need-loop-again Inv-loop μ-loop
 loop-again c = (c .before .before .sweep .kept .1 .1 .0 ∙ c .before .before .before .before .before .loop .inv .0, c .before .before .sweep .ensures)
 
@@ -39,14 +33,5 @@ returns c = let s = c .before .before .before .before in levels-end (s .args .gr
 
 pub descend-spec : {M : Type 1} → statement M
 descend-spec =
-    tie.close
-    (tie.spec
-    Inv-loop
-    μ-loop
-    loop-holds
-    sweep-requires
-    sub-d
-    loop-less
-    loop-again
-    same-length
-    returns)
+    tie.close (tie.spec Inv-loop μ-loop loop-holds sweep-requires (λ c. search needs) (λ c. search needs)
+    loop-again same-length returns)

@@ -12,18 +12,6 @@ listed : (c : tie.After-wide) → (c .wide .result < c .before .before .before .
 listed c = let s = c .before .before .before .before .before in let b : c .wide .result < s .args .groups = rw (c .wide .ensures) (s .pre .tables .order .below (s .args .i) (omega arith)) in
     (b, omega (arith, s .pre .tables .byGroup .fits))
 
-add-wide : tie.Need-add-wide
-add-wide c = search needs
-
-mul-wide : tie.Need-mul-wide
-mul-wide c = search needs
-
-shared-slice-read-wide : tie.Need-shared-slice-read-wide
-shared-slice-read-wide c = search needs
-
-wide-requires : tie.Need-wide-requires
-wide-requires c κs = search needs
-
 add-wide-2 : tie.Need-add-wide-2
 add-wide-2 c = omega (arith, listed c .1)
 
@@ -32,9 +20,6 @@ mul-wide-2 c = omega (arith, listed c .1)
 
 shared-slice-read-wide-2 : tie.Need-shared-slice-read-wide-2
 shared-slice-read-wide-2 c = omega (arith, listed (c .before) .1)
-
-wide-requires-2 : tie.Need-wide-requires-2
-wide-requires-2 c κs = search needs
 
 add-wide-3 : tie.Need-add-wide-3
 add-wide-3 c = omega (arith, listed (c .before .before) .1)
@@ -47,9 +32,6 @@ mul-wide-3 c = omega (arith, listed (c .before .before) .1)
 
 shared-slice-read-wide-3 : tie.Need-shared-slice-read-wide-3
 shared-slice-read-wide-3 c = omega (arith, listed (c .before .before .before) .1)
-
-wide-requires-3 : tie.Need-wide-requires-3
-wide-requires-3 c κs = search needs
 
 sub-result : tie.Need-sub-result
 sub-result c = let s = c .before .before .before .before .before .before .before .before .before in omega (arith, c .wide3 .ensures, c .before .before .wide2 .ensures, s .pre .tables .byGroup .sizes (c .before .before .before .before .wide .result) (listed (c .before .before .before .before) .0))
@@ -64,21 +46,6 @@ returns-2 c = (λ e. absurd (mathlib.Core.Bool.false≢true e), λ e b. absurd (
 
 pub more-spec : {M : Type 1} → statement M
 more-spec =
-    tie.close
-    (tie.spec
-    add-wide
-    mul-wide
-    shared-slice-read-wide
-    wide-requires
-    add-wide-2
-    mul-wide-2
-    shared-slice-read-wide-2
-    wide-requires-2
-    add-wide-3
-    add-wide-4
-    mul-wide-3
-    shared-slice-read-wide-3
-    wide-requires-3
-    sub-result
-    returns
-    returns-2)
+    tie.close (tie.spec (λ c. search needs) (λ c. search needs) (λ c. search needs) (λ c κs. search needs)
+    add-wide-2 mul-wide-2 shared-slice-read-wide-2 (λ c κs. search needs) add-wide-3 add-wide-4 mul-wide-3
+    shared-slice-read-wide-3 (λ c κs. search needs) sub-result returns returns-2)

@@ -13,32 +13,14 @@ use Rattle.cover_walk.proofs.walking.step.Tie as tie
 inside : (c : tie.After-wide) → c .wide .result < length (now (c .before .before .before .before .args .w))
 inside c = let s = c .before .before .before .before in rw (c .wide .ensures) (group-inside (s .args .groups) (s .args .metas) (s .args .go) (s .args .mo) (s .args .od) (edgesTo (now (s .args .edges)) (s .args .n)) (now (s .args .w)) (s .args .d) (s .args .i) (s .pre .0) (s .pre .1))
 
-add-wide : tie.Need-add-wide
-add-wide c = search needs
-
-mul-wide : tie.Need-mul-wide
-mul-wide c = search needs
-
-slice-read-wide : tie.Need-slice-read-wide
-slice-read-wide c = search needs
-
-wide-requires : tie.Need-wide-requires
-wide-requires c κs = search needs
-
 mul-wide-2 : tie.Need-mul-wide-2
 mul-wide-2 c = omega (arith, inside c)
 
 slice-read-wide-2 : tie.Need-slice-read-wide-2
 slice-read-wide-2 c = inside (c .before)
 
-wide-requires-2 : tie.Need-wide-requires-2
-wide-requires-2 c κs = search needs
-
 choose-requires : tie.Need-choose-requires
 choose-requires c κs = let s = c .before .before .before .before .before .before .before .before in (s .pre .0 .walk, rw (c .before .before .before .before .wide .ensures) (place-group (s .args .groups) (s .args .metas) (s .args .go) (s .args .mo) (s .args .od) (edgesTo (now (s .args .edges)) (s .args .n)) (now (s .args .w)) (s .args .d) (s .args .i) (s .pre .0) (s .pre .1)))
-
-same-length : tie.Need-same-length
-same-length c = search needs
 
 returns : tie.Need-returns
 returns c = let s = c .before .before .before .before .before .before .before .before .before .before .before in levels-take (s .args .groups) (s .args .metas) (s .args .go) (s .args .mo) (s .args .od) (edgesTo (now (s .args .edges)) (s .args .n)) (now (s .args .w)) (s .args .d) (s .args .i) (s .pre .0) (s .pre .1) (s .pre .2) (ap (λ (x : ℕ). getD (now (s .args .w)) x 0) (sym (c .before .before .before .before .before .before .before .wide .ensures)) ∙ sym (c .before .before .before .before .before .wide2 .ensures) ∙ c .before .before .before .before .if1 .taken) (c .before .before .choose .last .1 .1 .0) (rw (← c .before .before .before .before .before .before .before .wide .ensures) (c .before .before .choose .ensures))
@@ -48,16 +30,5 @@ returns-2 c = let s = c .before .before .before .before .before .before .before 
 
 pub step-spec : {M : Type 1} → statement M
 step-spec =
-    tie.close
-    (tie.spec
-    add-wide
-    mul-wide
-    slice-read-wide
-    wide-requires
-    mul-wide-2
-    slice-read-wide-2
-    wide-requires-2
-    choose-requires
-    same-length
-    returns
-    returns-2)
+    tie.close (tie.spec (λ c. search needs) (λ c. search needs) (λ c. search needs) (λ c κs. search needs)
+    mul-wide-2 slice-read-wide-2 (λ c κs. search needs) choose-requires (λ c. search needs) returns returns-2)

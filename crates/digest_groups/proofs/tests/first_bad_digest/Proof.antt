@@ -24,30 +24,6 @@ loop-holds : tie.Need-loop-holds Inv-loop μ-loop
 unfolding firstBadDigest
 loop-holds c = (omega arith, seek-start (badDigest (now (c .before .before .args .bounds)) (c .before .before .args .proteins) (now (c .before .before .args .digests))) (length (now (c .before .before .args .digests)) / 16))
 
-mul-at : tie.Need-mul-at Inv-loop μ-loop
-mul-at c = search needs
-
-add-is-good-digest : tie.Need-add-is-good-digest Inv-loop μ-loop
-add-is-good-digest c = search needs
-
-sub-is-good-digest : tie.Need-sub-is-good-digest Inv-loop μ-loop
-sub-is-good-digest c = search needs
-
-part-is-good-digest-start : tie.Need-part-is-good-digest-start Inv-loop μ-loop
-part-is-good-digest-start c = search needs
-
-part-is-good-digest-end : tie.Need-part-is-good-digest-end Inv-loop μ-loop
-part-is-good-digest-end c = search needs
-
-is-good-digest-requires : tie.Need-is-good-digest-requires Inv-loop μ-loop
-is-good-digest-requires c κs = search needs
-
-add-i : tie.Need-add-i Inv-loop μ-loop
-add-i c = search needs
-
-loop-less : tie.Need-loop-less Inv-loop μ-loop
-loop-less c = search needs
-
 loop-again : tie.Need-loop-again Inv-loop μ-loop
 loop-again c =
     let l = c .before .before .before .before .loop in
@@ -69,19 +45,6 @@ returns-2 c = sym (seek-end (badDigest (now (c .before .before .before .before .
 
 pub first-bad-digest-spec : {M : Type 1} → statement M
 first-bad-digest-spec =
-    tie.close
-    (tie.spec
-    Inv-loop
-    μ-loop
-    loop-holds
-    mul-at
-    add-is-good-digest
-    sub-is-good-digest
-    part-is-good-digest-start
-    part-is-good-digest-end
-    is-good-digest-requires
-    add-i
-    loop-less
-    loop-again
-    returns
-    returns-2)
+    tie.close (tie.spec Inv-loop μ-loop loop-holds (λ c. search needs) (λ c. search needs) (λ c. search needs)
+    (λ c. search needs) (λ c. search needs) (λ c κs. search needs) (λ c. search needs) (λ c. search needs)
+    loop-again returns returns-2)

@@ -6,31 +6,10 @@ use Rattle.digest_groups.proofs.tests.width.Reads as width-reads
 use Rattle.enzyme_keep.proofs.is_good.Reads as is-good-reads
 use Rattle.records.proofs.u32_at.Reads as u32-at-reads
 
-u32-at-requires : tie.Need-u32-at-requires
-u32-at-requires c κs = search needs
-
-u32-at-requires-2 : tie.Need-u32-at-requires-2
-u32-at-requires-2 c κs = search needs
-
-width-requires : tie.Need-width-requires
-width-requires c κs = search needs
-
-is-good-requires : tie.Need-is-good-requires
-is-good-requires c κs = search needs
-
-cast-result : tie.Need-cast-result
-cast-result c = search needs
-
 returns : tie.Need-returns
 returns c = rw (c .is-good .ensures, c .before .width .ensures, c .before .before .u32-at2 .ensures, c .before .before .before .u32-at .ensures)
 
 pub is-good-digest-spec : {M : Type 1} → statement M
 is-good-digest-spec =
-    tie.close
-    (tie.spec
-    u32-at-requires
-    u32-at-requires-2
-    width-requires
-    is-good-requires
-    cast-result
-    returns)
+    tie.close (tie.spec (λ c κs. search needs) (λ c κs. search needs) (λ c κs. search needs)
+    (λ c κs. search needs) (λ c. search needs) returns)

@@ -6,18 +6,9 @@ use Rattle.catalogue_contents.proofs.has_bounds.Reads as has-bounds-reads
 use Rattle.catalogue_contents.proofs.are_whole_names.Reads as are-whole-names-reads
 use Rattle.catalogue_contents.proofs.name_count.Reads as name-count-reads
 
-name-count-requires : tie.Need-name-count-requires
-name-count-requires c κs = search needs
-
-are-whole-names-requires : tie.Need-are-whole-names-requires
-are-whole-names-requires c κs = search needs
-
-has-bounds-requires : tie.Need-has-bounds-requires
-has-bounds-requires c κs = search needs
-
 returns : tie.Need-returns
 returns c = rw (c .has-bounds .ensures, c .before .before .name-count .ensures, c .before .are-whole-names .ensures)
 
 pub is-uneven-spec : {M : Type 1} → statement M
 is-uneven-spec =
-    tie.close (tie.spec name-count-requires are-whole-names-requires has-bounds-requires returns)
+    tie.close (tie.spec (λ c κs. search needs) (λ c κs. search needs) (λ c κs. search needs) returns)

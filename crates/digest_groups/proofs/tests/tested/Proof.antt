@@ -14,25 +14,16 @@ use Rattle.digest_groups.proofs.tests.is_uneven.Reads as is-uneven-read
 use Rattle.digest_groups.proofs.tests.too_large.Reads as too-large-reads
 use Rattle.digest_groups.proofs.tests.work_needed.Reads as work-needed-reads
 
-too-large-requires : tie.Need-too-large-requires
-too-large-requires c κs = search needs
-
 returns : tie.Need-returns
 returns c =
     let t : tooLarge (now (c .before .before .before .before .before .before .args .names)) (now (c .before .before .before .before .before .before .args .letters)) (now (c .before .before .before .before .before .before .args .digests)) ≡ true = sym (c .before .too-large .ensures) ∙ c .if1 .taken in
     rw t
-
-is-uneven-requires : tie.Need-is-uneven-requires
-is-uneven-requires c κs = search needs
 
 returns-2 : tie.Need-returns-2
 returns-2 c =
     let t : tooLarge (now (c .before .before .before .before .before .before .before .before .args .names)) (now (c .before .before .before .before .before .before .before .before .args .letters)) (now (c .before .before .before .before .before .before .before .before .args .digests)) ≡ false = sym (c .before .before .before .too-large .ensures) ∙ c .before .before .if1 .left in
     let u : uneven (now (c .before .before .before .before .before .before .before .before .args .names)) (now (c .before .before .before .before .before .before .before .before .args .bounds)) (now (c .before .before .before .before .before .before .before .before .args .digests)) ≡ true = sym (c .before .is-uneven .ensures) ∙ c .if2 .taken in
     rw (t, u)
-
-work-needed-requires : tie.Need-work-needed-requires
-work-needed-requires c κs = search needs
 
 returns-3 : tie.Need-returns-3
 returns-3 c =
@@ -56,13 +47,5 @@ returns-4 c =
 
 pub tested-spec : {M : Type 1} → statement M
 tested-spec =
-    tie.close
-    (tie.spec
-    too-large-requires
-    returns
-    is-uneven-requires
-    returns-2
-    work-needed-requires
-    returns-3
-    contents-tested-requires
-    returns-4)
+    tie.close (tie.spec (λ c κs. search needs) returns (λ c κs. search needs) returns-2 (λ c κs. search needs)
+    returns-3 contents-tested-requires returns-4)

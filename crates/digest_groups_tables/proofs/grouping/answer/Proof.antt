@@ -8,15 +8,6 @@ use Rattle.digest_groups_tables.proofs.grouping.answer.Statement.{state
 use Rattle.digest_groups_tables.proofs.grouping.answer.Tie as tie
 use Rattle.records.proofs.room_for.Reads as room-for-reads
 
-room-for-requires : tie.Need-room-for-requires
-room-for-requires c κs = search needs
-
-room-for-requires-2 : tie.Need-room-for-requires-2
-room-for-requires-2 c κs = search needs
-
-cast-t11 : tie.Need-cast-t11
-cast-t11 c = search needs
-
 returns : tie.Need-returns
 returns c =
     let a = c .before .before .before .args in
@@ -30,4 +21,5 @@ returns-2 c =
     rw e
 
 pub answer-spec : {M : Type 1} → statement M
-answer-spec = tie.close (tie.spec room-for-requires room-for-requires-2 cast-t11 returns returns-2)
+answer-spec =
+    tie.close (tie.spec (λ c κs. search needs) (λ c κs. search needs) (λ c. search needs) returns returns-2)

@@ -7,21 +7,6 @@ use Rattle.digest_groups_tables.proofs.grouping.arrange.Tie as tie
 use Rattle.digest_groups_tables.proofs.spelling.spell_all.Reads as spell-all-reads
 use Rattle.sorting.proofs.sort.Reads as sort-reads
 
-cast-all : tie.Need-cast-all
-cast-all c = search needs
-
-spell-all-requires : tie.Need-spell-all-requires
-spell-all-requires c κs = search needs
-
-mul-sort : tie.Need-mul-sort
-mul-sort c = search needs
-
-sort-requires : tie.Need-sort-requires
-sort-requires c κs = search needs
-
-same-length : tie.Need-same-length
-same-length c = search needs
-
 returns : tie.Need-returns
 returns c =
     let a = c .before .before .before .before .before .before .before .before .before .before .before .before .args in
@@ -32,4 +17,5 @@ returns c =
 
 pub arrange-spec : {M : Type 1} → statement M
 arrange-spec =
-    tie.close (tie.spec cast-all spell-all-requires mul-sort sort-requires same-length returns)
+    tie.close (tie.spec (λ c. search needs) (λ c κs. search needs) (λ c. search needs) (λ c κs. search needs)
+    (λ c. search needs) returns)

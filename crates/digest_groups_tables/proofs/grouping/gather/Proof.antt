@@ -14,38 +14,8 @@ use Rattle.digest_groups_tables.proofs.groups.gather_runs.Reads as gath
 use Rattle.records.proofs.clear.Reads as clear-reads
 use Rattle.records.proofs.put_numbers.Reads as put-numbers-reads
 
-arrange-requires : tie.Need-arrange-requires
-arrange-requires c κs = search needs
-
-gather-runs-requires : tie.Need-gather-runs-requires
-gather-runs-requires c κs = search needs
-
-sub-put-numbers : tie.Need-sub-put-numbers
-sub-put-numbers c = search needs
-
-part-put-numbers-start : tie.Need-part-put-numbers-start
-part-put-numbers-start c = search needs
-
-part-put-numbers-end : tie.Need-part-put-numbers-end
-part-put-numbers-end c = search needs
-
-put-numbers-requires : tie.Need-put-numbers-requires
-put-numbers-requires c κs = search needs
-
-clear-requires : tie.Need-clear-requires
-clear-requires c κs = search needs
-
 answer-requires : tie.Need-answer-requires
 answer-requires c κs = let p = c .before .before .before .before .before .before .before .before .before .before .before .before .before .before .before .before .before .before .before .before .before .before .before .before .before .before .before .before .pre .0 in (omega (arith, c .before .before .before .before .before .before .before .before .before .before .before .before .before .before .gather-runs .ensures .few, p .few), p .few)
-
-same-length : tie.Need-same-length
-same-length c = search needs
-
-same-length-2 : tie.Need-same-length-2
-same-length-2 c = search needs
-
-same-length-3 : tie.Need-same-length-3
-same-length-3 c = search needs
 
 returns : tie.Need-returns
 returns c =
@@ -61,17 +31,6 @@ returns c =
 
 pub gather-spec : {M : Type 1} → statement M
 gather-spec =
-    tie.close
-    (tie.spec
-    arrange-requires
-    gather-runs-requires
-    sub-put-numbers
-    part-put-numbers-start
-    part-put-numbers-end
-    put-numbers-requires
-    clear-requires
-    answer-requires
-    same-length
-    same-length-2
-    same-length-3
-    returns)
+    tie.close (tie.spec (λ c κs. search needs) (λ c κs. search needs) (λ c. search needs) (λ c. search needs)
+    (λ c. search needs) (λ c κs. search needs) (λ c κs. search needs) answer-requires (λ c. search needs)
+    (λ c. search needs) (λ c. search needs) returns)

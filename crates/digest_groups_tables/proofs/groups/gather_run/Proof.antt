@@ -11,21 +11,6 @@ use Rattle.digest_groups_tables.proofs.groups.list_proteins.Reads as li
 use Rattle.digest_groups_tables.proofs.groups.put_group.Reads as put-group-reads
 use Rattle.sorting.proofs.run_end.Reads as run-end-reads
 
-cast-all : tie.Need-cast-all
-cast-all c = search needs
-
-mul-run-end : tie.Need-mul-run-end
-mul-run-end c = search needs
-
-run-end-requires : tie.Need-run-end-requires
-run-end-requires c κs = search needs
-
-mul-at : tie.Need-mul-at
-mul-at c = search needs
-
-slice-read-at : tie.Need-slice-read-at
-slice-read-at c = search needs
-
 cast-at : tie.Need-cast-at
 cast-at c = let r = c .before .before .before .before .before .before .before .before .pre .1 in omega (arith, r .numbers (c .before .before .before .before .before .before .before .before .args .lo) (omega arith) (c .before .before .before .before .before .before .before .before .pre .0), r .whole, r .few)
 
@@ -34,12 +19,6 @@ mul-at-2 c = let r = c .before .before .before .before .before .before .before .
 
 add-put-group : tie.Need-add-put-group
 add-put-group c = let r = c .before .before .before .before .before .before .before .before .pre .1 in omega (arith, r .numbers (c .before .before .before .before .before .before .before .before .args .lo) (omega arith) (c .before .before .before .before .before .before .before .before .pre .0), r .whole, r .few)
-
-sub-put-group : tie.Need-sub-put-group
-sub-put-group c = search needs
-
-part-put-group-start : tie.Need-part-put-group-start
-part-put-group-start c = search needs
 
 part-put-group-end : tie.Need-part-put-group-end
 part-put-group-end c = let r = c .before .before .before .before .before .before .before .before .pre .1 in omega (arith, r .numbers (c .before .before .before .before .before .before .before .before .args .lo) (omega arith) (c .before .before .before .before .before .before .before .before .pre .0), r .whole, r .few)
@@ -60,12 +39,6 @@ put-group-requires c κs =
 list-proteins-requires : tie.Need-list-proteins-requires
 list-proteins-requires c κs = let e = ended (c .before .before .before .before .before .before .before .before .before .before .before .before .before .before .args .letters .now) (c .before .before .before .before .before .before .before .before .before .before .before .before .before .before .args .digests .now) (c .before .before .before .before .before .before .before .before .before .before .before .before .before .before .args .n) (c .before .before .before .before .before .before .before .before .before .before .before .before .before .before .args .lo) (c .before .before .before .before .before .before .before .before .before .before .before .before .before .before .args .w .now) (c .before .before .before .before .before .before .before .run-end .result) (c .before .before .before .before .before .before .before .before .before .before .before .before .before .before .pre .1) (c .before .before .before .before .before .before .before .before .before .before .before .before .before .before .pre .0) (c .before .before .before .before .before .before .before .run-end .ensures) in (e .1, e .2, c .before .before .before .before .before .before .before .before .before .before .before .before .before .before .pre .1)
 
-same-length : tie.Need-same-length
-same-length c = search needs
-
-same-length-2 : tie.Need-same-length-2
-same-length-2 c = search needs
-
 returns : tie.Need-returns
 returns c =
     let a = c .before .before .before .before .before .before .before .before .before .before .before .before .before .before .before .before .before .args in
@@ -76,22 +49,6 @@ returns c =
 
 pub gather-run-spec : {M : Type 1} → statement M
 gather-run-spec =
-    tie.close
-    (tie.spec
-    cast-all
-    mul-run-end
-    run-end-requires
-    mul-at
-    slice-read-at
-    cast-at
-    mul-at-2
-    add-put-group
-    sub-put-group
-    part-put-group-start
-    part-put-group-end
-    sub-put-group-2
-    put-group-requires
-    list-proteins-requires
-    same-length
-    same-length-2
-    returns)
+    tie.close (tie.spec (λ c. search needs) (λ c. search needs) (λ c κs. search needs) (λ c. search needs)
+    (λ c. search needs) cast-at mul-at-2 add-put-group (λ c. search needs) (λ c. search needs) part-put-group-end
+    sub-put-group-2 put-group-requires list-proteins-requires (λ c. search needs) (λ c. search needs) returns)

@@ -42,12 +42,6 @@ loop-again c =
     let t = c .before .before .before .before .gather-run in
     (ap length (t .ensures .group) ∙ length-stored (l .groups) (l .g) (digestAt (a .digests .now) (getD (l .w) (l .lo) 0) ++ le 4 (l .lo) ++ le 4 (t .result - l .lo)) ∙ l .inv .0, ahead-more (a .names .now) (a .letters .now) (a .digests .now) (a .n) (a .w .now) (a .groups .now) (l .lo) (l .g) (l .w) (l .groups) (l .inv .1) (omega arith) (t .result) (t .last .1 .1 .1 .0) (t .last .1 .1 .1 .1 .1 .1 .0) (t .ensures))
 
-same-length : tie.Need-same-length Inv-loop μ-loop
-same-length c = search needs
-
-same-length-2 : tie.Need-same-length-2 Inv-loop μ-loop
-same-length-2 c = search needs
-
 returns : tie.Need-returns Inv-loop μ-loop
 returns c =
     let a = c .before .before .before .before .before .before .before .args in
@@ -56,15 +50,5 @@ returns c =
 
 pub gather-runs-spec : {M : Type 1} → statement M
 gather-runs-spec =
-    tie.close
-    (tie.spec
-    Inv-loop
-    μ-loop
-    loop-holds
-    gather-run-requires
-    add-g
-    loop-less
-    loop-again
-    same-length
-    same-length-2
-    returns)
+    tie.close (tie.spec Inv-loop μ-loop loop-holds gather-run-requires add-g loop-less loop-again
+    (λ c. search needs) (λ c. search needs) returns)

@@ -16,15 +16,6 @@ take-proteins-requires c κs =
     let r = c .before .before .before .before .pre .2 in
     (c .before .before .before .before .pre .0, omega (arith, r .fits), λ i h k. omega (arith, r .numbers i h (omega arith), r .whole))
 
-mul-sort : tie.Need-mul-sort
-mul-sort c = search needs
-
-sort-requires : tie.Need-sort-requires
-sort-requires c κs = search needs
-
-same-length : tie.Need-same-length
-same-length c = search needs
-
 returns : tie.Need-returns
 returns c =
     let a = c .before .before .before .before .before .before .before .before .before .before .before .args in
@@ -37,4 +28,5 @@ returns c =
 
 pub list-proteins-spec : {M : Type 1} → statement M
 list-proteins-spec =
-    tie.close (tie.spec take-proteins-requires mul-sort sort-requires same-length returns)
+    tie.close (tie.spec take-proteins-requires (λ c. search needs) (λ c κs. search needs) (λ c. search needs)
+    returns)

@@ -13,40 +13,10 @@ use Rattle.records.proofs.put_bytes.Reads as put-bytes-reads
 use Rattle.records.proofs.put_u32.Reads as put-u32-reads
 use Rattle.records.proofs.room_for.Reads as room-for-reads
 
-room-for-requires : tie.Need-room-for-requires
-room-for-requires c κs = search needs
-
 returns : tie.Need-returns
 returns c =
     let a = c .before .before .before .before .args in
     stored-full 24 1048576 (a .out .now) (a .g) (a .digest .now ++ le 4 (a .at) ++ le 4 (a .count)) (rw (c .before .room-for .ensures) at (c .if1 .taken))
-
-mul-k : tie.Need-mul-k
-mul-k c = search needs
-
-cast-first : tie.Need-cast-first
-cast-first c = search needs
-
-cast-number : tie.Need-cast-number
-cast-number c = search needs
-
-put-bytes-requires : tie.Need-put-bytes-requires
-put-bytes-requires c κs = search needs
-
-add-put-u32 : tie.Need-add-put-u32
-add-put-u32 c = search needs
-
-put-u32-requires : tie.Need-put-u32-requires
-put-u32-requires c κs = search needs
-
-add-put-u32-2 : tie.Need-add-put-u32-2
-add-put-u32-2 c = search needs
-
-put-u32-requires-2 : tie.Need-put-u32-requires-2
-put-u32-requires-2 c κs = search needs
-
-same-length : tie.Need-same-length
-same-length c = search needs
 
 returns-2 : tie.Need-returns-2
 returns-2 c =
@@ -59,17 +29,6 @@ returns-2 c =
 
 pub put-group-spec : {M : Type 1} → statement M
 put-group-spec =
-    tie.close
-    (tie.spec
-    room-for-requires
-    returns
-    mul-k
-    cast-first
-    cast-number
-    put-bytes-requires
-    add-put-u32
-    put-u32-requires
-    add-put-u32-2
-    put-u32-requires-2
-    same-length
-    returns-2)
+    tie.close (tie.spec (λ c κs. search needs) returns (λ c. search needs) (λ c. search needs) (λ c. search needs)
+    (λ c κs. search needs) (λ c. search needs) (λ c κs. search needs) (λ c. search needs) (λ c κs. search needs)
+    (λ c. search needs) returns-2)

@@ -20,12 +20,6 @@ abbrev μ-loop : tie.MeasureT-loop
 loop-holds : tie.Need-loop-holds Inv-loop μ-loop
 loop-holds c = let a = c .before .before .args in (omega arith, omega arith, replaced-none (λ (x : ℕ). protein (digestAt (a .digests .now) x)) (a .w .now) (a .lo))
 
-mul-protein-of : tie.Need-mul-protein-of Inv-loop μ-loop
-mul-protein-of c = search needs
-
-slice-read-protein-of : tie.Need-slice-read-protein-of Inv-loop μ-loop
-slice-read-protein-of c = search needs
-
 protein-of-requires : tie.Need-protein-of-requires Inv-loop μ-loop
 protein-of-requires c κs =
     let a = c .before .before .before .before .before .args in
@@ -33,27 +27,12 @@ protein-of-requires c κs =
     let e : getD (l .w) (l .i) 0 ≡ getD (a .w .now) (l .i) 0 = l .inv .2 .after (l .i) (omega arith) in
     subst (λ (x : ℕ). 16 * x + 16 ≤ length (a .digests .now)) (sym e) (c .before .before .before .before .before .pre .2 (l .i) (l .inv .0) (omega arith))
 
-mul-w : tie.Need-mul-w Inv-loop μ-loop
-mul-w c = search needs
-
-slice-write-w : tie.Need-slice-write-w Inv-loop μ-loop
-slice-write-w c = search needs
-
-add-i : tie.Need-add-i Inv-loop μ-loop
-add-i c = search needs
-
-loop-less : tie.Need-loop-less Inv-loop μ-loop
-loop-less c = search needs
-
 loop-again : tie.Need-loop-again Inv-loop μ-loop
 loop-again c =
     let a = c .before .before .before .before .before .before .args in
     let l = c .before .before .before .loop in
     let r = l .inv .2 in
     (omega arith, omega arith, rw (c .protein-of .ensures) (replaced-more (λ (x : ℕ). protein (digestAt (a .digests .now) x)) (a .w .now) (l .w) (a .lo) (l .i) (l .inv .0) (omega (arith, r .same-length, c .before .before .before .before .before .before .pre .1)) r))
-
-same-length : tie.Need-same-length Inv-loop μ-loop
-same-length c = search needs
 
 returns : tie.Need-returns Inv-loop μ-loop
 returns c =
@@ -64,18 +43,6 @@ returns c =
 
 pub take-proteins-spec : {M : Type 1} → statement M
 take-proteins-spec =
-    tie.close
-    (tie.spec
-    Inv-loop
-    μ-loop
-    loop-holds
-    mul-protein-of
-    slice-read-protein-of
-    protein-of-requires
-    mul-w
-    slice-write-w
-    add-i
-    loop-less
-    loop-again
-    same-length
+    tie.close (tie.spec Inv-loop μ-loop loop-holds (λ c. search needs) (λ c. search needs) protein-of-requires
+    (λ c. search needs) (λ c. search needs) (λ c. search needs) (λ c. search needs) loop-again (λ c. search needs)
     returns)

@@ -42,15 +42,6 @@ spelled-requires c κs =
     let n : 16 * i + 16 - 16 * i ≡ 16 = omega arith in
     rw n (c .before .before .before .before .before .before .before .pre .0 .inside i (omega arith))
 
-put-spelling-requires : tie.Need-put-spelling-requires Inv-loop μ-loop
-put-spelling-requires c κs = search needs
-
-add-i : tie.Need-add-i Inv-loop μ-loop
-add-i c = search needs
-
-loop-less : tie.Need-loop-less Inv-loop μ-loop
-loop-less c = search needs
-
 loop-again : tie.Need-loop-again Inv-loop μ-loop
 loop-again c =
     let a = c .before .before .before .before .before .before .before .before .before .before .before .before .args in
@@ -59,9 +50,6 @@ loop-again c =
     let s : c .before .before .before .before .spelled .result ≡ spellingOf (a .bounds .now) (a .letters .now) (digestAt (a .digests .now) (l .i)) = rw n at (c .before .before .before .before .spelled .ensures) in
     let t = tables-more (a .bounds .now) (a .letters .now) (a .digests .now) (a .n) (l .i) (l .w) (omega arith) (omega (arith, c .before .before .before .before .before .before .before .before .before .before .before .before .pre .1, l .inv .0)) (l .inv .2) in
     (rw (c .before .before .put-spelling .ensures) (simp length-set (l .inv .0)), omega arith, rw (c .before .before .put-spelling .ensures, s) t)
-
-same-length : tie.Need-same-length Inv-loop μ-loop
-same-length c = search needs
 
 returns : tie.Need-returns Inv-loop μ-loop
 returns c =
@@ -72,20 +60,6 @@ returns c =
 
 pub spell-all-spec : {M : Type 1} → statement M
 spell-all-spec =
-    tie.close
-    (tie.spec
-    Inv-loop
-    μ-loop
-    loop-holds
-    mul-at
-    add-spelled
-    sub-spelled
-    part-spelled-start
-    part-spelled-end
-    spelled-requires
-    put-spelling-requires
-    add-i
-    loop-less
-    loop-again
-    same-length
-    returns)
+    tie.close (tie.spec Inv-loop μ-loop loop-holds mul-at add-spelled sub-spelled part-spelled-start
+    part-spelled-end spelled-requires (λ c κs. search needs) (λ c. search needs) (λ c. search needs) loop-again
+    (λ c. search needs) returns)

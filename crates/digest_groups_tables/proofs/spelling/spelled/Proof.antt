@@ -17,45 +17,12 @@ use Rattle.digest_groups_tables.proofs.words.word.Reads as word-reads
 use Rattle.records.proofs.byte_at.Reads as byte-at-reads
 use Rattle.records.proofs.u32_at.Reads as u32-at-reads
 
-u32-at-requires : tie.Need-u32-at-requires
-u32-at-requires c κs = search needs
-
-u32-at-requires-2 : tie.Need-u32-at-requires-2
-u32-at-requires-2 c κs = search needs
-
-byte-at-requires : tie.Need-byte-at-requires
-byte-at-requires c κs = search needs
-
-u32-at-requires-3 : tie.Need-u32-at-requires-3
-u32-at-requires-3 c κs = search needs
-
-place-requires : tie.Need-place-requires
-place-requires c κs = search needs
-
-sub-to : tie.Need-sub-to
-sub-to c = search needs
-
-cast-to : tie.Need-cast-to
-cast-to c = search needs
-
 add-to : tie.Need-add-to
 add-to c =
     let d = now (c .before .before .before .before .before .before .before .before .args .digest) in
     let i = c .before .before .before .before .before .before .before .before .pre in
     let p : c .place .result ≡ getD (now (c .before .before .before .before .before .before .before .before .args .bounds)) (numberAt 4 d 12) 0 + numberAt 4 d 0 = cc in
     omega (arith, i .ends, i .rises, i .book .small, c .before .before .before .u32-at2 .ensures, c .before .before .before .before .u32-at .ensures)
-
-byte-at-requires-2 : tie.Need-byte-at-requires-2
-byte-at-requires-2 c κs = search needs
-
-front-requires : tie.Need-front-requires
-front-requires c κs = search needs
-
-sub-word : tie.Need-sub-word
-sub-word c = search needs
-
-part-word-start : tie.Need-part-word-start
-part-word-start c = search needs
 
 part-word-end : tie.Need-part-word-end
 part-word-end c =
@@ -71,9 +38,6 @@ word-requires c κs =
     let p : c .before .before .byte-at2 .result ≡ getD d 10 0 = c .before .before .byte-at2 .ensures in
     let q : c .before .before .before .before .before .byte-at .result ≡ getD d 11 0 = c .before .before .before .before .before .byte-at .ensures in
     (omega (arith, c .before .front .ensures, i .place, i .flag), spelt-range (eqb (c .before .before .before .before .before .byte-at .result) 1) (c .before .before .before .place .result + (c .before .before .before .before .before .before .u32-at2 .result - c .before .before .before .before .before .before .before .u32-at .result) - c .before .before .before .place .result) (c .before .before .before .place .result) (now (c .before .before .before .before .before .before .before .before .before .before .before .args .letters)) (i .book))
-
-size-requires : tie.Need-size-requires
-size-requires c κs = search needs
 
 cast-t12 : tie.Need-cast-t12
 cast-t12 c =
@@ -91,22 +55,7 @@ returns c =
 
 pub spelled-spec : {M : Type 1} → statement M
 spelled-spec =
-    tie.close
-    (tie.spec
-    u32-at-requires
-    u32-at-requires-2
-    byte-at-requires
-    u32-at-requires-3
-    place-requires
-    sub-to
-    cast-to
-    add-to
-    byte-at-requires-2
-    front-requires
-    sub-word
-    part-word-start
-    part-word-end
-    word-requires
-    size-requires
-    cast-t12
-    returns)
+    tie.close (tie.spec (λ c κs. search needs) (λ c κs. search needs) (λ c κs. search needs)
+    (λ c κs. search needs) (λ c κs. search needs) (λ c. search needs) (λ c. search needs) add-to
+    (λ c κs. search needs) (λ c κs. search needs) (λ c. search needs) (λ c. search needs) part-word-end
+    word-requires (λ c κs. search needs) cast-t12 returns)

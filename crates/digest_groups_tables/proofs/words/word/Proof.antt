@@ -8,24 +8,6 @@ use Rattle.digest_groups_tables.proofs.words.word.Statement.{statement}
 use Rattle.digest_groups_tables.proofs.words.word.Tie as tie
 use Rattle.digest_groups_tables.proofs.words.next.Reads as next-reads
 
-next-requires : tie.Need-next-requires
-next-requires c κs = search needs
-
-next-requires-2 : tie.Need-next-requires-2
-next-requires-2 c κs = search needs
-
-next-requires-3 : tie.Need-next-requires-3
-next-requires-3 c κs = search needs
-
-next-requires-4 : tie.Need-next-requires-4
-next-requires-4 c κs = search needs
-
-next-requires-5 : tie.Need-next-requires-5
-next-requires-5 c κs = search needs
-
-next-requires-6 : tie.Need-next-requires-6
-next-requires-6 c κs = search needs
-
 cast-result : tie.Need-cast-result
 cast-result c = let a = c .before .before .before .before .before .before .before .args in omega (arith, six (lettersOf (a .decoy) (now (a .part))) (a .front) (c .before .before .before .before .before .next .result) (c .before .before .before .before .next2 .result) (c .before .before .before .next3 .result) (c .before .before .next4 .result) (c .before .next5 .result) (c .next6 .result) (c .before .before .before .before .before .next .ensures .0) (c .before .before .before .before .next2 .ensures .0) (c .before .before .before .next3 .ensures .0) (c .before .before .next4 .ensures .0) (c .before .next5 .ensures .0) (c .next6 .ensures .0), word-small (a .front) (lettersOf (a .decoy) (now (a .part))) (c .before .before .before .before .before .before .before .pre .1) (c .before .before .before .before .before .before .before .pre .0))
 
@@ -34,13 +16,5 @@ returns c = let a = c .before .before .before .before .before .before .before .a
 
 pub word-spec : {M : Type 1} → statement M
 word-spec =
-    tie.close
-    (tie.spec
-    next-requires
-    next-requires-2
-    next-requires-3
-    next-requires-4
-    next-requires-5
-    next-requires-6
-    cast-result
-    returns)
+    tie.close (tie.spec (λ c κs. search needs) (λ c κs. search needs) (λ c κs. search needs)
+    (λ c κs. search needs) (λ c κs. search needs) (λ c κs. search needs) cast-result returns)

@@ -6,35 +6,16 @@ use borrow.Author.Needs.{needs}
 use Rattle.enzyme.proofs.digesting.digest.Statement.{statement}
 use Rattle.enzyme.proofs.digesting.digest.Tie as tie
 
-tested-requires : tie.Need-tested-requires
-tested-requires c κs = search needs
-
-enum-known-found : tie.Need-enum-known-found
-enum-known-found c = search needs
-
-enum-told : tie.Need-enum-told
-enum-told c = search needs
-
 digest-passed-requires : tie.Need-digest-passed-requires
 digest-passed-requires c κs = let a = c .before .before .before .before .before .before .args in passed-sizes (now (a .letters)) (a .alphabet) (a .enzyme) (a .settings) (sym (c .before .before .before .tested .ensures) ∙ c .before .enum-told .given .1)
 
 returns : tie.Need-returns
 returns c = rw (sym (c .before .before .before .tested .ensures) ∙ c .before .found .given .1)
 
-same-length : tie.Need-same-length
-same-length c = search needs
-
 returns-2 : tie.Need-returns-2
 returns-2 c = rw (sym (c .before .before .before .before .before .before .tested .ensures) ∙ c .before .before .before .before .enum-told .given .1) (c .before .before .digest-passed .ensures)
 
 pub digest-spec : {M : Type 1} → statement M
 digest-spec =
-    tie.close
-    (tie.spec
-    tested-requires
-    enum-known-found
-    enum-told
-    digest-passed-requires
-    returns
-    same-length
-    returns-2)
+    tie.close (tie.spec (λ c κs. search needs) (λ c. search needs) (λ c. search needs) digest-passed-requires
+    returns (λ c. search needs) returns-2)

@@ -13,9 +13,6 @@ Inv-loop letters₀ i₀ j₀ letters i j = Flipped letters₀ i j letters
 abbrev μ-loop : tie.MeasureT-loop
 μ-loop letters₀ i₀ j₀ letters i j = j
 
-sub-j : tie.Need-sub-j Inv-loop μ-loop
-sub-j c = search needs
-
 loop-holds : tie.Need-loop-holds Inv-loop μ-loop
 loop-holds c = flipped-start (now (c .args .letters)) (c .pre)
 
@@ -54,20 +51,5 @@ returns c = let l = c .before .loop in flipped-end (now (c .before .before .args
 
 pub flip-spec : {M : Type 1} → statement M
 flip-spec =
-    tie.close
-    (tie.spec
-    Inv-loop
-    μ-loop
-    sub-j
-    loop-holds
-    add-loop
-    sub-k
-    slice-read-low
-    slice-read-high
-    slice-write-letters
-    slice-write-letters-2
-    add-i
-    loop-less
-    loop-again
-    same-length
-    returns)
+    tie.close (tie.spec Inv-loop μ-loop (λ c. search needs) loop-holds add-loop sub-k slice-read-low
+    slice-read-high slice-write-letters slice-write-letters-2 add-i loop-less loop-again same-length returns)

@@ -8,9 +8,6 @@ use Rattle.enzyme.proofs.reversal.record_tested.Tie as tie
 returns : tie.Need-returns
 returns c = rw (ne-eqb _ _ (c .if1 .taken))
 
-is-good-requires : tie.Need-is-good-requires
-is-good-requires c κs = search needs
-
 returns-2 : tie.Need-returns-2
 returns-2 c = rw (eq-eqb _ _ (c .before .before .if1 .left), sym (c .before .is-good .ensures) ∙ c .if2 .taken)
 
@@ -18,4 +15,4 @@ returns-3 : tie.Need-returns-3
 returns-3 c = rw (eq-eqb _ _ (c .before .before .if1 .left), sym (c .before .is-good .ensures) ∙ c .if2 .left)
 
 pub record-tested-spec : {M : Type 1} → statement M
-record-tested-spec = tie.close (tie.spec returns is-good-requires returns-2 returns-3)
+record-tested-spec = tie.close (tie.spec returns (λ c κs. search needs) returns-2 returns-3)

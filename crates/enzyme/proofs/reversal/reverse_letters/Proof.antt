@@ -6,39 +6,16 @@ use borrow.Author.Needs.{needs}
 use Rattle.enzyme.proofs.reversal.reverse_letters.Statement.{statement}
 use Rattle.enzyme.proofs.reversal.reverse_letters.Tie as tie
 
-stretch-tested-requires : tie.Need-stretch-tested-requires
-stretch-tested-requires c κs = search needs
-
-enum-known-found : tie.Need-enum-known-found
-enum-known-found c = search needs
-
-enum-told : tie.Need-enum-told
-enum-told c = search needs
-
 flip-requires : tie.Need-flip-requires
 flip-requires c κs = stretch-passed (now (c .before .before .before .before .before .before .args .letters)) (sym (c .before .before .before .stretch-tested .ensures) ∙ c .before .enum-told .given .1)
 
-same-length : tie.Need-same-length
-same-length c = search needs
-
 returns : tie.Need-returns
 returns c = rw (sym (c .before .before .before .stretch-tested .ensures) ∙ c .before .found .given .1)
-
-same-length-2 : tie.Need-same-length-2
-same-length-2 c = search needs
 
 returns-2 : tie.Need-returns-2
 returns-2 c = rw (sym (c .before .before .before .before .before .before .stretch-tested .ensures) ∙ c .before .before .before .before .enum-told .given .1, c .before .before .flip .ensures)
 
 pub reverse-letters-spec : {M : Type 1} → statement M
 reverse-letters-spec =
-    tie.close
-    (tie.spec
-    stretch-tested-requires
-    enum-known-found
-    enum-told
-    flip-requires
-    same-length
-    returns
-    same-length-2
-    returns-2)
+    tie.close (tie.spec (λ c κs. search needs) (λ c. search needs) (λ c. search needs) flip-requires
+    (λ c. search needs) returns (λ c. search needs) returns-2)

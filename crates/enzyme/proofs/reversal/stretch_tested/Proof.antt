@@ -13,9 +13,6 @@ use Rattle.enzyme.proofs.reversal.stretch_tested.Tie as tie
 returns : tie.Need-returns
 returns c = rw (c .if1 .taken)
 
-first-bad-requires : tie.Need-first-bad-requires
-first-bad-requires c κs = search needs
-
 returns-2 : tie.Need-returns-2
 returns-2 c = let g : ltb (firstBad (now (c .before .before .before .before .args .letters))) (length (now (c .before .before .before .before .args .letters))) ≡ true = rw (c .before .first-bad .ensures) at (lt-ltb _ _ (c .if2 .taken)) in
     rw (c .before .before .if1 .left, g, c .before .first-bad .ensures)
@@ -25,4 +22,4 @@ returns-3 c = let g : ltb (firstBad (now (c .before .before .before .before .arg
     rw (c .before .before .if1 .left, g)
 
 pub stretch-tested-spec : {M : Type 1} → statement M
-stretch-tested-spec = tie.close (tie.spec returns first-bad-requires returns-2 returns-3)
+stretch-tested-spec = tie.close (tie.spec returns (λ c κs. search needs) returns-2 returns-3)

@@ -16,30 +16,6 @@ range c =
     let p = spelling-passed (now (c .before .before .before .before .before .before .before .before .before .args .letters)) (now (c .before .before .before .before .before .before .before .before .before .args .bytes)) (sym (c .before .before .before .before .before .spelling-tested .ensures) ∙ c .before .before .before .enum-told .given .1) in
     rw (c .before .before .u32-at .ensures, c .before .u32-at2 .ensures) (p .1, p .2)
 
-spelling-tested-requires : tie.Need-spelling-tested-requires
-spelling-tested-requires c κs = search needs
-
-enum-known-found : tie.Need-enum-known-found
-enum-known-found c = search needs
-
-enum-told : tie.Need-enum-told
-enum-told c = search needs
-
-u32-at-requires : tie.Need-u32-at-requires
-u32-at-requires c κs = search needs
-
-cast-start : tie.Need-cast-start
-cast-start c = search needs
-
-u32-at-requires-2 : tie.Need-u32-at-requires-2
-u32-at-requires-2 c κs = search needs
-
-cast-end : tie.Need-cast-end
-cast-end c = search needs
-
-byte-at-requires : tie.Need-byte-at-requires
-byte-at-requires c κs = search needs
-
 sub-spell : tie.Need-sub-spell
 sub-spell c = range c .0
 
@@ -57,28 +33,11 @@ spell-requires c κs = let s = spelling-passed (now (c .before .before .before .
 returns : tie.Need-returns
 returns c = rw (sym (c .before .before .before .spelling-tested .ensures) ∙ c .before .found .given .1)
 
-same-length : tie.Need-same-length
-same-length c = search needs
-
 returns-2 : tie.Need-returns-2
 returns-2 c = rw (sym (c .before .before .before .before .before .before .before .before .before .before .spelling-tested .ensures) ∙ c .before .before .before .before .before .before .before .before .enum-told .given .1) (rw (c .before .before .before .before .before .before .before .u32-at .ensures, c .before .before .before .before .before .before .u32-at2 .ensures, c .before .before .before .before .before .byte-at .ensures) at (c .before .before .spell .ensures))
 
 pub digest-letters-spec : {M : Type 1} → statement M
 digest-letters-spec =
-    tie.close
-    (tie.spec
-    spelling-tested-requires
-    enum-known-found
-    enum-told
-    u32-at-requires
-    cast-start
-    u32-at-requires-2
-    cast-end
-    byte-at-requires
-    sub-spell
-    part-spell-start
-    part-spell-end
-    spell-requires
-    returns
-    same-length
-    returns-2)
+    tie.close (tie.spec (λ c κs. search needs) (λ c. search needs) (λ c. search needs) (λ c κs. search needs)
+    (λ c. search needs) (λ c κs. search needs) (λ c. search needs) (λ c κs. search needs) sub-spell
+    part-spell-start part-spell-end spell-requires returns (λ c. search needs) returns-2)

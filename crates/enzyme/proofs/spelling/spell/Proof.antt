@@ -19,9 +19,6 @@ Inv-loop part decoy out₀ room i₀ out i = (room ≡ roomOf 1 65536 out₀) ×
 abbrev μ-loop : tie.MeasureT-loop
 μ-loop part decoy out₀ room i₀ out i = length part - i
 
-room-for-requires : tie.Need-room-for-requires Inv-loop μ-loop
-room-for-requires c κs = search needs
-
 loop-holds : tie.Need-loop-holds Inv-loop μ-loop
 loop-holds c = (c .room-for .ensures, refl, spelling-start (now (c .before .before .before .args .out)) (lettersOf (c .before .before .before .args .decoy) (now (c .before .before .before .args .part))))
 
@@ -33,9 +30,6 @@ returns c = let a = c .before .before .before .before .before .before .args in
     let l = c .before .before .loop in
     let n = length-letters (a .decoy) (now (a .part)) in
     spelling-full (now (a .out)) (lettersOf (a .decoy) (now (a .part))) (l .i) (l .out) (l .inv .2) (omega arith) (omega (arith, c .if1 .taken, l .inv .0))
-
-letter-at-requires : tie.Need-letter-at-requires Inv-loop μ-loop
-letter-at-requires c κs = search needs
 
 slice-write-out : tie.Need-slice-write-out Inv-loop μ-loop
 slice-write-out c = let l = c .before .before .before .loop in omega (arith, l .inv .0, min-le-left (length (now (c .before .before .before .before .before .before .before .args .out)) / 1) 65536)
@@ -66,19 +60,5 @@ returns-2 c = let a = c .before .before .before .before .before .args in
 
 pub spell-spec : {M : Type 1} → statement M
 spell-spec =
-    tie.close
-    (tie.spec
-    Inv-loop
-    μ-loop
-    room-for-requires
-    loop-holds
-    same-length
-    returns
-    letter-at-requires
-    slice-write-out
-    add-i
-    loop-less
-    loop-again
-    cast-count
-    same-length-2
-    returns-2)
+    tie.close (tie.spec Inv-loop μ-loop (λ c κs. search needs) loop-holds same-length returns
+    (λ c κs. search needs) slice-write-out add-i loop-less loop-again cast-count same-length-2 returns-2)

@@ -16,21 +16,9 @@ returns c = rw (lt-ltb _ _ (c .if1 .taken))
 returns-2 : tie.Need-returns-2
 returns-2 c = rw (le-ltb _ _ (c .before .if1 .left), ne-eqb _ _ (c .if2 .taken))
 
-first-bad-requires : tie.Need-first-bad-requires
-first-bad-requires c κs = search needs
-
 returns-3 : tie.Need-returns-3
 returns-3 c = let g : ltb (firstBad (now (c .before .before .before .before .before .before .args .letters))) (length (now (c .before .before .before .before .before .before .args .letters))) ≡ true = rw (c .before .first-bad .ensures) at (lt-ltb _ _ (c .if3 .taken)) in
     rw (le-ltb _ _ (c .before .before .before .if1 .left), eq-eqb _ _ (c .before .before .if2 .left), g, c .before .first-bad .ensures)
-
-u32-at-requires : tie.Need-u32-at-requires
-u32-at-requires c κs = search needs
-
-cast-end : tie.Need-cast-end
-cast-end c = search needs
-
-is-good-requires : tie.Need-is-good-requires
-is-good-requires c κs = search needs
 
 returns-4 : tie.Need-returns-4
 returns-4 c = let g : ltb (firstBad (now (c .before .before .before .before .before .before .before .before .before .args .letters))) (length (now (c .before .before .before .before .before .before .before .before .before .args .letters))) ≡ false = rw (c .before .before .before .before .first-bad .ensures) at (le-ltb _ _ (c .before .before .before .if3 .left)) in
@@ -44,14 +32,5 @@ returns-5 c = let g : ltb (firstBad (now (c .before .before .before .before .bef
 
 pub spelling-tested-spec : {M : Type 1} → statement M
 spelling-tested-spec =
-    tie.close
-    (tie.spec
-    returns
-    returns-2
-    first-bad-requires
-    returns-3
-    u32-at-requires
-    cast-end
-    is-good-requires
-    returns-4
-    returns-5)
+    tie.close (tie.spec returns returns-2 (λ c κs. search needs) returns-3 (λ c κs. search needs)
+    (λ c. search needs) (λ c κs. search needs) returns-4 returns-5)

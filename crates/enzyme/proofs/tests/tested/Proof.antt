@@ -11,21 +11,12 @@ use borrow.Author.Needs.{needs}
 use Rattle.enzyme.proofs.tests.tested.Statement.{statement}
 use Rattle.enzyme.proofs.tests.tested.Tie as tie
 
-too-large-requires : tie.Need-too-large-requires
-too-large-requires c κs = search needs
-
 returns : tie.Need-returns
 returns c = let a = c .before .before .before .args in
     refused-size (now (a .letters)) (a .alphabet) (a .enzyme) (a .settings) (sym (c .before .too-large .ensures) ∙ c .if1 .taken)
 
-bad-sets-requires : tie.Need-bad-sets-requires
-bad-sets-requires c κs = search needs
-
 returns-2 : tie.Need-returns-2
 returns-2 c = rw (sym (c .before .before .before .too-large .ensures) ∙ c .before .before .if1 .left, sym (c .before .bad-sets .ensures) ∙ c .if2 .taken)
-
-first-bad-requires : tie.Need-first-bad-requires
-first-bad-requires c κs = search needs
 
 returns-3 : tie.Need-returns-3
 returns-3 c = let g : ltb (firstBad (now (c .before .before .before .before .before .before .before .args .letters))) (length (now (c .before .before .before .before .before .before .before .args .letters))) ≡ true = rw (c .before .first-bad .ensures) at (lt-ltb _ _ (c .if3 .taken)) in
@@ -37,12 +28,5 @@ returns-4 c = let g : ltb (firstBad (now (c .before .before .before .before .bef
 
 pub tested-spec : {M : Type 1} → statement M
 tested-spec =
-    tie.close
-    (tie.spec
-    too-large-requires
-    returns
-    bad-sets-requires
-    returns-2
-    first-bad-requires
-    returns-3
-    returns-4)
+    tie.close (tie.spec (λ c κs. search needs) returns (λ c κs. search needs) returns-2 (λ c κs. search needs)
+    returns-3 returns-4)

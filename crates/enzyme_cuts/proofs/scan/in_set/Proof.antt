@@ -7,12 +7,6 @@ use borrow.Author.Needs.{needs}
 use Rattle.enzyme_cuts.proofs.scan.in_set.Statement.{statement}
 use Rattle.enzyme_cuts.proofs.scan.in_set.Tie as tie
 
-shared-slice-read-contains : tie.Need-shared-slice-read-contains
-shared-slice-read-contains c = search needs
-
-contains-requires : tie.Need-contains-requires
-contains-requires c κs = search needs
-
 returns : tie.Need-returns
 returns c = let a = c .before .before .before .before .args in c .contains .ensures ∙ sym (starts-at (a .set) (now (a .letters)) (a .i) (omega arith))
 
@@ -20,4 +14,4 @@ returns-2 : tie.Need-returns-2
 returns-2 c = let a = c .before .before .args in sym (starts-end (a .set) (now (a .letters)) (a .i) (omega arith))
 
 pub in-set-spec : {M : Type 1} → statement M
-in-set-spec = tie.close (tie.spec shared-slice-read-contains contains-requires returns returns-2)
+in-set-spec = tie.close (tie.spec (λ c. search needs) (λ c κs. search needs) returns returns-2)

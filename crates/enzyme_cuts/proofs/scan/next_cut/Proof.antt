@@ -21,21 +21,6 @@ abbrev μ-loop : tie.MeasureT-loop
 loop-holds : tie.Need-loop-holds Inv-loop μ-loop
 loop-holds c = refl
 
-add-next : tie.Need-add-next Inv-loop μ-loop
-add-next c = search needs
-
-shared-slice-read-cleaves : tie.Need-shared-slice-read-cleaves Inv-loop μ-loop
-shared-slice-read-cleaves c = search needs
-
-cleaves-requires : tie.Need-cleaves-requires Inv-loop μ-loop
-cleaves-requires c κs = search needs
-
-cut-of-requires : tie.Need-cut-of-requires Inv-loop μ-loop
-cut-of-requires c κs = search needs
-
-spares-requires : tie.Need-spares-requires Inv-loop μ-loop
-spares-requires c κs = search needs
-
 loop-less : tie.Need-loop-less Inv-loop μ-loop
 loop-less c = omega arith
 
@@ -69,19 +54,5 @@ returns-2 c = let a = c .before .before .before .args in
 
 pub next-cut-spec : {M : Type 1} → statement M
 next-cut-spec =
-    tie.close
-    (tie.spec
-    Inv-loop
-    μ-loop
-    loop-holds
-    add-next
-    shared-slice-read-cleaves
-    cleaves-requires
-    cut-of-requires
-    spares-requires
-    loop-less
-    loop-again
-    returns
-    loop-less-2
-    loop-again-2
-    returns-2)
+    tie.close (tie.spec Inv-loop μ-loop loop-holds (λ c. search needs) (λ c. search needs) (λ c κs. search needs)
+    (λ c κs. search needs) (λ c κs. search needs) loop-less loop-again returns loop-less-2 loop-again-2 returns-2)

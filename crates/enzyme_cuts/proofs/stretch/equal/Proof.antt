@@ -21,12 +21,6 @@ returns c = sym (same-short (now (c .before .before .before .args .a)) (now (c .
 loop-holds : tie.Need-loop-holds Inv-loop μ-loop
 loop-holds c = (c .if1 .left, λ j h. absurd (omega arith))
 
-u32-at-requires : tie.Need-u32-at-requires Inv-loop μ-loop
-u32-at-requires c κs = search needs
-
-u32-at-requires-2 : tie.Need-u32-at-requires-2 Inv-loop μ-loop
-u32-at-requires-2 c κs = search needs
-
 returns-2 : tie.Need-returns-2 Inv-loop μ-loop
 returns-2 c = let a = c .before .before .before .before .before .before .before .before .args in sym (same-stop (now (a .a)) (now (a .b)) (c .before .before .before .before .loop .i) (λ e. c .if2 .taken (c .before .before .u32-at .ensures ∙ e ∙ sym (c .before .u32-at2 .ensures))))
 
@@ -48,16 +42,5 @@ returns-3 c = let a = c .before .before .before .before .before .args in
 
 pub equal-spec : {M : Type 1} → statement M
 equal-spec =
-    tie.close
-    (tie.spec
-    Inv-loop
-    μ-loop
-    returns
-    loop-holds
-    u32-at-requires
-    u32-at-requires-2
-    returns-2
-    add-i
-    loop-less
-    loop-again
-    returns-3)
+    tie.close (tie.spec Inv-loop μ-loop returns loop-holds (λ c κs. search needs) (λ c κs. search needs) returns-2
+    add-i loop-less loop-again returns-3)

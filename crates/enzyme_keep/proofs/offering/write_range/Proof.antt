@@ -12,25 +12,10 @@ use Rattle.enzyme_keep.proofs.offering.write_range.Tie as tie
 returns : tie.Need-returns
 returns c = let f : c .before .before .args .wanted ≡ false = not-true _ (c .if1 .taken) in rw f
 
-room-for-requires : tie.Need-room-for-requires
-room-for-requires c κs = search needs
-
 returns-2 : tie.Need-returns-2
 returns-2 c = let s = c .before .before .before .before in
     let f : s .args .wanted ≡ true = not-false _ (c .before .before .if1 .left) in
     rw (f, le-ltb (s .args .count) (room (now (s .args .out))) (omega arith))
-
-mul-put-record : tie.Need-mul-put-record
-mul-put-record c = search needs
-
-put-record-requires : tie.Need-put-record-requires
-put-record-requires c κs = search needs
-
-add-next : tie.Need-add-next
-add-next c = search needs
-
-same-length : tie.Need-same-length
-same-length c = search needs
 
 returns-3 : tie.Need-returns-3
 returns-3 c = let s = c .before .before .before .before .before .before .before .before in
@@ -39,13 +24,5 @@ returns-3 c = let s = c .before .before .before .before .before .before .before 
 
 pub write-range-spec : {M : Type 1} → statement M
 write-range-spec =
-    tie.close
-    (tie.spec
-    returns
-    room-for-requires
-    returns-2
-    mul-put-record
-    put-record-requires
-    add-next
-    same-length
-    returns-3)
+    tie.close (tie.spec returns (λ c κs. search needs) returns-2 (λ c. search needs) (λ c κs. search needs)
+    (λ c. search needs) (λ c. search needs) returns-3)

@@ -8,29 +8,14 @@ use borrow.Author.Needs.{needs}
 use Rattle.enzyme_keep.proofs.record.put_marks.Statement.{statement}
 use Rattle.enzyme_keep.proofs.record.put_marks.Tie as tie
 
-slice-write-out : tie.Need-slice-write-out
-slice-write-out c = search needs
-
-add-out : tie.Need-add-out
-add-out c = search needs
-
 slice-write-out-2 : tie.Need-slice-write-out-2
 slice-write-out-2 c = simp length-set (omega arith)
-
-add-out-2 : tie.Need-add-out-2
-add-out-2 c = search needs
 
 slice-write-out-3 : tie.Need-slice-write-out-3
 slice-write-out-3 c = simp length-set (omega arith)
 
-add-out-3 : tie.Need-add-out-3
-add-out-3 c = search needs
-
 slice-write-out-4 : tie.Need-slice-write-out-4
 slice-write-out-4 c = simp length-set (omega arith)
-
-same-length : tie.Need-same-length
-same-length c = search needs
 
 returns : tie.Need-returns
 returns c = let at = c .args .at in
@@ -40,14 +25,5 @@ returns c = let at = c .args .at in
 
 pub put-marks-spec : {M : Type 1} → statement M
 put-marks-spec =
-    tie.close
-    (tie.spec
-    slice-write-out
-    add-out
-    slice-write-out-2
-    add-out-2
-    slice-write-out-3
-    add-out-3
-    slice-write-out-4
-    same-length
-    returns)
+    tie.close (tie.spec (λ c. search needs) (λ c. search needs) slice-write-out-2 (λ c. search needs)
+    slice-write-out-3 (λ c. search needs) slice-write-out-4 (λ c. search needs) returns)

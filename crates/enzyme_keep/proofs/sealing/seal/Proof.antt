@@ -24,9 +24,6 @@ mul-put-u32 c = omega arith
 add-put-u32 : tie.Need-add-put-u32 Inv-loop μ-loop
 add-put-u32 c = omega arith
 
-put-u32-requires : tie.Need-put-u32-requires Inv-loop μ-loop
-put-u32-requires c κs = search needs
-
 add-k : tie.Need-add-k Inv-loop μ-loop
 add-k c = omega arith
 
@@ -44,16 +41,5 @@ returns c = let e : c .before .loop .k ≡ c .before .before .before .args .coun
 
 pub seal-spec : {M : Type 1} → statement M
 seal-spec =
-    tie.close
-    (tie.spec
-    Inv-loop
-    μ-loop
-    loop-holds
-    mul-put-u32
-    add-put-u32
-    put-u32-requires
-    add-k
-    loop-less
-    loop-again
-    same-length
-    returns)
+    tie.close (tie.spec Inv-loop μ-loop loop-holds mul-put-u32 add-put-u32 (λ c κs. search needs) add-k loop-less
+    loop-again same-length returns)

@@ -13,27 +13,6 @@ ok : (c : tie.After-u32-at2) → (c .before .u32-at .result ≤ c .u32-at2 .resu
 ok c = let a = c .before .before .before .before .args in
     read-inside (a .count) (now (a .out)) (a .j) _ _ (c .before .before .before .before .pre .2) (c .before .u32-at .ensures) (c .u32-at2 .ensures) (length (now (a .letters))) (c .before .before .before .before .pre .1)
 
-mul-u32-at : tie.Need-mul-u32-at
-mul-u32-at c = search needs
-
-u32-at-requires : tie.Need-u32-at-requires
-u32-at-requires c κs = search needs
-
-cast-start : tie.Need-cast-start
-cast-start c = search needs
-
-mul-u32-at-2 : tie.Need-mul-u32-at-2
-mul-u32-at-2 c = search needs
-
-add-u32-at : tie.Need-add-u32-at
-add-u32-at c = search needs
-
-u32-at-requires-2 : tie.Need-u32-at-requires-2
-u32-at-requires-2 c κs = search needs
-
-cast-end : tie.Need-cast-end
-cast-end c = search needs
-
 sub-order : tie.Need-sub-order
 sub-order c = ok c .0
 
@@ -43,18 +22,6 @@ part-order-start c = ok c .0
 part-order-end : tie.Need-part-order-end
 part-order-end c = ok c .1
 
-sub-order-2 : tie.Need-sub-order-2
-sub-order-2 c = search needs
-
-part-order-start-2 : tie.Need-part-order-start-2
-part-order-start-2 c = search needs
-
-part-order-end-2 : tie.Need-part-order-end-2
-part-order-end-2 c = search needs
-
-order-requires : tie.Need-order-requires
-order-requires c κs = search needs
-
 returns : tie.Need-returns
 returns c = let a = c .before .before .before .before .before .before .before .args in
     let r = range-read (a .count) (now (a .out)) (a .j) (c .before .before .before .before .before .before .before .pre .2) in
@@ -62,20 +29,6 @@ returns c = let a = c .before .before .before .before .before .before .before .a
 
 pub order-at-spec : {M : Type 1} → statement M
 order-at-spec =
-    tie.close
-    (tie.spec
-    mul-u32-at
-    u32-at-requires
-    cast-start
-    mul-u32-at-2
-    add-u32-at
-    u32-at-requires-2
-    cast-end
-    sub-order
-    part-order-start
-    part-order-end
-    sub-order-2
-    part-order-start-2
-    part-order-end-2
-    order-requires
-    returns)
+    tie.close (tie.spec (λ c. search needs) (λ c κs. search needs) (λ c. search needs) (λ c. search needs)
+    (λ c. search needs) (λ c κs. search needs) (λ c. search needs) sub-order part-order-start part-order-end
+    (λ c. search needs) (λ c. search needs) (λ c. search needs) (λ c κs. search needs) returns)

@@ -12,25 +12,11 @@ use Rattle.enzyme_list.proofs.walk.behind.Tie as tie
 returns : tie.Need-returns
 returns c = let a = c .before .before .args in sym (next-first (linksIn (a .count) (now (a .out))) (a .head) (a .p) (c .if1 .taken))
 
-sub-at : tie.Need-sub-at
-sub-at c = search needs
-
-mul-u32-at : tie.Need-mul-u32-at
-mul-u32-at c = search needs
-
-add-u32-at : tie.Need-add-u32-at
-add-u32-at c = search needs
-
-u32-at-requires : tie.Need-u32-at-requires
-u32-at-requires c κs = search needs
-
-cast-result : tie.Need-cast-result
-cast-result c = search needs
-
 returns-2 : tie.Need-returns-2
 returns-2 c = let a = c .before .before .before .args in
     c .u32-at .ensures ∙ sym (link-read (a .count) (now (a .out)) _ (omega arith)) ∙ sym (next-link (linksIn (a .count) (now (a .out))) (a .head) (a .p) (c .before .if1 .left))
 
 pub behind-spec : {M : Type 1} → statement M
 behind-spec =
-    tie.close (tie.spec returns sub-at mul-u32-at add-u32-at u32-at-requires cast-result returns-2)
+    tie.close (tie.spec returns (λ c. search needs) (λ c. search needs) (λ c. search needs) (λ c κs. search needs)
+    (λ c. search needs) returns-2)

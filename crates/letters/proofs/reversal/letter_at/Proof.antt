@@ -9,21 +9,6 @@ use Rattle.letters.proofs.reversal.letter_at.Tie as tie
 returns : tie.Need-returns
 returns c = let a = c .before .args in sym (letter-past (a .decoy) (now (a .part)) (a .i) (c .if1 .taken))
 
-add-if2 : tie.Need-add-if2
-add-if2 c = search needs
-
-sub-result : tie.Need-sub-result
-sub-result c = search needs
-
-sub-result-2 : tie.Need-sub-result-2
-sub-result-2 c = search needs
-
-shared-slice-read-result : tie.Need-shared-slice-read-result
-shared-slice-read-result c = search needs
-
-shared-slice-read-result-2 : tie.Need-shared-slice-read-result-2
-shared-slice-read-result-2 c = search needs
-
 returns-2 : tie.Need-returns-2
 returns-2 c = let a = c .before .before .before .args in sym (letter-inner (a .decoy) (now (a .part)) (a .i) (c .before .if2 .taken))
 
@@ -32,13 +17,5 @@ returns-3 c = let a = c .before .before .before .args in sym (letter-outer (a .d
 
 pub letter-at-spec : {M : Type 1} → statement M
 letter-at-spec =
-    tie.close
-    (tie.spec
-    returns
-    add-if2
-    sub-result
-    sub-result-2
-    shared-slice-read-result
-    shared-slice-read-result-2
-    returns-2
-    returns-3)
+    tie.close (tie.spec returns (λ c. search needs) (λ c. search needs) (λ c. search needs) (λ c. search needs)
+    (λ c. search needs) returns-2 returns-3)

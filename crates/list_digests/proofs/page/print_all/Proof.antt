@@ -11,9 +11,6 @@ Inv-loop out count n k₀ k = n ≤ 1048576
 abbrev μ-loop : tie.MeasureT-loop
 μ-loop out count n k₀ k = n - k
 
-capped-requires : tie.Need-capped-requires Inv-loop μ-loop
-capped-requires c κs = search needs
-
 loop-holds : tie.Need-loop-holds Inv-loop μ-loop
 loop-holds c = c .capped .ensures
 
@@ -32,20 +29,7 @@ loop-less c = omega arith
 loop-again : tie.Need-loop-again Inv-loop μ-loop
 loop-again c = omega arith
 
-returns : tie.Need-returns Inv-loop μ-loop
-returns c = search needs
-
 pub print-all-spec : {M : Type 1} → statement M
 print-all-spec =
-    tie.close
-    (tie.spec
-    Inv-loop
-    μ-loop
-    capped-requires
-    loop-holds
-    mul-print-record
-    print-record-requires
-    add-k
-    loop-less
-    loop-again
-    returns)
+    tie.close (tie.spec Inv-loop μ-loop (λ c κs. search needs) loop-holds mul-print-record print-record-requires
+    add-k loop-less loop-again (λ c. search needs))

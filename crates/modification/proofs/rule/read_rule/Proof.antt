@@ -6,26 +6,11 @@ use borrow.Author.Needs.{needs}
 use Rattle.modification.proofs.rule.read_rule.Statement.{statement}
 use Rattle.modification.proofs.rule.read_rule.Tie as tie
 
-test-length-requires : tie.Need-test-length-requires
-test-length-requires c κs = search needs
-
-enum-known-why : tie.Need-enum-known-why
-enum-known-why c = search needs
-
 returns : tie.Need-returns
 returns c =
     let a = c .before .before .before .before .before .args in
     let t = c .before .before .before .test-length in
     read-refused (now (a .rules)) (a .r) (t .result) (t .ensures) _ (c .before .why .given .1)
-
-enum-told : tie.Need-enum-told
-enum-told c = search needs
-
-is-good-requires : tie.Need-is-good-requires
-is-good-requires c κs = search needs
-
-rule-at-requires : tie.Need-rule-at-requires
-rule-at-requires c κs = search needs
 
 returns-2 : tie.Need-returns-2
 returns-2 c =
@@ -49,14 +34,5 @@ returns-4 c =
 
 pub read-rule-spec : {M : Type 1} → statement M
 read-rule-spec =
-    tie.close
-    (tie.spec
-    test-length-requires
-    enum-known-why
-    returns
-    enum-told
-    is-good-requires
-    rule-at-requires
-    returns-2
-    returns-3
-    returns-4)
+    tie.close (tie.spec (λ c κs. search needs) (λ c. search needs) returns (λ c. search needs)
+    (λ c κs. search needs) (λ c κs. search needs) returns-2 returns-3 returns-4)

@@ -5,9 +5,6 @@ use borrow.Author.Needs.{needs}
 use Rattle.modification.proofs.rule.test_length.Statement.{statement}
 use Rattle.modification.proofs.rule.test_length.Tie as tie
 
-most-rules-requires : tie.Need-most-rules-requires
-most-rules-requires c κs = search needs
-
 returns : tie.Need-returns
 returns c =
     let a = c .before .before .before .args in
@@ -27,4 +24,4 @@ returns-3 c =
     length-part (a .fixed) (now (a .rules)) (m .result) (m .ensures) (c .before .if1 .left) (c .if2 .left)
 
 pub test-length-spec : {M : Type 1} → statement M
-test-length-spec = tie.close (tie.spec most-rules-requires returns returns-2 returns-3)
+test-length-spec = tie.close (tie.spec (λ c κs. search needs) returns returns-2 returns-3)

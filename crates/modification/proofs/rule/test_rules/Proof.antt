@@ -6,26 +6,11 @@ use borrow.Author.Needs.{needs}
 use Rattle.modification.proofs.rule.test_rules.Statement.{statement}
 use Rattle.modification.proofs.rule.test_rules.Tie as tie
 
-test-length-requires : tie.Need-test-length-requires
-test-length-requires c κs = search needs
-
-enum-known-why : tie.Need-enum-known-why
-enum-known-why c = search needs
-
 returns : tie.Need-returns
 returns c =
     let a = c .before .before .before .before .before .args in
     let t = c .before .before .before .test-length in
     tested-refused (a .fixed) (now (a .rules)) (t .result) (t .ensures) _ (c .before .why .given .1)
-
-enum-told : tie.Need-enum-told
-enum-told c = search needs
-
-first-bad-rule-requires : tie.Need-first-bad-rule-requires
-first-bad-rule-requires c κs = search needs
-
-field-tested-requires : tie.Need-field-tested-requires
-field-tested-requires c κs = search needs
 
 returns-2 : tie.Need-returns-2
 returns-2 c =
@@ -37,12 +22,5 @@ returns-2 c =
 
 pub test-rules-spec : {M : Type 1} → statement M
 test-rules-spec =
-    tie.close
-    (tie.spec
-    test-length-requires
-    enum-known-why
-    returns
-    enum-told
-    first-bad-rule-requires
-    field-tested-requires
-    returns-2)
+    tie.close (tie.spec (λ c κs. search needs) (λ c. search needs) returns (λ c. search needs)
+    (λ c κs. search needs) (λ c κs. search needs) returns-2)

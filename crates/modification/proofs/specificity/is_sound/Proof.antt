@@ -3,11 +3,8 @@ use borrow.Author.Needs.{needs}
 use Rattle.modification.proofs.specificity.is_sound.Statement.{statement}
 use Rattle.modification.proofs.specificity.is_sound.Tie as tie
 
-is-letter-requires : tie.Need-is-letter-requires
-is-letter-requires c κs = search needs
-
 returns : tie.Need-returns
 returns c = cc
 
 pub is-sound-spec : {M : Type 1} → statement M
-is-sound-spec = tie.close (tie.spec is-letter-requires returns)
+is-sound-spec = tie.close (tie.spec (λ c κs. search needs) returns)

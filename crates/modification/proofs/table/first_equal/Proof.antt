@@ -27,17 +27,8 @@ loop-holds c =
 mul-at : tie.Need-mul-at Inv-loop μ-loop
 mul-at c = omega arith
 
-u32-at-requires : tie.Need-u32-at-requires Inv-loop μ-loop
-u32-at-requires c κs = search needs
-
-same-mass-requires : tie.Need-same-mass-requires Inv-loop μ-loop
-same-mass-requires c κs = search needs
-
 add-u32-at : tie.Need-add-u32-at Inv-loop μ-loop
 add-u32-at c = omega arith
-
-u32-at-requires-2 : tie.Need-u32-at-requires-2 Inv-loop μ-loop
-u32-at-requires-2 c κs = search needs
 
 returns : tie.Need-returns Inv-loop μ-loop
 returns c =
@@ -66,18 +57,5 @@ returns-2 c =
 
 pub first-equal-spec : {M : Type 1} → statement M
 first-equal-spec =
-    tie.close
-    (tie.spec
-    Inv-loop
-    μ-loop
-    loop-holds
-    mul-at
-    u32-at-requires
-    same-mass-requires
-    add-u32-at
-    u32-at-requires-2
-    returns
-    add-i
-    loop-less
-    loop-again
-    returns-2)
+    tie.close (tie.spec Inv-loop μ-loop loop-holds mul-at (λ c κs. search needs) (λ c κs. search needs) add-u32-at
+    (λ c κs. search needs) returns add-i loop-less loop-again returns-2)

@@ -6,30 +6,15 @@ use borrow.Author.Needs.{needs}
 use Rattle.modification.proofs.table.insert.Statement.{statement}
 use Rattle.modification.proofs.table.insert.Tie as tie
 
-test-table-requires : tie.Need-test-table-requires
-test-table-requires c κs = search needs
-
-enum-known-why : tie.Need-enum-known-why
-enum-known-why c = search needs
-
-same-length : tie.Need-same-length
-same-length c = search needs
-
 returns : tie.Need-returns
 returns c =
     let a = c .before .before .before .before .before .before .args in
     insert-refused (now (a .table)) (a .count) (a .mass) (a .name) _ (sym (c .before .why .given .1) ∙ c .before .before .before .test-table .ensures)
 
-enum-told : tie.Need-enum-told
-enum-told c = search needs
-
 enter-requires : tie.Need-enter-requires
 enter-requires c κs =
     let a = c .before .before .before .before .before .before .args in
     passed-few (now (a .table)) (a .count) (sym (c .before .enum-told .given .1) ∙ c .before .before .before .test-table .ensures)
-
-same-length-2 : tie.Need-same-length-2
-same-length-2 c = search needs
 
 returns-2 : tie.Need-returns-2
 returns-2 c =
@@ -38,13 +23,5 @@ returns-2 c =
 
 pub insert-spec : {M : Type 1} → statement M
 insert-spec =
-    tie.close
-    (tie.spec
-    test-table-requires
-    enum-known-why
-    same-length
-    returns
-    enum-told
-    enter-requires
-    same-length-2
-    returns-2)
+    tie.close (tie.spec (λ c κs. search needs) (λ c. search needs) (λ c. search needs) returns (λ c. search needs)
+    enter-requires (λ c. search needs) returns-2)

@@ -6,14 +6,8 @@ use borrow.Author.Needs.{needs}
 use Rattle.modification.proofs.table.same_mass.Statement.{statement}
 use Rattle.modification.proofs.table.same_mass.Tie as tie
 
-is-nan-requires : tie.Need-is-nan-requires
-is-nan-requires c κs = search needs
-
 returns : tie.Need-returns
 returns c = sym (same-nan-left _ _ (sym (c .before .is-nan .ensures) ∙ c .if1 .taken))
-
-is-nan-requires-2 : tie.Need-is-nan-requires-2
-is-nan-requires-2 c κs = search needs
 
 returns-2 : tie.Need-returns-2
 returns-2 c = sym (same-nan-right _ _ (sym (c .before .is-nan2 .ensures) ∙ c .if2 .taken))
@@ -30,12 +24,5 @@ returns-3 c = refl
 
 pub same-mass-spec : {M : Type 1} → statement M
 same-mass-spec =
-    tie.close
-    (tie.spec
-    is-nan-requires
-    returns
-    is-nan-requires-2
-    returns-2
-    float-from-bits-result
-    float-from-bits-result-2
-    returns-3)
+    tie.close (tie.spec (λ c κs. search needs) returns (λ c κs. search needs) returns-2 float-from-bits-result
+    float-from-bits-result-2 returns-3)

@@ -13,22 +13,10 @@ returns c =
     let a = c .before .before .args in
     parsed-empty (now (a .text)) (a .alphabet) (c .if1 .taken)
 
-first-wide-requires : tie.Need-first-wide-requires
-first-wide-requires c κs = search needs
-
 returns-2 : tie.Need-returns-2
 returns-2 c =
     let a = c .before .before .before .before .args in
     parsed-wide (now (a .text)) (a .alphabet) (c .before .before .if1 .left) (c .before .first-wide .result) (c .before .first-wide .ensures) (c .if2 .taken)
-
-byte-at-requires : tie.Need-byte-at-requires
-byte-at-requires c κs = search needs
-
-mark-of-requires : tie.Need-mark-of-requires
-mark-of-requires c κs = search needs
-
-letter-place-requires : tie.Need-letter-place-requires
-letter-place-requires c κs = search needs
 
 add-if3 : tie.Need-add-if3
 add-if3 c =
@@ -40,9 +28,6 @@ returns-3 c =
     parsed-long (now (a .text)) (a .alphabet) (c .before .before .before .before .before .before .if1 .left) (c .before .before .before .before .before .first-wide .result) (c .before .before .before .before .before .first-wide .ensures) (c .before .before .before .before .if2 .left)
     (c .before .before .mark-of .result) (c .before .before .mark-of .ensures ∙ ap markOf (c .before .before .before .byte-at .ensures)) (c .before .letter-place .result) (c .before .letter-place .ensures) (c .if3 .taken)
 
-parse-letter-requires : tie.Need-parse-letter-requires
-parse-letter-requires c κs = search needs
-
 returns-4 : tie.Need-returns-4
 returns-4 c =
     let a = c .before .before .before .before .before .before .before .before .before .args in
@@ -52,15 +37,5 @@ returns-4 c =
 
 pub parse-spec : {M : Type 1} → statement M
 parse-spec =
-    tie.close
-    (tie.spec
-    returns
-    first-wide-requires
-    returns-2
-    byte-at-requires
-    mark-of-requires
-    letter-place-requires
-    add-if3
-    returns-3
-    parse-letter-requires
-    returns-4)
+    tie.close (tie.spec returns (λ c κs. search needs) returns-2 (λ c κs. search needs) (λ c κs. search needs)
+    (λ c κs. search needs) add-if3 returns-3 (λ c κs. search needs) returns-4)

@@ -5,20 +5,8 @@ use borrow.Author.Needs.{needs}
 use Rattle.modification.proofs.text.parse_letter.Statement.{statement}
 use Rattle.modification.proofs.text.parse_letter.Tie as tie
 
-specificity-of-requires : tie.Need-specificity-of-requires
-specificity-of-requires c κs = search needs
-
 returns : tie.Need-returns
 returns c = rw (c .specificity-of .ensures, eq-eqb _ _ (c .before .if1 .taken))
-
-byte-at-requires : tie.Need-byte-at-requires
-byte-at-requires c κs = search needs
-
-contains-requires : tie.Need-contains-requires
-contains-requires c κs = search needs
-
-specificity-of-requires-2 : tie.Need-specificity-of-requires-2
-specificity-of-requires-2 c κs = search needs
 
 returns-2 : tie.Need-returns-2
 returns-2 c = rw (ne-eqb _ _ (c .before .before .before .before .if1 .left), ← c .before .before .before .byte-at .ensures, ← c .before .before .contains .ensures, c .before .if2 .taken) (cc)
@@ -28,12 +16,5 @@ returns-3 c = rw (ne-eqb _ _ (c .before .before .before .if1 .left), ← c .befo
 
 pub parse-letter-spec : {M : Type 1} → statement M
 parse-letter-spec =
-    tie.close
-    (tie.spec
-    specificity-of-requires
-    returns
-    byte-at-requires
-    contains-requires
-    specificity-of-requires-2
-    returns-2
-    returns-3)
+    tie.close (tie.spec (λ c κs. search needs) returns (λ c κs. search needs) (λ c κs. search needs)
+    (λ c κs. search needs) returns-2 returns-3)

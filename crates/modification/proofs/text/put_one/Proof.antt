@@ -7,19 +7,10 @@ use borrow.Author.Needs.{needs}
 use Rattle.modification.proofs.text.put_one.Statement.{statement}
 use Rattle.modification.proofs.text.put_one.Tie as tie
 
-put-byte-requires : tie.Need-put-byte-requires
-put-byte-requires c κs = search needs
-
-same-length : tie.Need-same-length
-same-length c = search needs
-
 returns : tie.Need-returns
 returns c =
     let a = c .before .before .before .before .before .before .args in
     text-short (a .a ∷ []) (now (a .out)) (c .before .before .before .put-byte .last .0) (omega arith) (c .before .before .before .put-byte .ensures) (c .if1 .taken)
-
-same-length-2 : tie.Need-same-length-2
-same-length-2 c = search needs
 
 returns-2 : tie.Need-returns-2
 returns-2 c =
@@ -27,4 +18,5 @@ returns-2 c =
     text-long (a .a ∷ []) (now (a .out)) (c .before .before .before .put-byte .last .0) (omega arith) (c .before .before .before .put-byte .ensures) (c .if1 .left)
 
 pub put-one-spec : {M : Type 1} → statement M
-put-one-spec = tie.close (tie.spec put-byte-requires same-length returns same-length-2 returns-2)
+put-one-spec =
+    tie.close (tie.spec (λ c κs. search needs) (λ c. search needs) returns (λ c. search needs) returns-2)

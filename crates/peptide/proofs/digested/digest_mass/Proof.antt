@@ -26,28 +26,10 @@ is c =
     let a = c .before .before .before .before .before .before .args in
     made-digested (now (a .letters)) (now (a .bytes)) (now (a .masses)) (passed c) (c .before .before .of-digest .result) (c .before .before .of-digest .ensures)
 
-of-digest-requires : tie.Need-of-digest-requires
-of-digest-requires c κs = search needs
-
-enum-known-tested : tie.Need-enum-known-tested
-enum-known-tested c = search needs
-
 returns : tie.Need-returns
 returns c =
     let a = c .before .before .before .before .before .before .before .args in
     mass-refused (now (a .letters)) (now (a .bytes)) (now (a .masses)) (a .water) _ (sym (made-tested (now (a .letters)) (now (a .bytes)) (now (a .masses)) (c .before .before .before .of-digest .result) (c .before .before .before .of-digest .ensures)) ∙ c .before .tested .given .1)
-
-enum-told : tie.Need-enum-told
-enum-told c = search needs
-
-cast-n : tie.Need-cast-n
-cast-n c = search needs
-
-sub-base-mass : tie.Need-sub-base-mass
-sub-base-mass c = search needs
-
-part-base-mass-start : tie.Need-part-base-mass-start
-part-base-mass-start c = search needs
 
 part-base-mass-end : tie.Need-part-base-mass-end
 part-base-mass-end c =
@@ -56,9 +38,6 @@ part-base-mass-end c =
     let n : length (c .before .before .before .before .before .before .of-digest .result .peptide .letters) ≡ 64 = search needs in
     let f : c .before .before .before .before .before .before .of-digest .result .peptide .len ≤ 64 = subst (λ (q : Peptide). q .len ≤ 64) (sym (is (c .before .before .before .before))) (passed-fits (digested (now (a .letters)) (now (a .bytes))) p) in
     omega arith
-
-base-mass-requires : tie.Need-base-mass-requires
-base-mass-requires c κs = search needs
 
 returns-2 : tie.Need-returns-2
 returns-2 c =
@@ -71,15 +50,5 @@ returns-2 c =
 
 pub digest-mass-spec : {M : Type 1} → statement M
 digest-mass-spec =
-    tie.close
-    (tie.spec
-    of-digest-requires
-    enum-known-tested
-    returns
-    enum-told
-    cast-n
-    sub-base-mass
-    part-base-mass-start
-    part-base-mass-end
-    base-mass-requires
-    returns-2)
+    tie.close (tie.spec (λ c κs. search needs) (λ c. search needs) returns (λ c. search needs) (λ c. search needs)
+    (λ c. search needs) (λ c. search needs) part-base-mass-end (λ c κs. search needs) returns-2)

@@ -7,12 +7,6 @@ use borrow.Author.Needs.{needs}
 use Rattle.peptide.proofs.digested.is_unfit.Statement.{statement}
 use Rattle.peptide.proofs.digested.is_unfit.Tie as tie
 
-has-no-mass-requires : tie.Need-has-no-mass-requires
-has-no-mass-requires c κs = search needs
-
-is-letter-requires : tie.Need-is-letter-requires
-is-letter-requires c κs = search needs
-
 returns : tie.Need-returns
 returns c =
     let a = c .before .before .before .args in
@@ -24,4 +18,4 @@ returns-2 c =
     ap not (c .is-letter .ensures) ∙ unfit-outside (now (a .masses)) (a .inside) (a .b) (c .before .if1 .left)
 
 pub is-unfit-spec : {M : Type 1} → statement M
-is-unfit-spec = tie.close (tie.spec has-no-mass-requires is-letter-requires returns returns-2)
+is-unfit-spec = tie.close (tie.spec (λ c κs. search needs) (λ c κs. search needs) returns returns-2)

@@ -9,18 +9,6 @@ use borrow.Author.Needs.{needs}
 use Rattle.peptide.proofs.digested.of_range.Statement.{statement}
 use Rattle.peptide.proofs.digested.of_range.Tie as tie
 
-sub-given : tie.Need-sub-given
-sub-given c = search needs
-
-part-given-start : tie.Need-part-given-start
-part-given-start c = search needs
-
-part-given-end : tie.Need-part-given-end
-part-given-end c = search needs
-
-given-requires : tie.Need-given-requires
-given-requires c κs = search needs
-
 turned-requires : tie.Need-turned-requires
 turned-requires c κs = subst (λ (p : Peptide). p .len ≤ 64) (sym (c .before .given .ensures)) (c .before .before .before .before .pre)
 
@@ -36,12 +24,5 @@ returns-2 c =
 
 pub of-range-spec : {M : Type 1} → statement M
 of-range-spec =
-    tie.close
-    (tie.spec
-    sub-given
-    part-given-start
-    part-given-end
-    given-requires
-    turned-requires
-    returns
-    returns-2)
+    tie.close (tie.spec (λ c. search needs) (λ c. search needs) (λ c. search needs) (λ c κs. search needs)
+    turned-requires returns returns-2)

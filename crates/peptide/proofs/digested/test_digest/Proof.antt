@@ -15,33 +15,15 @@ use Rattle.peptide.proofs.digested.test_digest.Tie as tie
 first : (c : tie.After-first-unfit) → c .first-unfit .result ≡ firstUnfit (now (c .before .before .before .before .before .before .before .before .before .before .args .masses)) (startOf (now (c .before .before .before .before .before .before .before .before .before .before .args .bytes))) (endOf (now (c .before .before .before .before .before .before .before .before .before .before .args .bytes))) (now (c .before .before .before .before .before .before .before .before .before .before .args .letters))
 first c = rw (c .before .before .u32-at .ensures, c .before .u32-at2 .ensures) at (c .first-unfit .ensures)
 
-too-long-requires : tie.Need-too-long-requires
-too-long-requires c κs = search needs
-
 returns : tie.Need-returns
 returns c =
     let a = c .before .before .before .before .before .args in
     digest-size (now (a .letters)) (now (a .bytes)) (now (a .masses)) (sym (c .before .too-long .ensures) ∙ c .if1 .taken)
 
-not-whole-requires : tie.Need-not-whole-requires
-not-whole-requires c κs = search needs
-
 returns-2 : tie.Need-returns-2
 returns-2 c =
     let a = c .before .before .before .before .before .before .before .args in
     digest-length (now (a .letters)) (now (a .bytes)) (now (a .masses)) (sym (c .before .before .before .too-long .ensures) ∙ c .before .before .if1 .left) (sym (c .before .not-whole .ensures) ∙ c .if2 .taken)
-
-u32-at-requires : tie.Need-u32-at-requires
-u32-at-requires c κs = search needs
-
-cast-start : tie.Need-cast-start
-cast-start c = search needs
-
-u32-at-requires-2 : tie.Need-u32-at-requires-2
-u32-at-requires-2 c κs = search needs
-
-cast-end : tie.Need-cast-end
-cast-end c = search needs
 
 first-unfit-requires : tie.Need-first-unfit-requires
 first-unfit-requires c κs = whole-masses (now (c .before .before .before .before .before .before .before .before .before .args .bytes)) (now (c .before .before .before .before .before .before .before .before .before .args .masses)) (sym (c .before .before .before .not-whole .ensures) ∙ c .before .before .if2 .left)
@@ -50,9 +32,6 @@ returns-3 : tie.Need-returns-3
 returns-3 c =
     let a = c .before .before .before .before .before .before .before .before .before .before .before .args in
     digest-letter (now (a .letters)) (now (a .bytes)) (now (a .masses)) (sym (c .before .before .before .before .before .before .before .too-long .ensures) ∙ c .before .before .before .before .before .before .if1 .left) (sym (c .before .before .before .before .before .not-whole .ensures) ∙ c .before .before .before .before .if2 .left) (c .before .first-unfit .result) (first (c .before)) (c .if3 .taken)
-
-is-good-requires : tie.Need-is-good-requires
-is-good-requires c κs = search needs
 
 returns-4 : tie.Need-returns-4
 returns-4 c =
@@ -68,18 +47,6 @@ returns-5 c =
 
 pub test-digest-spec : {M : Type 1} → statement M
 test-digest-spec =
-    tie.close
-    (tie.spec
-    too-long-requires
-    returns
-    not-whole-requires
-    returns-2
-    u32-at-requires
-    cast-start
-    u32-at-requires-2
-    cast-end
-    first-unfit-requires
-    returns-3
-    is-good-requires
-    returns-4
-    returns-5)
+    tie.close (tie.spec (λ c κs. search needs) returns (λ c κs. search needs) returns-2 (λ c κs. search needs)
+    (λ c. search needs) (λ c κs. search needs) (λ c. search needs) first-unfit-requires returns-3
+    (λ c κs. search needs) returns-4 returns-5)

@@ -13,29 +13,11 @@ use borrow.Author.Needs.{needs}
 use Rattle.peptide.proofs.listing.fixed_table.Statement.{statement}
 use Rattle.peptide.proofs.listing.fixed_table.Tie as tie
 
-slice-aggregate-collect : tie.Need-slice-aggregate-collect
-slice-aggregate-collect c = search needs
-
-collect-requires : tie.Need-collect-requires
-collect-requires c κs = search needs
-
-empty-requires : tie.Need-empty-requires
-empty-requires c κs = search needs
-
-sub-with-all : tie.Need-sub-with-all
-sub-with-all c = search needs
-
-part-with-all-start : tie.Need-part-with-all-start
-part-with-all-start c = search needs
-
 part-with-all-end : tie.Need-part-with-all-end
 part-with-all-end c =
     let a = c .before .before .before .before .before .before .args in
     let k = c .before .before .before .collect in
     omega (arith, k .ensures .next, wrote-length _ _ _ _ _ (k .ensures), length-replicate {A = ℕ} 2112 0, all-few (a .letters) (a .n) (a .position) (now (a .fixed)) (c .before .before .before .before .before .before .pre .0) (c .before .before .before .before .before .before .pre .1))
-
-with-all-requires : tie.Need-with-all-requires
-with-all-requires c κs = search needs
 
 returns : tie.Need-returns
 returns c =
@@ -50,13 +32,5 @@ returns c =
 
 pub fixed-table-spec : {M : Type 1} → statement M
 fixed-table-spec =
-    tie.close
-    (tie.spec
-    slice-aggregate-collect
-    collect-requires
-    empty-requires
-    sub-with-all
-    part-with-all-start
-    part-with-all-end
-    with-all-requires
-    returns)
+    tie.close (tie.spec (λ c. search needs) (λ c κs. search needs) (λ c κs. search needs) (λ c. search needs)
+    (λ c. search needs) part-with-all-end (λ c κs. search needs) returns)

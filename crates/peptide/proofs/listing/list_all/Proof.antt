@@ -8,23 +8,11 @@ use borrow.Author.Needs.{needs}
 use Rattle.peptide.proofs.listing.list_all.Statement.{statement}
 use Rattle.peptide.proofs.listing.list_all.Tie as tie
 
-room-for-requires : tie.Need-room-for-requires
-room-for-requires c κs = search needs
-
 returns : tie.Need-returns
 returns c =
     let a = c .before .before .before .before .before .args in
     let n : length (a .bare .slots) ≡ 66 = search needs in
     list-full (now (a .out)) (a .bare .slots) (a .table .slots) (now (a .sites)) (now (a .rules)) (a .limit) (a .cap) n (sym (c .before .room-for .ensures) ∙ c .if1 .taken)
-
-overlaid-requires : tie.Need-overlaid-requires
-overlaid-requires c κs = search needs
-
-put-form-requires : tie.Need-put-form-requires
-put-form-requires c κs = search needs
-
-list-forms-requires : tie.Need-list-forms-requires
-list-forms-requires c κs = search needs
 
 cast-count : tie.Need-cast-count
 cast-count c =
@@ -36,9 +24,6 @@ cast-count c =
     let m = c .before .before .before .before .before .before .before .before .before .before .before .before .room-for in
     omega (arith, list-few (now (a .out)) (a .bare .slots) (a .table .slots) (now (a .sites)) (now (a .rules)) (a .limit) (a .cap) n (v .result .slots) (p .last .1 .0) (r .last .1 .1 .1 .1 .1 .1 .1 .0) (m .result) (r .result) (m .ensures) (omega (arith, c .before .before .before .before .before .before .before .before .before .before .before .if1 .left)) (v .ensures) (p .ensures) (r .ensures) (c .before .if2 .taken))
 
-same-length : tie.Need-same-length
-same-length c = search needs
-
 returns-2 : tie.Need-returns-2
 returns-2 c =
     let a = c .before .before .before .before .before .before .before .before .before .before .before .before .before .before .before .before .args in
@@ -48,9 +33,6 @@ returns-2 c =
     let v = c .before .before .before .before .before .before .before .before .before .before .overlaid in
     let m = c .before .before .before .before .before .before .before .before .before .before .before .before .room-for in
     list-done (now (a .out)) (a .bare .slots) (a .table .slots) (now (a .sites)) (now (a .rules)) (a .limit) (a .cap) n (v .result .slots) (p .last .1 .0) (r .last .1 .1 .1 .1 .1 .1 .1 .0) (m .result) (r .result) (m .ensures) (omega (arith, c .before .before .before .before .before .before .before .before .before .before .before .if1 .left)) (v .ensures) (p .ensures) (r .ensures) _ (c .before .if2 .taken)
-
-same-length-2 : tie.Need-same-length-2
-same-length-2 c = search needs
 
 returns-3 : tie.Need-returns-3
 returns-3 c =
@@ -64,15 +46,5 @@ returns-3 c =
 
 pub list-all-spec : {M : Type 1} → statement M
 list-all-spec =
-    tie.close
-    (tie.spec
-    room-for-requires
-    returns
-    overlaid-requires
-    put-form-requires
-    list-forms-requires
-    cast-count
-    same-length
-    returns-2
-    same-length-2
-    returns-3)
+    tie.close (tie.spec (λ c κs. search needs) returns (λ c κs. search needs) (λ c κs. search needs)
+    (λ c κs. search needs) cast-count (λ c. search needs) returns-2 (λ c. search needs) returns-3)

@@ -16,37 +16,10 @@ use borrow.Author.Needs.{needs}
 use Rattle.peptide.proofs.listing.run.Statement.{statement}
 use Rattle.peptide.proofs.listing.run.Tie as tie
 
-cast-n : tie.Need-cast-n
-cast-n c = search needs
-
-fixed-table-requires : tie.Need-fixed-table-requires
-fixed-table-requires c κs = search needs
-
-bare-requires : tie.Need-bare-requires
-bare-requires c κs = search needs
-
-slice-aggregate-collect-used : tie.Need-slice-aggregate-collect-used
-slice-aggregate-collect-used c = search needs
-
-collect-used-requires : tie.Need-collect-used-requires
-collect-used-requires c κs = search needs
-
-sub-list-all : tie.Need-sub-list-all
-sub-list-all c = search needs
-
-part-list-all-start : tie.Need-part-list-all-start
-part-list-all-start c = search needs
-
 part-list-all-end : tie.Need-part-list-all-end
 part-list-all-end c =
     let k = c .before .before .collect-used in
     omega (arith, k .ensures .0, k .kept .1 .1 .1 .1 .0, length-replicate {A = ℕ} 2112 0)
-
-list-all-requires : tie.Need-list-all-requires
-list-all-requires c κs = search needs
-
-same-length : tie.Need-same-length
-same-length c = search needs
 
 returns : tie.Need-returns
 returns c =
@@ -62,16 +35,6 @@ returns c =
 
 pub run-spec : {M : Type 1} → statement M
 run-spec =
-    tie.close
-    (tie.spec
-    cast-n
-    fixed-table-requires
-    bare-requires
-    slice-aggregate-collect-used
-    collect-used-requires
-    sub-list-all
-    part-list-all-start
-    part-list-all-end
-    list-all-requires
-    same-length
-    returns)
+    tie.close (tie.spec (λ c. search needs) (λ c κs. search needs) (λ c κs. search needs) (λ c. search needs)
+    (λ c κs. search needs) (λ c. search needs) (λ c. search needs) part-list-all-end (λ c κs. search needs)
+    (λ c. search needs) returns)

@@ -7,19 +7,10 @@ use borrow.Author.Needs.{needs}
 use Rattle.peptide.proofs.mass.base_mass.Statement.{statement}
 use Rattle.peptide.proofs.mass.base_mass.Tie as tie
 
-test-letters-requires : tie.Need-test-letters-requires
-test-letters-requires c κs = search needs
-
-enum-known-why : tie.Need-enum-known-why
-enum-known-why c = search needs
-
 returns : tie.Need-returns
 returns c =
     let a = c .before .before .before .before .before .before .args in
     weighed-refused (now (a .letters)) (now (a .masses)) (a .water) _ (sym (c .before .why .given .1) ∙ c .before .before .before .test-letters .ensures)
-
-enum-told : tie.Need-enum-told
-enum-told c = search needs
 
 sum-requires : tie.Need-sum-requires
 sum-requires c κs =
@@ -34,5 +25,5 @@ returns-2 c =
 
 pub base-mass-spec : {M : Type 1} → statement M
 base-mass-spec =
-    tie.close
-    (tie.spec test-letters-requires enum-known-why returns enum-told sum-requires returns-2)
+    tie.close (tie.spec (λ c κs. search needs) (λ c. search needs) returns (λ c. search needs) sum-requires
+    returns-2)

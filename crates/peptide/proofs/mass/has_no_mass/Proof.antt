@@ -9,17 +9,8 @@ use borrow.Author.Needs.{needs}
 use Rattle.peptide.proofs.mass.has_no_mass.Statement.{statement}
 use Rattle.peptide.proofs.mass.has_no_mass.Tie as tie
 
-is-letter-requires : tie.Need-is-letter-requires
-is-letter-requires c κs = search needs
-
 sub-k : tie.Need-sub-k
 sub-k c = letter-from _ (sym (c .before .is-letter .ensures) ∙ c .if1 .taken)
-
-cast-k : tie.Need-cast-k
-cast-k c = search needs
-
-mul-result : tie.Need-mul-result
-mul-result c = search needs
 
 shared-slice-read-result : tie.Need-shared-slice-read-result
 shared-slice-read-result c = let e = letter-to _ (sym (c .before .before .is-letter .ensures) ∙ c .before .if1 .taken) in omega (arith, c .before .before .before .before .pre)
@@ -33,12 +24,5 @@ returns-2 c = mass-of-other (now (c .before .before .before .args .masses)) (c .
 
 pub has-no-mass-spec : {M : Type 1} → statement M
 has-no-mass-spec =
-    tie.close
-    (tie.spec
-    is-letter-requires
-    sub-k
-    cast-k
-    mul-result
-    shared-slice-read-result
-    returns
-    returns-2)
+    tie.close (tie.spec (λ c κs. search needs) sub-k (λ c. search needs) (λ c. search needs)
+    shared-slice-read-result returns returns-2)

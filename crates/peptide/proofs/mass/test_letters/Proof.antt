@@ -11,9 +11,6 @@ returns c = letters-size (now (c .before .before .before .args .letters)) (now (
 returns-2 : tie.Need-returns-2
 returns-2 c = letters-length (now (c .before .before .before .before .args .letters)) (now (c .before .before .before .before .args .masses)) (c .before .if1 .left) (c .if2 .taken)
 
-first-no-mass-requires : tie.Need-first-no-mass-requires
-first-no-mass-requires c κs = search needs
-
 returns-3 : tie.Need-returns-3
 returns-3 c =
     let a = c .before .before .before .before .before .before .args in
@@ -25,5 +22,4 @@ returns-4 c =
     letters-passed (now (a .letters)) (now (a .masses)) (c .before .before .before .if1 .left) (c .before .before .if2 .left) (c .before .first-no-mass .result) (c .before .first-no-mass .ensures) (c .if3 .left)
 
 pub test-letters-spec : {M : Type 1} → statement M
-test-letters-spec =
-    tie.close (tie.spec returns returns-2 first-no-mass-requires returns-3 returns-4)
+test-letters-spec = tie.close (tie.spec returns returns-2 (λ c κs. search needs) returns-3 returns-4)

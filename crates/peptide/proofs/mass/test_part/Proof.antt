@@ -6,19 +6,10 @@ use borrow.Author.Needs.{needs}
 use Rattle.peptide.proofs.mass.test_part.Statement.{statement}
 use Rattle.peptide.proofs.mass.test_part.Tie as tie
 
-test-letters-requires : tie.Need-test-letters-requires
-test-letters-requires c κs = search needs
-
-enum-known-why : tie.Need-enum-known-why
-enum-known-why c = search needs
-
 returns : tie.Need-returns
 returns c =
     let a = c .before .before .before .before .before .before .args in
     part-letters (now (a .part)) (now (a .masses)) (a .position) _ (sym (c .before .why .given .1) ∙ c .before .before .before .test-letters .ensures)
-
-enum-told : tie.Need-enum-told
-enum-told c = search needs
 
 returns-2 : tie.Need-returns-2
 returns-2 c =
@@ -32,4 +23,5 @@ returns-3 c =
 
 pub test-part-spec : {M : Type 1} → statement M
 test-part-spec =
-    tie.close (tie.spec test-letters-requires enum-known-why returns enum-told returns-2 returns-3)
+    tie.close (tie.spec (λ c κs. search needs) (λ c. search needs) returns (λ c. search needs) returns-2
+    returns-3)

@@ -10,26 +10,11 @@ use borrow.Author.Needs.{needs}
 use Rattle.peptide.proofs.tests.test_contents.Statement.{statement}
 use Rattle.peptide.proofs.tests.test_contents.Tie as tie
 
-cast-n : tie.Need-cast-n
-cast-n c = search needs
-
-sub-first-bad : tie.Need-sub-first-bad
-sub-first-bad c = search needs
-
-part-first-bad-start : tie.Need-part-first-bad-start
-part-first-bad-start c = search needs
-
 part-first-bad-end : tie.Need-part-first-bad-end
 part-first-bad-end c = let n : length (c .before .before .before .args .p .letters) ≡ 64 = search needs in omega (arith, c .before .before .before .pre)
 
-first-bad-requires : tie.Need-first-bad-requires
-first-bad-requires c κs = search needs
-
 returns : tie.Need-returns
 returns c = contents-letter (c .before .before .before .before .before .before .args .p) (c .before .first-bad .result) (c .before .first-bad .ensures ∙ ap (λ (k : ℕ). firstBad (take k (c .before .before .before .before .before .before .args .p .letters))) (sub-zero (c .before .before .before .before .before .before .args .p .len))) (c .if1 .taken)
-
-is-clear-requires : tie.Need-is-clear-requires
-is-clear-requires c κs = search needs
 
 returns-2 : tie.Need-returns-2
 returns-2 c = contents-clear (c .before .before .before .before .before .before .before .before .args .p) (c .before .before .before .first-bad .result) (c .before .before .before .first-bad .ensures ∙ ap (λ (k : ℕ). firstBad (take k (c .before .before .before .before .before .before .before .before .args .p .letters))) (sub-zero (c .before .before .before .before .before .before .before .before .args .p .len))) (c .before .before .if1 .left) (sym (c .before .is-clear .ensures) ∙ c .if2 .taken)
@@ -39,14 +24,5 @@ returns-3 c = contents-field (c .before .before .before .before .before .before 
 
 pub test-contents-spec : {M : Type 1} → statement M
 test-contents-spec =
-    tie.close
-    (tie.spec
-    cast-n
-    sub-first-bad
-    part-first-bad-start
-    part-first-bad-end
-    first-bad-requires
-    returns
-    is-clear-requires
-    returns-2
-    returns-3)
+    tie.close (tie.spec (λ c. search needs) (λ c. search needs) (λ c. search needs) part-first-bad-end
+    (λ c κs. search needs) returns (λ c κs. search needs) returns-2 returns-3)

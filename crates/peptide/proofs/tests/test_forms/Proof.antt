@@ -6,16 +6,10 @@ use borrow.Author.Needs.{needs}
 use Rattle.peptide.proofs.tests.test_forms.Statement.{statement}
 use Rattle.peptide.proofs.tests.test_forms.Tie as tie
 
-too-large-requires : tie.Need-too-large-requires
-too-large-requires c κs = search needs
-
 returns : tie.Need-returns
 returns c =
     let a = c .before .before .before .before .args in
     tested-large (a .p) (now (a .variable)) (now (a .fixed)) (a .limit) (sym (c .before .too-large .ensures) ∙ c .if1 .taken)
-
-not-whole-requires : tie.Need-not-whole-requires
-not-whole-requires c κs = search needs
 
 returns-2 : tie.Need-returns-2
 returns-2 c =
@@ -27,19 +21,10 @@ test-contents-requires c κs =
     let a = c .before .before .before .before .before .before .args in
     sizes-fit (a .p .len) (now (a .variable)) (now (a .fixed)) (a .limit) (sym (c .before .before .before .too-large .ensures) ∙ c .before .before .if1 .left) .0
 
-enum-known-why : tie.Need-enum-known-why
-enum-known-why c = search needs
-
 returns-3 : tie.Need-returns-3
 returns-3 c =
     let a = c .before .before .before .before .before .before .before .before .before .before .args in
     tested-contents (a .p) (now (a .variable)) (now (a .fixed)) (a .limit) (sym (c .before .before .before .before .before .before .before .too-large .ensures) ∙ c .before .before .before .before .before .before .if1 .left) (sym (c .before .before .before .before .before .not-whole .ensures) ∙ c .before .before .before .before .if2 .left) _ (sym (c .before .why .given .1) ∙ c .before .before .before .test-contents .ensures)
-
-enum-told : tie.Need-enum-told
-enum-told c = search needs
-
-test-lists-requires : tie.Need-test-lists-requires
-test-lists-requires c κs = search needs
 
 returns-4 : tie.Need-returns-4
 returns-4 c =
@@ -48,15 +33,5 @@ returns-4 c =
 
 pub test-forms-spec : {M : Type 1} → statement M
 test-forms-spec =
-    tie.close
-    (tie.spec
-    too-large-requires
-    returns
-    not-whole-requires
-    returns-2
-    test-contents-requires
-    enum-known-why
-    returns-3
-    enum-told
-    test-lists-requires
-    returns-4)
+    tie.close (tie.spec (λ c κs. search needs) returns (λ c κs. search needs) returns-2 test-contents-requires
+    (λ c. search needs) returns-3 (λ c. search needs) (λ c κs. search needs) returns-4)

@@ -4,15 +4,9 @@ use Rattle.peptide_forms.specs.RunLaws.{quick}
 use Rattle.peptide_forms.proofs.listing.made.Statement.{statement}
 use Rattle.peptide_forms.proofs.listing.made.Tie as tie
 
-with-choice-requires : tie.Need-with-choice-requires
-with-choice-requires c κs = search needs
-
-overlaid-requires : tie.Need-overlaid-requires
-overlaid-requires c κs = search needs
-
 returns : tie.Need-returns
 unfolding quick
 returns c = rw (c .overlaid .ensures, c .before .with-choice .ensures)
 
 pub made-spec : {M : Type 1} → statement M
-made-spec = tie.close (tie.spec with-choice-requires overlaid-requires returns)
+made-spec = tie.close (tie.spec (λ c κs. search needs) (λ c κs. search needs) returns)

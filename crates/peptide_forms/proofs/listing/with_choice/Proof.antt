@@ -26,12 +26,6 @@ mul-site-at c = omega arith
 array-read-site-at : tie.Need-array-read-site-at Inv-loop μ-loop
 array-read-site-at c = omega arith
 
-site-at-requires : tie.Need-site-at-requires Inv-loop μ-loop
-site-at-requires c κs = search needs
-
-fill-site-requires : tie.Need-fill-site-requires Inv-loop μ-loop
-fill-site-requires c κs = search needs
-
 add-j : tie.Need-add-j Inv-loop μ-loop
 add-j c = omega arith
 
@@ -58,16 +52,5 @@ returns c =
 
 pub with-choice-spec : {M : Type 1} → statement M
 with-choice-spec =
-    tie.close
-    (tie.spec
-    Inv-loop
-    μ-loop
-    loop-holds
-    mul-site-at
-    array-read-site-at
-    site-at-requires
-    fill-site-requires
-    add-j
-    loop-less
-    loop-again
-    returns)
+    tie.close (tie.spec Inv-loop μ-loop loop-holds mul-site-at array-read-site-at (λ c κs. search needs)
+    (λ c κs. search needs) add-j loop-less loop-again returns)

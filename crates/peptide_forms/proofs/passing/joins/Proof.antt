@@ -7,30 +7,6 @@ use borrow.Author.Needs.{needs}
 use Rattle.peptide_forms.proofs.passing.joins.Statement.{statement}
 use Rattle.peptide_forms.proofs.passing.joins.Tie as tie
 
-mul-site-at : tie.Need-mul-site-at
-mul-site-at c = search needs
-
-array-read-site-at : tie.Need-array-read-site-at
-array-read-site-at c = search needs
-
-site-at-requires : tie.Need-site-at-requires
-site-at-requires c κs = search needs
-
-cast-r : tie.Need-cast-r
-cast-r c = search needs
-
-tally-requires : tie.Need-tally-requires
-tally-requires c κs = search needs
-
-mul-u32-at : tie.Need-mul-u32-at
-mul-u32-at c = search needs
-
-add-u32-at : tie.Need-add-u32-at
-add-u32-at c = search needs
-
-u32-at-requires : tie.Need-u32-at-requires
-u32-at-requires c κs = search needs
-
 returns : tie.Need-returns
 returns c =
     let a = c .before .before .before .before .before .before .before .args in
@@ -39,14 +15,5 @@ returns c =
 
 pub joins-spec : {M : Type 1} → statement M
 joins-spec =
-    tie.close
-    (tie.spec
-    mul-site-at
-    array-read-site-at
-    site-at-requires
-    cast-r
-    tally-requires
-    mul-u32-at
-    add-u32-at
-    u32-at-requires
-    returns)
+    tie.close (tie.spec (λ c. search needs) (λ c. search needs) (λ c κs. search needs) (λ c. search needs)
+    (λ c κs. search needs) (λ c. search needs) (λ c. search needs) (λ c κs. search needs) returns)

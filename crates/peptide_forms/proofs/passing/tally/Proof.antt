@@ -23,12 +23,6 @@ mul-site-at c = omega arith
 array-read-site-at : tie.Need-array-read-site-at Inv-loop μ-loop
 array-read-site-at c = omega arith
 
-site-at-requires : tie.Need-site-at-requires Inv-loop μ-loop
-site-at-requires c κs = search needs
-
-one-if-requires : tie.Need-one-if-requires Inv-loop μ-loop
-one-if-requires c κs = search needs
-
 add-uses : tie.Need-add-uses Inv-loop μ-loop
 add-uses c = omega (arith, c .before .before .before .loop .inv .1 .few)
 
@@ -54,17 +48,5 @@ returns c =
 
 pub tally-spec : {M : Type 1} → statement M
 tally-spec =
-    tie.close
-    (tie.spec
-    Inv-loop
-    μ-loop
-    loop-holds
-    mul-site-at
-    array-read-site-at
-    site-at-requires
-    one-if-requires
-    add-uses
-    add-i
-    loop-less
-    loop-again
-    returns)
+    tie.close (tie.spec Inv-loop μ-loop loop-holds mul-site-at array-read-site-at (λ c κs. search needs)
+    (λ c κs. search needs) add-uses add-i loop-less loop-again returns)

@@ -29,9 +29,6 @@ array-read-filled c = omega arith
 array-read-filled-2 : tie.Need-array-read-filled-2 Inv-loop μ-loop
 array-read-filled-2 c = omega arith
 
-filled-requires : tie.Need-filled-requires Inv-loop μ-loop
-filled-requires c κs = search needs
-
 array-write-slots : tie.Need-array-write-slots Inv-loop μ-loop
 array-write-slots c = omega arith
 
@@ -58,16 +55,5 @@ returns c =
 
 pub overlaid-spec : {M : Type 1} → statement M
 overlaid-spec =
-    tie.close
-    (tie.spec
-    Inv-loop
-    μ-loop
-    loop-holds
-    array-read-filled
-    array-read-filled-2
-    filled-requires
-    array-write-slots
-    add-k
-    loop-less
-    loop-again
-    returns)
+    tie.close (tie.spec Inv-loop μ-loop loop-holds array-read-filled array-read-filled-2 (λ c κs. search needs)
+    array-write-slots add-k loop-less loop-again returns)

@@ -25,9 +25,6 @@ mul-fill-site c = omega arith
 shared-slice-read-fill-site : tie.Need-shared-slice-read-fill-site Inv-loop μ-loop
 shared-slice-read-fill-site c = omega arith
 
-fill-site-requires : tie.Need-fill-site-requires Inv-loop μ-loop
-fill-site-requires c κs = search needs
-
 add-j : tie.Need-add-j Inv-loop μ-loop
 add-j c = omega arith
 
@@ -50,15 +47,5 @@ returns c =
 
 pub with-all-spec : {M : Type 1} → statement M
 with-all-spec =
-    tie.close
-    (tie.spec
-    Inv-loop
-    μ-loop
-    loop-holds
-    mul-fill-site
-    shared-slice-read-fill-site
-    fill-site-requires
-    add-j
-    loop-less
-    loop-again
-    returns)
+    tie.close (tie.spec Inv-loop μ-loop loop-holds mul-fill-site shared-slice-read-fill-site
+    (λ c κs. search needs) add-j loop-less loop-again returns)

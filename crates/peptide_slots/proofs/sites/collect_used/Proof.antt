@@ -11,18 +11,12 @@ use borrow.Author.Needs.{needs}
 use Rattle.peptide_slots.proofs.sites.collect_used.Statement.{statement}
 use Rattle.peptide_slots.proofs.sites.collect_used.Tie as tie
 
-collect-requires : tie.Need-collect-requires
-collect-requires c κs = search needs
-
 keep-used-requires : tie.Need-keep-used-requires
 keep-used-requires c κs =
     let a = c .before .before .before .before .before .before .before .args in
     let h = c .before .before .before .before .before .before .before .pre in
     let k = c .before .before .before .collect in
     omega (arith, k .ensures .next, wrote-length _ _ _ _ _ (k .ensures), h .2, all-few (a .letters) (a .n) (a .position) (now (a .rules)) (h .0) (h .1))
-
-same-length : tie.Need-same-length
-same-length c = search needs
 
 returns : tie.Need-returns
 returns c =
@@ -36,4 +30,4 @@ returns c =
     (omega (arith, t .0), t .1)
 
 pub collect-used-spec : {M : Type 1} → statement M
-collect-used-spec = tie.close (tie.spec collect-requires keep-used-requires same-length returns)
+collect-used-spec = tie.close (tie.spec (λ c κs. search needs) keep-used-requires (λ c. search needs) returns)

@@ -35,9 +35,6 @@ mul-u32-at c = omega (arith, c .slice-known2 .given (c .before .before .loop .i)
 add-u32-at : tie.Need-add-u32-at Inv-loop μ-loop
 add-u32-at c = omega (arith, c .slice-known2 .given (c .before .before .loop .i))
 
-u32-at-requires : tie.Need-u32-at-requires Inv-loop μ-loop
-u32-at-requires c κs = search needs
-
 put-if-requires : tie.Need-put-if-requires Inv-loop μ-loop
 put-if-requires c κs = omega arith
 
@@ -62,20 +59,5 @@ returns c = sifted-all _ _ _ _ _ _ (c .before .loop .inv .0) (c .loop-test .left
 
 pub keep-used-spec : {M : Type 1} → statement M
 keep-used-spec =
-    tie.close
-    (tie.spec
-    Inv-loop
-    μ-loop
-    loop-holds
-    mul-site
-    slice-read-site
-    cast-rule
-    mul-u32-at
-    add-u32-at
-    u32-at-requires
-    put-if-requires
-    add-i
-    loop-less
-    loop-again
-    same-length
-    returns)
+    tie.close (tie.spec Inv-loop μ-loop loop-holds mul-site slice-read-site cast-rule mul-u32-at add-u32-at
+    (λ c κs. search needs) put-if-requires add-i loop-less loop-again same-length returns)

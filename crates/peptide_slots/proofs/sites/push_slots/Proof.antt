@@ -5,18 +5,6 @@ use borrow.Author.Needs.{needs}
 use Rattle.peptide_slots.proofs.sites.push_slots.Statement.{statement}
 use Rattle.peptide_slots.proofs.sites.push_slots.Tie as tie
 
-at-first-requires : tie.Need-at-first-requires
-at-first-requires c κs = search needs
-
-put-if-requires : tie.Need-put-if-requires
-put-if-requires c κs = search needs
-
-at-last-requires : tie.Need-at-last-requires
-at-last-requires c κs = search needs
-
-add-put-if : tie.Need-add-put-if
-add-put-if c = search needs
-
 put-if-requires-2 : tie.Need-put-if-requires-2
 put-if-requires-2 c κs =
     let p = c .before .before .before .before .put-if in
@@ -27,9 +15,6 @@ push-places-requires c κs =
     let p = c .before .before .before .before .before .before .before .before .put-if in
     let q = c .before .before .before .put-if2 in
     omega (arith, c .before .before .before .before .before .before .before .before .before .before .before .before .pre, p .kept .0, q .kept .0, wrote-if _ _ _ _ _ _ (p .ensures), wrote-if _ _ _ _ _ _ (q .ensures))
-
-same-length : tie.Need-same-length
-same-length c = search needs
 
 returns : tie.Need-returns
 returns c =
@@ -46,13 +31,5 @@ returns c =
 
 pub push-slots-spec : {M : Type 1} → statement M
 push-slots-spec =
-    tie.close
-    (tie.spec
-    at-first-requires
-    put-if-requires
-    at-last-requires
-    add-put-if
-    put-if-requires-2
-    push-places-requires
-    same-length
-    returns)
+    tie.close (tie.spec (λ c κs. search needs) (λ c κs. search needs) (λ c κs. search needs) (λ c. search needs)
+    put-if-requires-2 push-places-requires (λ c. search needs) returns)

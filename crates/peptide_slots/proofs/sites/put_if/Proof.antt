@@ -5,18 +5,6 @@ use Rattle.peptide_slots.specs.WroteLaws.{wrote-none, wrote-one}
 use Rattle.peptide_slots.proofs.sites.put_if.Statement.{statement}
 use Rattle.peptide_slots.proofs.sites.put_if.Tie as tie
 
-mul-out : tie.Need-mul-out
-mul-out c = search needs
-
-slice-write-out : tie.Need-slice-write-out
-slice-write-out c = search needs
-
-add-result : tie.Need-add-result
-add-result c = search needs
-
-same-length : tie.Need-same-length
-same-length c = search needs
-
 returns : tie.Need-returns
 unfolding ifHit
 returns c = rw (c .if1 .taken) (wrote-one _ _ _)
@@ -26,4 +14,6 @@ unfolding ifHit
 returns-2 c = rw (c .if1 .left) (wrote-none _ _)
 
 pub put-if-spec : {M : Type 1} → statement M
-put-if-spec = tie.close (tie.spec mul-out slice-write-out add-result same-length returns returns-2)
+put-if-spec =
+    tie.close (tie.spec (λ c. search needs) (λ c. search needs) (λ c. search needs) (λ c. search needs) returns
+    returns-2)

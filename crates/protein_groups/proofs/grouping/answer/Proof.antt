@@ -7,18 +7,6 @@ use borrow.Author.Needs.{needs}
 use Rattle.protein_groups.proofs.grouping.answer.Statement.{statement}
 use Rattle.protein_groups.proofs.grouping.answer.Tie as tie
 
-room-for-requires : tie.Need-room-for-requires
-room-for-requires c κs = search needs
-
-room-for-requires-2 : tie.Need-room-for-requires-2
-room-for-requires-2 c κs = search needs
-
-cast-edges : tie.Need-cast-edges
-cast-edges c = search needs
-
-cast-members : tie.Need-cast-members
-cast-members c = search needs
-
 returns : tie.Need-returns
 returns c =
     let a = c .before .before .before .args in
@@ -33,5 +21,5 @@ returns-2 c =
 
 pub answer-spec : {M : Type 1} → statement M
 answer-spec =
-    tie.close
-    (tie.spec room-for-requires room-for-requires-2 cast-edges cast-members returns returns-2)
+    tie.close (tie.spec (λ c κs. search needs) (λ c κs. search needs) (λ c. search needs) (λ c. search needs)
+    returns returns-2)

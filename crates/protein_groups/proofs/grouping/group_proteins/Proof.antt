@@ -6,43 +6,16 @@ use borrow.Author.Needs.{needs}
 use Rattle.protein_groups.proofs.grouping.group_proteins.Statement.{statement}
 use Rattle.protein_groups.proofs.grouping.group_proteins.Tie as tie
 
-tested-requires : tie.Need-tested-requires
-tested-requires c κs = search needs
-
-enum-known-found : tie.Need-enum-known-found
-enum-known-found c = search needs
-
-enum-told : tie.Need-enum-told
-enum-told c = search needs
-
 group-passed-requires : tie.Need-group-passed-requires
 group-passed-requires c κs = let a = c .before .before .before .before .before .before .before .before .before .before .before .args in ready (a .pairs .now) (a .flags .now) (a .peptides) (a .proteins) (length (a .work .now)) (sym (c .before .before .before .before .before .tested .ensures) ∙ c .before .before .before .enum-told .given .1)
 
 returns : tie.Need-returns
 returns c = rw (sym (c .before .before .before .tested .ensures) ∙ c .before .found .given .1)
 
-same-length : tie.Need-same-length
-same-length c = search needs
-
-same-length-2 : tie.Need-same-length-2
-same-length-2 c = search needs
-
-same-length-3 : tie.Need-same-length-3
-same-length-3 c = search needs
-
 returns-2 : tie.Need-returns-2
 returns-2 c = rw (sym (c .before .before .before .before .before .before .before .before .before .before .before .before .tested .ensures) ∙ c .before .before .before .before .before .before .before .before .before .before .enum-told .given .1) (c .before .before .before .before .before .before .group-passed .ensures)
 
 pub group-proteins-spec : {M : Type 1} → statement M
 group-proteins-spec =
-    tie.close
-    (tie.spec
-    tested-requires
-    enum-known-found
-    enum-told
-    group-passed-requires
-    returns
-    same-length
-    same-length-2
-    same-length-3
-    returns-2)
+    tie.close (tie.spec (λ c κs. search needs) (λ c. search needs) (λ c. search needs) group-passed-requires
+    returns (λ c. search needs) (λ c. search needs) (λ c. search needs) returns-2)

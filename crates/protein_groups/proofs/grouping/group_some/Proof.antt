@@ -50,20 +50,11 @@ placed c =
 same : (c : tie.After-group-in) → length (c .group-in .last .0) ≡ length (c .before .before .before .before .before .before .before .before .before .before .before .before .args .work .now)
 same c = search needs
 
-mul-k : tie.Need-mul-k
-mul-k c = search needs
-
-keys-at-requires : tie.Need-keys-at-requires
-keys-at-requires c κs = search needs
-
 set-up-requires : tie.Need-set-up-requires
 set-up-requires c κs = let r = c .before .before .before .before .before .before .before .pre .0 in (r .few, rw (c .before .keys-at .ensures) (enough (c .before)), λ i h. omega (arith, r .inside i h .1, r .proteins-max))
 
 group-in-requires : tie.Need-group-in-requires
 group-in-requires c κs = placeable (c .before .before .before)
-
-add-hand-out : tie.Need-add-hand-out
-add-hand-out c = search needs
 
 hand-out-requires : tie.Need-hand-out-requires
 hand-out-requires c κs =
@@ -78,15 +69,6 @@ answer-requires c κs =
     let h = c .before .before .before .before .before .before .before .before .before .before .before .before .group-in .ensures .0 in
     (omega (arith, h .few-edges, r .few), omega (arith, h .few-members, r .proteins-max))
 
-same-length : tie.Need-same-length
-same-length c = search needs
-
-same-length-2 : tie.Need-same-length-2
-same-length-2 c = search needs
-
-same-length-3 : tie.Need-same-length-3
-same-length-3 c = search needs
-
 returns : tie.Need-returns
 returns c =
     let a = c .before .before .before .before .before .before .before .before .before .before .before .before .before .before .before .before .before .before .before .before .before .before .before .before .before .args in
@@ -99,16 +81,6 @@ returns c =
 
 pub group-some-spec : {M : Type 1} → statement M
 group-some-spec =
-    tie.close
-    (tie.spec
-    mul-k
-    keys-at-requires
-    set-up-requires
-    group-in-requires
-    add-hand-out
-    hand-out-requires
-    answer-requires
-    same-length
-    same-length-2
-    same-length-3
-    returns)
+    tie.close (tie.spec (λ c. search needs) (λ c κs. search needs) set-up-requires group-in-requires
+    (λ c. search needs) hand-out-requires answer-requires (λ c. search needs) (λ c. search needs)
+    (λ c. search needs) returns)

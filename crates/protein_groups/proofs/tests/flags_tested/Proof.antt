@@ -5,14 +5,8 @@ use borrow.Author.Needs.{needs}
 use Rattle.protein_groups.proofs.tests.flags_tested.Statement.{statement}
 use Rattle.protein_groups.proofs.tests.flags_tested.Tie as tie
 
-first-bad-mark-requires : tie.Need-first-bad-mark-requires
-first-bad-mark-requires c κs = search needs
-
-field-tested-requires : tie.Need-field-tested-requires
-field-tested-requires c κs = search needs
-
 returns : tie.Need-returns
 returns c = rw (c .before .first-bad-mark .ensures ∙ flags-marks (c .before .before .before .args .flags .now)) at (c .field-tested .ensures)
 
 pub flags-tested-spec : {M : Type 1} → statement M
-flags-tested-spec = tie.close (tie.spec first-bad-mark-requires field-tested-requires returns)
+flags-tested-spec = tie.close (tie.spec (λ c κs. search needs) (λ c κs. search needs) returns)

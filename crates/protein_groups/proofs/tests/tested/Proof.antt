@@ -27,20 +27,11 @@ short c = lt-ltb _ _ (rw (c .before .work-needed .ensures) at (c .if3 .taken))
 enough : (c : tie.Else3) → ltb (c .before .before .before .before .before .before .before .before .args .words) (needed (c .before .before .before .before .before .before .before .before .args .pairs .now) (c .before .before .before .before .before .before .before .before .args .peptides) (c .before .before .before .before .before .before .before .before .args .proteins)) ≡ false
 enough c = le-ltb _ _ (rw (c .before .work-needed .ensures) at (c .if3 .left))
 
-too-large-requires : tie.Need-too-large-requires
-too-large-requires c κs = search needs
-
 returns : tie.Need-returns
 returns c = rw (large c)
 
-is-uneven-requires : tie.Need-is-uneven-requires
-is-uneven-requires c κs = search needs
-
 returns-2 : tie.Need-returns-2
 returns-2 c = rw (fair (c .before .before), odd c)
-
-work-needed-requires : tie.Need-work-needed-requires
-work-needed-requires c κs = search needs
 
 returns-3 : tie.Need-returns-3
 returns-3 c = rw (fair (c .before .before .before .before), even (c .before .before), short c)
@@ -53,13 +44,5 @@ returns-4 c = rw (fair (c .before .before .before .before .before), even (c .bef
 
 pub tested-spec : {M : Type 1} → statement M
 tested-spec =
-    tie.close
-    (tie.spec
-    too-large-requires
-    returns
-    is-uneven-requires
-    returns-2
-    work-needed-requires
-    returns-3
-    contents-tested-requires
-    returns-4)
+    tie.close (tie.spec (λ c κs. search needs) returns (λ c κs. search needs) returns-2 (λ c κs. search needs)
+    returns-3 contents-tested-requires returns-4)

@@ -20,20 +20,11 @@ loop-holds c = let a = c .before .before .before .args in (omega arith, laid-non
 place-pair-requires : tie.Need-place-pair-requires Inv-loop μ-loop
 place-pair-requires c κs = let p = c .before .before .before .before .before .before .pre in let l = c .before .before .loop in (omega arith, p .0, omega (arith, l .inv .1 .same-length, p .1), p .2 (l .i) (omega arith))
 
-add-i : tie.Need-add-i Inv-loop μ-loop
-add-i c = search needs
-
-loop-less : tie.Need-loop-less Inv-loop μ-loop
-loop-less c = search needs
-
 loop-again : tie.Need-loop-again Inv-loop μ-loop
 loop-again c =
     let a = c .before .before .before .before .before .before .before .before .before .args in
     let l = c .before .before .before .before .before .loop in
     (omega arith, rw (c .before .before .place-pair .ensures) (laid-more (a .pairs .now) (a .flags .now) (a .a) (a .n) (l .i) (a .w .now) (l .w) (omega arith) (c .before .before .before .before .before .before .before .before .before .pre .1) (l .inv .1)))
-
-same-length : tie.Need-same-length Inv-loop μ-loop
-same-length c = search needs
 
 returns : tie.Need-returns Inv-loop μ-loop
 returns c =
@@ -44,14 +35,5 @@ returns c =
 
 pub place-pairs-spec : {M : Type 1} → statement M
 place-pairs-spec =
-    tie.close
-    (tie.spec
-    Inv-loop
-    μ-loop
-    loop-holds
-    place-pair-requires
-    add-i
-    loop-less
-    loop-again
-    same-length
-    returns)
+    tie.close (tie.spec Inv-loop μ-loop loop-holds place-pair-requires (λ c. search needs) (λ c. search needs)
+    loop-again (λ c. search needs) returns)

@@ -14,21 +14,6 @@ returns c =
     let a = c .before .before .args in
     stored-full 8 1048576 (a .out .now) (a .i) (edgeBytes (a .group, a .meta)) (rw (c .before .before .pre .1) at (c .if1 .taken))
 
-mul-k : tie.Need-mul-k
-mul-k c = search needs
-
-put-u32-requires : tie.Need-put-u32-requires
-put-u32-requires c κs = search needs
-
-add-put-u32 : tie.Need-add-put-u32
-add-put-u32 c = search needs
-
-put-u32-requires-2 : tie.Need-put-u32-requires-2
-put-u32-requires-2 c κs = search needs
-
-same-length : tie.Need-same-length
-same-length c = search needs
-
 returns-2 : tie.Need-returns-2
 returns-2 c =
     let a = c .before .before .before .before .before .before .before .before .before .before .args in
@@ -37,5 +22,5 @@ returns-2 c =
 
 pub put-edge-spec : {M : Type 1} → statement M
 put-edge-spec =
-    tie.close
-    (tie.spec returns mul-k put-u32-requires add-put-u32 put-u32-requires-2 same-length returns-2)
+    tie.close (tie.spec returns (λ c. search needs) (λ c κs. search needs) (λ c. search needs)
+    (λ c κs. search needs) (λ c. search needs) returns-2)

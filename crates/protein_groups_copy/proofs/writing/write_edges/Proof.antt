@@ -21,38 +21,11 @@ Inv-loop w a b n out₀ room i₀ out i =
 abbrev μ-loop : tie.MeasureT-loop
 μ-loop w a b n out₀ room i₀ out i = n - i
 
-room-for-requires : tie.Need-room-for-requires Inv-loop μ-loop
-room-for-requires c κs = search needs
-
 loop-holds : tie.Need-loop-holds Inv-loop μ-loop
 loop-holds c = let a = c .before .before .before .args in (omega arith, refl, writes-start 8 1048576 edgeBytes (standingEdge (a .w .now) (a .a) (a .b)) (a .n) (a .out .now))
 
-add-put-edge : tie.Need-add-put-edge Inv-loop μ-loop
-add-put-edge c = search needs
-
-mul-put-edge : tie.Need-mul-put-edge Inv-loop μ-loop
-mul-put-edge c = search needs
-
-shared-slice-read-put-edge : tie.Need-shared-slice-read-put-edge Inv-loop μ-loop
-shared-slice-read-put-edge c = search needs
-
-add-put-edge-2 : tie.Need-add-put-edge-2 Inv-loop μ-loop
-add-put-edge-2 c = search needs
-
-mul-put-edge-2 : tie.Need-mul-put-edge-2 Inv-loop μ-loop
-mul-put-edge-2 c = search needs
-
-shared-slice-read-put-edge-2 : tie.Need-shared-slice-read-put-edge-2 Inv-loop μ-loop
-shared-slice-read-put-edge-2 c = search needs
-
 put-edge-requires : tie.Need-put-edge-requires Inv-loop μ-loop
 put-edge-requires c κs = let l = c .before .before .before .before .loop in (omega arith, c .before .before .before .before .before .room-for .ensures ∙ (rw (l .inv .1)))
-
-add-i : tie.Need-add-i Inv-loop μ-loop
-add-i c = search needs
-
-loop-less : tie.Need-loop-less Inv-loop μ-loop
-loop-less c = search needs
 
 loop-again : tie.Need-loop-again Inv-loop μ-loop
 loop-again c =
@@ -63,9 +36,6 @@ loop-again c =
       rw (c .before .before .put-edge .ensures) (writes-more 8 1048576 edgeBytes (standingEdge (a .w .now) (a .a) (a .b)) (a .n) (l .out) (l .i) (omega arith) ∙ l .inv .2),
     )
 
-same-length : tie.Need-same-length Inv-loop μ-loop
-same-length c = search needs
-
 returns : tie.Need-returns Inv-loop μ-loop
 returns c =
     let a = c .before .before .before .before .before .args in
@@ -74,21 +44,6 @@ returns c =
 
 pub write-edges-spec : {M : Type 1} → statement M
 write-edges-spec =
-    tie.close
-    (tie.spec
-    Inv-loop
-    μ-loop
-    room-for-requires
-    loop-holds
-    add-put-edge
-    mul-put-edge
-    shared-slice-read-put-edge
-    add-put-edge-2
-    mul-put-edge-2
-    shared-slice-read-put-edge-2
-    put-edge-requires
-    add-i
-    loop-less
-    loop-again
-    same-length
-    returns)
+    tie.close (tie.spec Inv-loop μ-loop (λ c κs. search needs) loop-holds (λ c. search needs) (λ c. search needs)
+    (λ c. search needs) (λ c. search needs) (λ c. search needs) (λ c. search needs) put-edge-requires
+    (λ c. search needs) (λ c. search needs) loop-again (λ c. search needs) returns)

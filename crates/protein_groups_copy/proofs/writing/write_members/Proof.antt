@@ -21,32 +21,11 @@ Inv-loop w o s n out₀ room j₀ out j =
 abbrev μ-loop : tie.MeasureT-loop
 μ-loop w o s n out₀ room j₀ out j = n - j
 
-room-for-requires : tie.Need-room-for-requires Inv-loop μ-loop
-room-for-requires c κs = search needs
-
 loop-holds : tie.Need-loop-holds Inv-loop μ-loop
 loop-holds c = let a = c .before .before .before .args in (omega arith, refl, writes-start 12 131072 memberBytes (standingMember (a .w .now) (a .o) (a .s)) (a .n) (a .out .now))
 
-shown-at-requires : tie.Need-shown-at-requires Inv-loop μ-loop
-shown-at-requires c κs = search needs
-
-add-put-member : tie.Need-add-put-member Inv-loop μ-loop
-add-put-member c = search needs
-
-mul-put-member : tie.Need-mul-put-member Inv-loop μ-loop
-mul-put-member c = search needs
-
-shared-slice-read-put-member : tie.Need-shared-slice-read-put-member Inv-loop μ-loop
-shared-slice-read-put-member c = search needs
-
 put-member-requires : tie.Need-put-member-requires Inv-loop μ-loop
 put-member-requires c κs = let l = c .before .before .before .before .loop in (omega arith, c .before .before .before .before .before .room-for .ensures ∙ (rw (l .inv .1)))
-
-add-j : tie.Need-add-j Inv-loop μ-loop
-add-j c = search needs
-
-loop-less : tie.Need-loop-less Inv-loop μ-loop
-loop-less c = search needs
 
 loop-again : tie.Need-loop-again Inv-loop μ-loop
 loop-again c =
@@ -57,9 +36,6 @@ loop-again c =
       rw (c .before .before .put-member .ensures, c .before .before .before .before .before .shown-at .ensures) (writes-more 12 131072 memberBytes (standingMember (a .w .now) (a .o) (a .s)) (a .n) (l .out) (l .j) (omega arith) ∙ l .inv .2),
     )
 
-same-length : tie.Need-same-length Inv-loop μ-loop
-same-length c = search needs
-
 returns : tie.Need-returns Inv-loop μ-loop
 returns c =
     let a = c .before .before .before .before .before .args in
@@ -68,19 +44,6 @@ returns c =
 
 pub write-members-spec : {M : Type 1} → statement M
 write-members-spec =
-    tie.close
-    (tie.spec
-    Inv-loop
-    μ-loop
-    room-for-requires
-    loop-holds
-    shown-at-requires
-    add-put-member
-    mul-put-member
-    shared-slice-read-put-member
-    put-member-requires
-    add-j
-    loop-less
-    loop-again
-    same-length
-    returns)
+    tie.close (tie.spec Inv-loop μ-loop (λ c κs. search needs) loop-holds (λ c κs. search needs)
+    (λ c. search needs) (λ c. search needs) (λ c. search needs) put-member-requires (λ c. search needs)
+    (λ c. search needs) loop-again (λ c. search needs) returns)

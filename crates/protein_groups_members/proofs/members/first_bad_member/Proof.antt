@@ -22,15 +22,6 @@ loop-holds : tie.Need-loop-holds Inv-loop μ-loop
 unfolding firstBadMember
 loop-holds c = (omega arith, seek-start (badMember (now (c .before .args .members)) (c .before .args .groups) (c .before .args .proteins)) (length (now (c .before .args .members)) / 12))
 
-is-good-member-requires : tie.Need-is-good-member-requires Inv-loop μ-loop
-is-good-member-requires c κs = search needs
-
-add-i : tie.Need-add-i Inv-loop μ-loop
-add-i c = search needs
-
-loop-less : tie.Need-loop-less Inv-loop μ-loop
-loop-less c = search needs
-
 loop-again : tie.Need-loop-again Inv-loop μ-loop
 loop-again c =
     let l = c .before .before .before .loop in
@@ -48,14 +39,5 @@ returns-2 c = sym (seek-end (badMember (now (c .before .before .before .args .me
 
 pub first-bad-member-spec : {M : Type 1} → statement M
 first-bad-member-spec =
-    tie.close
-    (tie.spec
-    Inv-loop
-    μ-loop
-    loop-holds
-    is-good-member-requires
-    add-i
-    loop-less
-    loop-again
-    returns
-    returns-2)
+    tie.close (tie.spec Inv-loop μ-loop loop-holds (λ c κs. search needs) (λ c. search needs) (λ c. search needs)
+    loop-again returns returns-2)

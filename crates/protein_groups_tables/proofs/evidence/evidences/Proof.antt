@@ -6,27 +6,12 @@ use borrow.Author.Needs.{needs}
 use Rattle.protein_groups_tables.proofs.evidence.evidences.Statement.{statement}
 use Rattle.protein_groups_tables.proofs.evidence.evidences.Tie as tie
 
-by-counting-requires : tie.Need-by-counting-requires
-by-counting-requires c κs = search needs
-
 number-all-requires : tie.Need-number-all-requires
 number-all-requires c κs =
     let a = c .before .before .before .before .before .before .args in
     let g = c .before .before .before .before .before .before .pre in
     let s = c .before .before .before .by-counting in
     (omega arith, omega (arith, g .front, g .laid .counters), omega (arith, g .laid .values, g .laid .keys, g .laid .fits, s .kept .0), g .small, table-zero (a .w .now) (s .last .0) (a .k) (a .c) (a .m) (a .l) (a .a) (a .b) (a .n) (s .kept .0) g (s .ensures), all-below (a .w .now) (s .last .0) (a .k) (a .c) (a .m) (a .l) (a .a) (a .b) (a .n) (s .kept .0) g (s .ensures))
-
-slice-aggregate-sort-each : tie.Need-slice-aggregate-sort-each
-slice-aggregate-sort-each c = search needs
-
-add-sort-each : tie.Need-add-sort-each
-add-sort-each c = search needs
-
-sort-each-requires : tie.Need-sort-each-requires
-sort-each-requires c κs = search needs
-
-same-length : tie.Need-same-length
-same-length c = search needs
 
 returns : tie.Need-returns
 returns c =
@@ -38,12 +23,5 @@ returns c =
 
 pub evidences-spec : {M : Type 1} → statement M
 evidences-spec =
-    tie.close
-    (tie.spec
-    by-counting-requires
-    number-all-requires
-    slice-aggregate-sort-each
-    add-sort-each
-    sort-each-requires
-    same-length
-    returns)
+    tie.close (tie.spec (λ c κs. search needs) number-all-requires (λ c. search needs) (λ c. search needs)
+    (λ c κs. search needs) (λ c. search needs) returns)

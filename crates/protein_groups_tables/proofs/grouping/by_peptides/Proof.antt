@@ -4,9 +4,6 @@ use borrow.Author.Needs.{needs}
 use Rattle.protein_groups_tables.proofs.grouping.by_peptides.Statement.{statement}
 use Rattle.protein_groups_tables.proofs.grouping.by_peptides.Tie as tie
 
-wide-requires : tie.Need-wide-requires
-wide-requires c κs = search needs
-
 evidences-requires : tie.Need-evidences-requires
 evidences-requires c κs = rw (c .before .wide .ensures .0) (c .before .before .before .pre .given)
 
@@ -15,9 +12,6 @@ distinct-runs-requires c κs =
     let a = c .before .before .before .before .before .before .before .args in
     let e = c .before .before .before .evidences in
     bounded (a .w .now) (e .last .0) (a .k) (a .o) (a .s) (a .c) (a .m) (a .l) (a .a) (a .b) (a .n) (e .result) (e .kept .0) (c .before .before .before .before .before .before .before .pre) (rw (c .before .before .before .before .before .wide .ensures .0) at (e .ensures))
-
-same-length : tie.Need-same-length
-same-length c = search needs
 
 returns : tie.Need-returns
 returns c =
@@ -28,5 +22,5 @@ returns c =
 
 pub by-peptides-spec : {M : Type 1} → statement M
 by-peptides-spec =
-    tie.close
-    (tie.spec wide-requires evidences-requires distinct-runs-requires same-length returns)
+    tie.close (tie.spec (λ c κs. search needs) evidences-requires distinct-runs-requires (λ c. search needs)
+    returns)

@@ -4,14 +4,8 @@ use borrow.Author.Needs.{needs}
 use Rattle.protein_groups_tables.proofs.grouping.by_proteins.Statement.{statement}
 use Rattle.protein_groups_tables.proofs.grouping.by_proteins.Tie as tie
 
-wide-requires : tie.Need-wide-requires
-wide-requires c κs = search needs
-
 by-counting-requires : tie.Need-by-counting-requires
 by-counting-requires c κs = rw (c .before .wide .ensures .0) (c .before .before .before .pre .laid)
-
-count-from-requires : tie.Need-count-from-requires
-count-from-requires c κs = search needs
 
 runs-of-requires : tie.Need-runs-of-requires
 runs-of-requires c κs =
@@ -20,9 +14,6 @@ runs-of-requires c κs =
     let p = c .before .before .before .count-from in
     let e = c .before .before .before .before .before .before .before .before .before .wide .ensures .0 in
     rw e (things (a .w .now) (d .last .0) (p .last .0) (a .o) (a .s) (a .c) (a .f) (a .l) (a .a) (a .b) (a .t) (d .kept .0) (p .kept .0) (c .before .before .before .before .before .before .before .before .before .before .before .pre) (rw e at (d .ensures)) (p .ensures))
-
-same-length : tie.Need-same-length
-same-length c = search needs
 
 returns : tie.Need-returns
 returns c =
@@ -35,11 +26,5 @@ returns c =
 
 pub by-proteins-spec : {M : Type 1} → statement M
 by-proteins-spec =
-    tie.close
-    (tie.spec
-    wide-requires
-    by-counting-requires
-    count-from-requires
-    runs-of-requires
-    same-length
-    returns)
+    tie.close (tie.spec (λ c κs. search needs) by-counting-requires (λ c κs. search needs) runs-of-requires
+    (λ c. search needs) returns)

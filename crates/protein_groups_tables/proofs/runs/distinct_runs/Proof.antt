@@ -4,20 +4,11 @@ use borrow.Author.Needs.{needs}
 use Rattle.protein_groups_tables.proofs.runs.distinct_runs.Statement.{statement}
 use Rattle.protein_groups_tables.proofs.runs.distinct_runs.Tie as tie
 
-takers-requires : tie.Need-takers-requires
-takers-requires c κs = search needs
-
-wide-requires : tie.Need-wide-requires
-wide-requires c κs = search needs
-
 runs-of-requires : tie.Need-runs-of-requires
 runs-of-requires c κs =
     let a = c .before .before .before .before .before .before .before .args in
     let k = c .before .before .before .before .takers in
     rw (c .wide .ensures .0) (things (a .w .now) (k .last .0) (a .o) (a .s) (a .c) (a .m) (a .l) (a .a) (a .b) (a .n) (k .result) (k .kept .0) (c .before .before .before .before .before .before .before .pre) (k .ensures))
-
-same-length : tie.Need-same-length
-same-length c = search needs
 
 returns : tie.Need-returns
 returns c =
@@ -28,4 +19,5 @@ returns c =
 
 pub distinct-runs-spec : {M : Type 1} → statement M
 distinct-runs-spec =
-    tie.close (tie.spec takers-requires wide-requires runs-of-requires same-length returns)
+    tie.close (tie.spec (λ c κs. search needs) (λ c κs. search needs) runs-of-requires (λ c. search needs)
+    returns)

@@ -14,30 +14,6 @@ use borrow.Author.Needs.{needs}
 use Rattle.protein_groups_tables.proofs.runs.order_runs.Statement.{statement}
 use Rattle.protein_groups_tables.proofs.runs.order_runs.Tie as tie
 
-add-hi : tie.Need-add-hi
-add-hi c = search needs
-
-slice-aggregate-sort-range : tie.Need-slice-aggregate-sort-range
-slice-aggregate-sort-range c = search needs
-
-sort-range-requires : tie.Need-sort-range-requires
-sort-range-requires c κs = search needs
-
-slice-aggregate-number-runs : tie.Need-slice-aggregate-number-runs
-slice-aggregate-number-runs c = search needs
-
-number-runs-requires : tie.Need-number-runs-requires
-number-runs-requires c κs = search needs
-
-enum-known-numbered : tie.Need-enum-known-numbered
-enum-known-numbered c = search needs
-
-enum-told : tie.Need-enum-told
-enum-told c = search needs
-
-same-length : tie.Need-same-length
-same-length c = search needs
-
 returns : tie.Need-returns
 returns c =
     let a = c .before .before .before .before .before .before .before .before .before .before .before .before .before .before .args in
@@ -45,9 +21,6 @@ returns c =
     let f = c .before .before .before .before .before .before .before .before .before .before .sort-range in
     let g = c .before .before .before .before .before .number-runs in
     ordered (a .w .now) (f .last .1 .1 .0) (g .last .1 .1 .0) [] (a .o) (a .t) (a .s) (a .e) (a .base) (g .result) (f .kept .1 .1 .0) (g .kept .1 .1 .0) (pre .0) (pre .1) (pre .2) (pre .3) (f .ensures) (g .ensures) (c .before .numbered .given .0 .0) (c .before .numbered .given .1)
-
-same-length-2 : tie.Need-same-length-2
-same-length-2 c = search needs
 
 returns-2 : tie.Need-returns-2
 returns-2 c =
@@ -59,16 +32,6 @@ returns-2 c =
 
 pub order-runs-spec : {M : Type 1} → statement M
 order-runs-spec =
-    tie.close
-    (tie.spec
-    add-hi
-    slice-aggregate-sort-range
-    sort-range-requires
-    slice-aggregate-number-runs
-    number-runs-requires
-    enum-known-numbered
-    enum-told
-    same-length
-    returns
-    same-length-2
+    tie.close (tie.spec (λ c. search needs) (λ c. search needs) (λ c κs. search needs) (λ c. search needs)
+    (λ c κs. search needs) (λ c. search needs) (λ c. search needs) (λ c. search needs) returns (λ c. search needs)
     returns-2)

@@ -7,15 +7,6 @@ use borrow.Author.Needs.{needs}
 use Rattle.protein_groups_tables.proofs.runs.runs_of.Statement.{statement}
 use Rattle.protein_groups_tables.proofs.runs.runs_of.Tie as tie
 
-sub-base : tie.Need-sub-base
-sub-base c = search needs
-
-cast-base : tie.Need-cast-base
-cast-base c = search needs
-
-order-runs-requires : tie.Need-order-runs-requires
-order-runs-requires c κs = search needs
-
 spread-runs-requires : tie.Need-spread-runs-requires
 spread-runs-requires c κs =
     let a = c .before .before .before .before .before .before .args in
@@ -23,9 +14,6 @@ spread-runs-requires c κs =
     let d = c .before .before .before .order-runs in
     let e : a .c + (a .l - a .c) ≡ a .l = omega (arith, g .bounds) in
     spreadable (a .w .now) (d .last .0) (a .o) (a .t) (a .s) (a .c) (a .m) (a .l) (a .a) (a .b) (a .n) (d .result) (d .kept .0) g (rw e at (d .ensures))
-
-same-length : tie.Need-same-length
-same-length c = search needs
 
 returns : tie.Need-returns
 returns c =
@@ -38,5 +26,5 @@ returns c =
 
 pub runs-of-spec : {M : Type 1} → statement M
 runs-of-spec =
-    tie.close
-    (tie.spec sub-base cast-base order-runs-requires spread-runs-requires same-length returns)
+    tie.close (tie.spec (λ c. search needs) (λ c. search needs) (λ c κs. search needs) spread-runs-requires
+    (λ c. search needs) returns)

@@ -21,9 +21,6 @@ loop-holds c = let s = c .before .args in (omega arith, refl, take-none (s .w .n
 add-next : tie.Need-add-next Inv-loop μ-loop
 add-next c = omega arith
 
-wide-requires : tie.Need-wide-requires Inv-loop μ-loop
-wide-requires c κs = search needs
-
 add-at : tie.Need-add-at Inv-loop μ-loop
 add-at c =
     let s = c .before .before .before .before .args in let pre = c .before .before .before .before .pre in
@@ -142,26 +139,6 @@ returns c = let s = c .before .before .before .args in let l = c .before .loop i
 
 pub takers-spec : {M : Type 1} → statement M
 takers-spec =
-    tie.close
-    (tie.spec
-    Inv-loop
-    μ-loop
-    loop-holds
-    add-next
-    wide-requires
-    add-at
-    mul-if1
-    slice-read-if1
-    add-if1
-    mul-if1-2
-    slice-read-if1-2
-    add-w
-    mul-w
-    slice-write-w
-    add-k
-    loop-less
-    loop-again
-    loop-less-2
-    loop-again-2
-    same-length
-    returns)
+    tie.close (tie.spec Inv-loop μ-loop loop-holds add-next (λ c κs. search needs) add-at mul-if1 slice-read-if1
+    add-if1 mul-if1-2 slice-read-if1-2 add-w mul-w slice-write-w add-k loop-less loop-again loop-less-2
+    loop-again-2 same-length returns)

@@ -6,42 +6,6 @@ use borrow.Author.Needs.{needs}
 use Rattle.records.proofs.number.put_part.Statement.{statement}
 use Rattle.records.proofs.number.put_part.Tie as tie
 
-cast-put-byte : tie.Need-cast-put-byte
-cast-put-byte c = search needs
-
-put-byte-requires : tie.Need-put-byte-requires
-put-byte-requires c κs = search needs
-
-add-put-byte : tie.Need-add-put-byte
-add-put-byte c = search needs
-
-cast-put-byte-2 : tie.Need-cast-put-byte-2
-cast-put-byte-2 c = search needs
-
-put-byte-requires-2 : tie.Need-put-byte-requires-2
-put-byte-requires-2 c κs = search needs
-
-add-put-byte-2 : tie.Need-add-put-byte-2
-add-put-byte-2 c = search needs
-
-cast-put-byte-3 : tie.Need-cast-put-byte-3
-cast-put-byte-3 c = search needs
-
-put-byte-requires-3 : tie.Need-put-byte-requires-3
-put-byte-requires-3 c κs = search needs
-
-add-put-byte-3 : tie.Need-add-put-byte-3
-add-put-byte-3 c = search needs
-
-cast-put-byte-4 : tie.Need-cast-put-byte-4
-cast-put-byte-4 c = search needs
-
-put-byte-requires-4 : tie.Need-put-byte-requires-4
-put-byte-requires-4 c κs = search needs
-
-same-length : tie.Need-same-length
-same-length c = search needs
-
 returns : tie.Need-returns
 returns c =
     let at = c .before .before .before .before .before .before .before .before .before .before .before .before .before .before .before .before .before .args .at in
@@ -52,18 +16,6 @@ returns c =
 
 pub put-part-spec : {M : Type 1} → statement M
 put-part-spec =
-    tie.close
-    (tie.spec
-    cast-put-byte
-    put-byte-requires
-    add-put-byte
-    cast-put-byte-2
-    put-byte-requires-2
-    add-put-byte-2
-    cast-put-byte-3
-    put-byte-requires-3
-    add-put-byte-3
-    cast-put-byte-4
-    put-byte-requires-4
-    same-length
-    returns)
+    tie.close (tie.spec (λ c. search needs) (λ c κs. search needs) (λ c. search needs) (λ c. search needs)
+    (λ c κs. search needs) (λ c. search needs) (λ c. search needs) (λ c κs. search needs) (λ c. search needs)
+    (λ c. search needs) (λ c κs. search needs) (λ c. search needs) returns)

@@ -3,17 +3,8 @@ use borrow.Author.Needs.{needs}
 use Rattle.records.proofs.refusal.and_then.Statement.{statement}
 use Rattle.records.proofs.refusal.and_then.Tie as tie
 
-enum-told : tie.Need-enum-told
-enum-told c = search needs
-
-enum-known-first : tie.Need-enum-known-first
-enum-known-first c = search needs
-
-returns : tie.Need-returns
-returns c = search needs
-
 returns-2 : tie.Need-returns-2
 returns-2 c = rw (c .before .first .given .1)
 
 pub and-then-spec : {M : Type 1} → statement M
-and-then-spec = tie.close (tie.spec enum-told enum-known-first returns returns-2)
+and-then-spec = tie.close (tie.spec (λ c. search needs) (λ c. search needs) (λ c. search needs) returns-2)

@@ -11,45 +11,8 @@ Inv-loop line out count same₀ at₀ k₀ same at k = (k ≤ count) × (at ≤ 
 abbrev μ-loop : tie.MeasureT-loop
 μ-loop line out count same₀ at₀ k₀ same at k = count - k
 
-decimal-at-requires : tie.Need-decimal-at-requires Inv-loop μ-loop
-decimal-at-requires c κs = search needs
-
-field-requires : tie.Need-field-requires Inv-loop μ-loop
-field-requires c κs = search needs
-
-loop-holds : tie.Need-loop-holds Inv-loop μ-loop
-loop-holds c = search needs
-
-has-form-requires : tie.Need-has-form-requires Inv-loop μ-loop
-has-form-requires c κs = search needs
-
-behind-requires : tie.Need-behind-requires Inv-loop μ-loop
-behind-requires c κs = search needs
-
-add-k : tie.Need-add-k Inv-loop μ-loop
-add-k c = search needs
-
-loop-less : tie.Need-loop-less Inv-loop μ-loop
-loop-less c = search needs
-
-loop-again : tie.Need-loop-again Inv-loop μ-loop
-loop-again c = search needs
-
-returns : tie.Need-returns Inv-loop μ-loop
-returns c = search needs
-
 pub are-forms-spec : {M : Type 1} → statement M
 are-forms-spec =
-    tie.close
-    (tie.spec
-    Inv-loop
-    μ-loop
-    decimal-at-requires
-    field-requires
-    loop-holds
-    has-form-requires
-    behind-requires
-    add-k
-    loop-less
-    loop-again
-    returns)
+    tie.close (tie.spec Inv-loop μ-loop (λ c κs. search needs) (λ c κs. search needs) (λ c. search needs)
+    (λ c κs. search needs) (λ c κs. search needs) (λ c. search needs) (λ c. search needs) (λ c. search needs)
+    (λ c. search needs))

@@ -17,11 +17,5 @@ float-from-bits-result c =
     let none : nanBits binary32 bits ≡ false = nanBits-above binary32 bits ∙ le-ltb 2139095040 (bits % 2147483648) low in
     rw none tt
 
-returns : tie.Need-returns
-returns c = search needs
-
-returns-2 : tie.Need-returns-2
-returns-2 c = search needs
-
 pub has-bits-spec : {M : Type 1} → statement M
-has-bits-spec = tie.close (tie.spec float-from-bits-result returns returns-2)
+has-bits-spec = tie.close (tie.spec float-from-bits-result (λ c. search needs) (λ c. search needs))

@@ -6,22 +6,10 @@ use borrow.Author.Needs.{needs}
 use Rattle.report_lines.proofs.reporting.line_laid.Statement.{statement}
 use Rattle.report_lines.proofs.reporting.line_laid.Tie as tie
 
-lay-out-requires : tie.Need-lay-out-requires
-lay-out-requires c κs = search needs
-
 line-in-requires : tie.Need-line-in-requires
 line-in-requires c κs =
     let a = c .before .before .before .before .before .before .before .before .before .before .before .before .before .args in
     stretched-laid (a .names .now) (membersIn (a .members .now)) (a .marks .now) (a .list .now) (a .decoy) (a .tag .now) (a .generated) (c .before .before .before .before .lay-out .last .1 .1 .1 .1 .1 .1 .1 .0) (a .c) (c .before .before .before .before .lay-out .ensures) (c .before .before .before .before .before .before .before .before .before .before .before .before .before .pre .0 .small) (c .before .before .before .before .before .before .before .before .before .before .before .before .before .pre .1)
-
-answer-requires : tie.Need-answer-requires
-answer-requires c κs = search needs
-
-same-length : tie.Need-same-length
-same-length c = search needs
-
-same-length-2 : tie.Need-same-length-2
-same-length-2 c = search needs
 
 returns : tie.Need-returns
 returns c =
@@ -31,5 +19,5 @@ returns c =
 
 pub line-laid-spec : {M : Type 1} → statement M
 line-laid-spec =
-    tie.close
-    (tie.spec lay-out-requires line-in-requires answer-requires same-length same-length-2 returns)
+    tie.close (tie.spec (λ c κs. search needs) line-in-requires (λ c κs. search needs) (λ c. search needs)
+    (λ c. search needs) returns)

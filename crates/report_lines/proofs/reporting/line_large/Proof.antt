@@ -5,21 +5,12 @@ use borrow.Author.Needs.{needs}
 use Rattle.report_lines.proofs.reporting.line_large.Statement.{statement}
 use Rattle.report_lines.proofs.reporting.line_large.Tie as tie
 
-slice-aggregate-line-over : tie.Need-slice-aggregate-line-over
-slice-aggregate-line-over c = search needs
-
 line-over-requires : tie.Need-line-over-requires
 line-over-requires c κs =
     let a = c .before .before .before .before .before .before .before .before .args in
     let s = fair-sizes (c .before .before .before .before .before .before .before .before .pre) in
     (c .before .before .before .before .before .before .before .before .pre, new-table (a .names .now) (a .members .now) (a .marks .now) 131072 393234 (omega (arith, s .few-names)) (s .few-members) (s .few-marks) (omega arith) (omega arith))
 
-same-length : tie.Need-same-length
-same-length c = search needs
-
-returns : tie.Need-returns
-returns c = search needs
-
 pub line-large-spec : {M : Type 1} → statement M
 line-large-spec =
-    tie.close (tie.spec slice-aggregate-line-over line-over-requires same-length returns)
+    tie.close (tie.spec (λ c. search needs) line-over-requires (λ c. search needs) (λ c. search needs))

@@ -5,21 +5,12 @@ use borrow.Author.Needs.{needs}
 use Rattle.report_lines.proofs.reporting.line_middle.Statement.{statement}
 use Rattle.report_lines.proofs.reporting.line_middle.Tie as tie
 
-slice-aggregate-line-over : tie.Need-slice-aggregate-line-over
-slice-aggregate-line-over c = search needs
-
 line-over-requires : tie.Need-line-over-requires
 line-over-requires c κs =
     let a = c .before .before .before .before .before .before .before .before .args in
     let p = c .before .before .before .before .before .before .before .before .pre in
     (p .0, new-table (a .names .now) (a .members .now) (a .marks .now) 16384 49170 (p .1) (p .2) (p .3) (omega arith) (omega arith))
 
-same-length : tie.Need-same-length
-same-length c = search needs
-
-returns : tie.Need-returns
-returns c = search needs
-
 pub line-middle-spec : {M : Type 1} → statement M
 line-middle-spec =
-    tie.close (tie.spec slice-aggregate-line-over line-over-requires same-length returns)
+    tie.close (tie.spec (λ c. search needs) line-over-requires (λ c. search needs) (λ c. search needs))

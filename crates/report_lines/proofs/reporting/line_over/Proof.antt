@@ -9,21 +9,6 @@ use borrow.Author.Needs.{needs}
 use Rattle.report_lines.proofs.reporting.line_over.Statement.{statement}
 use Rattle.report_lines.proofs.reporting.line_over.Tie as tie
 
-name-count-requires : tie.Need-name-count-requires
-name-count-requires c κs = search needs
-
-names-tested-in-requires : tie.Need-names-tested-in-requires
-names-tested-in-requires c κs = search needs
-
-lists-tested-requires : tie.Need-lists-tested-requires
-lists-tested-requires c κs = search needs
-
-enum-known-found : tie.Need-enum-known-found
-enum-known-found c = search needs
-
-enum-told : tie.Need-enum-told
-enum-told c = search needs
-
 -- what was found is what the contents tell
 told : (c : tie.After-lists-tested) → c .lists-tested .result ≡ contents (now (c .before .before .before .before .before .before .before .before .before .before .before .before .before .args .names)) (now (c .before .before .before .before .before .before .before .before .before .before .before .before .before .args .members)) (now (c .before .before .before .before .before .before .before .before .before .before .before .before .before .args .marks)) (now (c .before .before .before .before .before .before .before .before .before .before .before .before .before .args .list)) (now (c .before .before .before .before .before .before .before .before .before .before .before .before .before .args .tag))
 told c =
@@ -43,33 +28,14 @@ line-laid-requires c κs =
       good-tag (now (a .names)) (now (a .members)) (now (a .marks)) (now (a .list)) (now (a .tag)) good,
     )
 
-same-length : tie.Need-same-length
-same-length c = search needs
-
 returns : tie.Need-returns
 returns c = rw (sym (told (c .before .before .before)) ∙ c .before .found .given .1)
-
-same-length-2 : tie.Need-same-length-2
-same-length-2 c = search needs
-
-same-length-3 : tie.Need-same-length-3
-same-length-3 c = search needs
 
 returns-2 : tie.Need-returns-2
 returns-2 c = rw (sym (told (c .before .before .before .before .before .before .before .before .before)) ∙ c .before .before .before .before .before .before .before .enum-told .given .1) (c .before .before .before .before .line-laid .ensures)
 
 pub line-over-spec : {M : Type 1} → statement M
 line-over-spec =
-    tie.close
-    (tie.spec
-    name-count-requires
-    names-tested-in-requires
-    lists-tested-requires
-    enum-known-found
-    enum-told
-    line-laid-requires
-    same-length
-    returns
-    same-length-2
-    same-length-3
+    tie.close (tie.spec (λ c κs. search needs) (λ c κs. search needs) (λ c κs. search needs) (λ c. search needs)
+    (λ c. search needs) line-laid-requires (λ c. search needs) returns (λ c. search needs) (λ c. search needs)
     returns-2)

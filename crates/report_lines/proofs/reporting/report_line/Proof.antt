@@ -8,17 +8,11 @@ use borrow.Author.Needs.{needs}
 use Rattle.report_lines.proofs.reporting.report_line.Statement.{statement}
 use Rattle.report_lines.proofs.reporting.report_line.Tie as tie
 
-too-large-requires : tie.Need-too-large-requires
-too-large-requires c κs = search needs
-
 returns : tie.Need-returns
 returns c =
     let a = c .before .before .before .before .before .before .before .before .args in
     let t : tooLarge (now (a .names)) (now (a .members)) (now (a .marks)) (now (a .list)) ≡ true = sym (c .before .too-large .ensures) ∙ c .if1 .taken in
     rw t
-
-is-uneven-requires : tie.Need-is-uneven-requires
-is-uneven-requires c κs = search needs
 
 returns-2 : tie.Need-returns-2
 returns-2 c =
@@ -31,9 +25,6 @@ line-of-requires : tie.Need-line-of-requires
 line-of-requires c κs =
     record { small = sym (c .before .before .before .before .too-large .ensures) ∙ c .before .before .before .if1 .left; even = sym (c .before .before .is-uneven .ensures) ∙ c .before .if2 .left }
 
-same-length : tie.Need-same-length
-same-length c = search needs
-
 returns-3 : tie.Need-returns-3
 returns-3 c =
     let a = c .before .before .before .before .before .before .before .before .before .before .before .before .before .before .args in
@@ -43,12 +34,5 @@ returns-3 c =
 
 pub report-line-spec : {M : Type 1} → statement M
 report-line-spec =
-    tie.close
-    (tie.spec
-    too-large-requires
-    returns
-    is-uneven-requires
-    returns-2
-    line-of-requires
-    same-length
-    returns-3)
+    tie.close (tie.spec (λ c κs. search needs) returns (λ c κs. search needs) returns-2 line-of-requires
+    (λ c. search needs) returns-3)

@@ -9,15 +9,6 @@ use borrow.Author.Needs.{needs}
 use Rattle.report_lines.proofs.reporting.tested.Statement.{statement}
 use Rattle.report_lines.proofs.reporting.tested.Tie as tie
 
-slice-aggregate-report-line : tie.Need-slice-aggregate-report-line
-slice-aggregate-report-line c = search needs
-
-report-line-requires : tie.Need-report-line-requires
-report-line-requires c κs = search needs
-
-tests-of-requires : tie.Need-tests-of-requires
-tests-of-requires c κs = search needs
-
 returns : tie.Need-returns
 returns c =
     let a = c .before .before .before .before .before .before .before .before .before .args in
@@ -26,5 +17,4 @@ returns c =
     ∙ tests-told (now (a .names)) (now (a .members)) (now (a .marks)) (now (a .list)) (now (a .tag)) false false _
 
 pub tested-spec : {M : Type 1} → statement M
-tested-spec =
-    tie.close (tie.spec slice-aggregate-report-line report-line-requires tests-of-requires returns)
+tested-spec = tie.close (tie.spec (λ c. search needs) (λ c κs. search needs) (λ c κs. search needs) returns)

@@ -8,18 +8,6 @@ use borrow.Author.Needs.{needs}
 use Rattle.report_lines.proofs.reporting.tests_of.Statement.{statement}
 use Rattle.report_lines.proofs.reporting.tests_of.Tie as tie
 
-enum-told : tie.Need-enum-told
-enum-told c = search needs
-
-enum-known-answer : tie.Need-enum-known-answer
-enum-known-answer c = search needs
-
-number-requires : tie.Need-number-requires
-number-requires c κs = search needs
-
-returns : tie.Need-returns
-returns c = search needs
-
 returns-2 : tie.Need-returns-2
 returns-2 c =
     let f = c .before .before .before .answer in
@@ -34,4 +22,5 @@ returns-3 c =
 
 pub tests-of-spec : {M : Type 1} → statement M
 tests-of-spec =
-    tie.close (tie.spec enum-told enum-known-answer number-requires returns returns-2 returns-3)
+    tie.close (tie.spec (λ c. search needs) (λ c. search needs) (λ c κs. search needs) (λ c. search needs)
+    returns-2 returns-3)

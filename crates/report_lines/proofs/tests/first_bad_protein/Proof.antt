@@ -21,12 +21,6 @@ loop-holds : tie.Need-loop-holds Inv-loop μ-loop
 unfolding firstBadProtein
 loop-holds c = (omega arith, seek-start (badProtein (c .args .list .now) (c .args .proteins)) (length (c .args .list .now)))
 
-mul-protein : tie.Need-mul-protein Inv-loop μ-loop
-mul-protein c = search needs
-
-shared-slice-read-protein : tie.Need-shared-slice-read-protein Inv-loop μ-loop
-shared-slice-read-protein c = search needs
-
 cast-protein : tie.Need-cast-protein Inv-loop μ-loop
 cast-protein c = omega (arith, c .shared-slice-known .given (c .before .before .loop .i))
 
@@ -35,12 +29,6 @@ returns c =
     let a = c .before .before .before .before .args in
     let lp = c .before .before .before .loop in
     sym (seek-stop (badProtein (a .list .now) (a .proteins)) (lp .i) (length (a .list .now)) (c .before .before .loop-test .taken) (le-leb _ _ (c .if1 .taken))) ∙ lp .inv .1
-
-add-i : tie.Need-add-i Inv-loop μ-loop
-add-i c = search needs
-
-loop-less : tie.Need-loop-less Inv-loop μ-loop
-loop-less c = search needs
 
 loop-again : tie.Need-loop-again Inv-loop μ-loop
 loop-again c =
@@ -56,16 +44,5 @@ returns-2 c =
 
 pub first-bad-protein-spec : {M : Type 1} → statement M
 first-bad-protein-spec =
-    tie.close
-    (tie.spec
-    Inv-loop
-    μ-loop
-    loop-holds
-    mul-protein
-    shared-slice-read-protein
-    cast-protein
-    returns
-    add-i
-    loop-less
-    loop-again
-    returns-2)
+    tie.close (tie.spec Inv-loop μ-loop loop-holds (λ c. search needs) (λ c. search needs) cast-protein returns
+    (λ c. search needs) (λ c. search needs) loop-again returns-2)

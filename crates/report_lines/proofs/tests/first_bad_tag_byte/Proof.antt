@@ -20,23 +20,11 @@ loop-holds : tie.Need-loop-holds Inv-loop μ-loop
 unfolding firstBadTagByte
 loop-holds c = (omega arith, seek-start (badTagByte (c .before .args .tag .now)) (length (c .before .args .tag .now)))
 
-shared-slice-read-is-hidden : tie.Need-shared-slice-read-is-hidden Inv-loop μ-loop
-shared-slice-read-is-hidden c = search needs
-
-is-hidden-requires : tie.Need-is-hidden-requires Inv-loop μ-loop
-is-hidden-requires c κs = search needs
-
 returns : tie.Need-returns Inv-loop μ-loop
 returns c =
     let tag = c .before .before .before .before .before .before .args .tag .now in
     let lp = c .before .before .before .before .loop in
     sym (seek-stop (badTagByte tag) (lp .i) (length tag) (c .before .before .before .loop-test .taken) (sym (c .before .is-hidden .ensures) ∙ c .if1 .taken)) ∙ lp .inv .1
-
-add-i : tie.Need-add-i Inv-loop μ-loop
-add-i c = search needs
-
-loop-less : tie.Need-loop-less Inv-loop μ-loop
-loop-less c = search needs
 
 loop-again : tie.Need-loop-again Inv-loop μ-loop
 loop-again c =
@@ -52,15 +40,5 @@ returns-2 c =
 
 pub first-bad-tag-byte-spec : {M : Type 1} → statement M
 first-bad-tag-byte-spec =
-    tie.close
-    (tie.spec
-    Inv-loop
-    μ-loop
-    loop-holds
-    shared-slice-read-is-hidden
-    is-hidden-requires
-    returns
-    add-i
-    loop-less
-    loop-again
-    returns-2)
+    tie.close (tie.spec Inv-loop μ-loop loop-holds (λ c. search needs) (λ c κs. search needs) returns
+    (λ c. search needs) (λ c. search needs) loop-again returns-2)

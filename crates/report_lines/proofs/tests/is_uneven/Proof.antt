@@ -3,11 +3,8 @@ use borrow.Author.Needs.{needs}
 use Rattle.report_lines.proofs.tests.is_uneven.Statement.{statement}
 use Rattle.report_lines.proofs.tests.is_uneven.Tie as tie
 
-are-whole-names-requires : tie.Need-are-whole-names-requires
-are-whole-names-requires c κs = search needs
-
 returns : tie.Need-returns
 returns c = rw (c .are-whole-names .ensures)
 
 pub is-uneven-spec : {M : Type 1} → statement M
-is-uneven-spec = tie.close (tie.spec are-whole-names-requires returns)
+is-uneven-spec = tie.close (tie.spec (λ c κs. search needs) returns)

@@ -8,9 +8,6 @@ use borrow.Author.Needs.{needs}
 use Rattle.report_lines.proofs.tests.tag_tested.Statement.{statement}
 use Rattle.report_lines.proofs.tests.tag_tested.Tie as tie
 
-first-bad-tag-byte-requires : tie.Need-first-bad-tag-byte-requires
-first-bad-tag-byte-requires c κs = search needs
-
 returns : tie.Need-returns
 returns c =
     let s = c .before .before .before .args .tag .now in
@@ -24,4 +21,4 @@ returns-2 c =
     rw g
 
 pub tag-tested-spec : {M : Type 1} → statement M
-tag-tested-spec = tie.close (tie.spec first-bad-tag-byte-requires returns returns-2)
+tag-tested-spec = tie.close (tie.spec (λ c κs. search needs) returns returns-2)

@@ -3,11 +3,8 @@ use borrow.Author.Needs.{needs}
 use Rattle.report_lines.proofs.tests.too_large.Statement.{statement}
 use Rattle.report_lines.proofs.tests.too_large.Tie as tie
 
-too-many-names-requires : tie.Need-too-many-names-requires
-too-many-names-requires c κs = search needs
-
 returns : tie.Need-returns
 returns c = rw (c .too-many-names .ensures)
 
 pub too-large-spec : {M : Type 1} → statement M
-too-large-spec = tie.close (tie.spec too-many-names-requires returns)
+too-large-spec = tie.close (tie.spec (λ c κs. search needs) returns)

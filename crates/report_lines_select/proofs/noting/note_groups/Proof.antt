@@ -31,12 +31,6 @@ loop-holds c = let s = c .before .before .before in let a = s .args in (omega ar
 note-group-requires : tie.Need-note-group-requires Inv-loop μ-loop
 note-group-requires c κs = (omega arith, omega (arith, group-in (c .before)), omega (arith, protein-in (c .before)))
 
-add-i : tie.Need-add-i Inv-loop μ-loop
-add-i c = search needs
-
-loop-less : tie.Need-loop-less Inv-loop μ-loop
-loop-less c = search needs
-
 loop-again : tie.Need-loop-again Inv-loop μ-loop
 loop-again c =
     let a = c .before .before .before .before .before .before .before .before .before .args in
@@ -55,14 +49,5 @@ returns c = let z : c .before .loop .i ≡ c .before .before .before .before .be
 
 pub note-groups-spec : {M : Type 1} → statement M
 note-groups-spec =
-    tie.close
-    (tie.spec
-    Inv-loop
-    μ-loop
-    loop-holds
-    note-group-requires
-    add-i
-    loop-less
-    loop-again
-    same-length
-    returns)
+    tie.close (tie.spec Inv-loop μ-loop loop-holds note-group-requires (λ c. search needs) (λ c. search needs)
+    loop-again same-length returns)

@@ -6,27 +6,6 @@ use borrow.Author.Needs.{needs}
 use Rattle.report_lines_write.proofs.arranging.arrange.Statement.{statement}
 use Rattle.report_lines_write.proofs.arranging.arrange.Tie as tie
 
-mul-b : tie.Need-mul-b
-mul-b c = search needs
-
-add-b : tie.Need-add-b
-add-b c = search needs
-
-add-n : tie.Need-add-n
-add-n c = search needs
-
-mul-n : tie.Need-mul-n
-mul-n c = search needs
-
-slice-read-n : tie.Need-slice-read-n
-slice-read-n c = search needs
-
-cast-n : tie.Need-cast-n
-cast-n c = search needs
-
-mark-lasts-requires : tie.Need-mark-lasts-requires
-mark-lasts-requires c κs = search needs
-
 copy-requires : tie.Need-copy-requires
 copy-requires c κs =
     let l = c .before .before .before .before .before .before .before .pre in
@@ -43,9 +22,6 @@ copy-requires-2 c κs =
       inr (omega (arith, m .counted, l .fit)),
     )
 
-same-length : tie.Need-same-length
-same-length c = search needs
-
 returns : tie.Need-returns
 returns c =
     let a = c .before .before .before .before .before .before .before .before .before .before .before .before .before .before .args in
@@ -53,16 +29,6 @@ returns c =
 
 pub arrange-spec : {M : Type 1} → statement M
 arrange-spec =
-    tie.close
-    (tie.spec
-    mul-b
-    add-b
-    add-n
-    mul-n
-    slice-read-n
-    cast-n
-    mark-lasts-requires
-    copy-requires
-    copy-requires-2
-    same-length
-    returns)
+    tie.close (tie.spec (λ c. search needs) (λ c. search needs) (λ c. search needs) (λ c. search needs)
+    (λ c. search needs) (λ c. search needs) (λ c κs. search needs) copy-requires copy-requires-2
+    (λ c. search needs) returns)

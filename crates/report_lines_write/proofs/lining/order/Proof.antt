@@ -8,18 +8,6 @@ use borrow.Author.Needs.{needs}
 use Rattle.report_lines_write.proofs.lining.order.Statement.{statement}
 use Rattle.report_lines_write.proofs.lining.order.Tie as tie
 
-arrange-requires : tie.Need-arrange-requires
-arrange-requires c κs = search needs
-
-mul-sort : tie.Need-mul-sort
-mul-sort c = search needs
-
-sort-requires : tie.Need-sort-requires
-sort-requires c κs = search needs
-
-same-length : tie.Need-same-length
-same-length c = search needs
-
 returns : tie.Need-returns
 returns c =
     let a = c .before .before .before .before .before .before .before .before .before .before .args in
@@ -29,4 +17,6 @@ returns c =
     rw e (ordered (a .names .now) (a .w .now) (a .c) (a .groups) (c .before .before .before .before .before .before .before .before .before .before .pre) (r .last .0) (r .result) (r .ensures))
 
 pub order-spec : {M : Type 1} → statement M
-order-spec = tie.close (tie.spec arrange-requires mul-sort sort-requires same-length returns)
+order-spec =
+    tie.close (tie.spec (λ c κs. search needs) (λ c. search needs) (λ c κs. search needs) (λ c. search needs)
+    returns)

@@ -17,12 +17,6 @@ returns c =
     let e : a .starts .now ≡ [] = none-starts (joinedText (a .names .now) (a .keys .now)) (a .starts .now) (c .if1 .taken) in
     (rw e, rw e, rw e)
 
-tag-length-requires : tie.Need-tag-length-requires
-tag-length-requires c κs = search needs
-
-shared-slice-read-write-text : tie.Need-shared-slice-read-write-text
-shared-slice-read-write-text c = search needs
-
 write-text-requires : tie.Need-write-text-requires
 write-text-requires c κs =
     let a = c .before .before .before .before .before .before .before .before .args in
@@ -57,9 +51,6 @@ add-groups c =
     let q : all .result .semis ≤ all .result .at = put-le (a .out .now) 0 0 (join 59 (map (joinedText (a .names .now) (a .keys .now)) (a .starts .now))) (all .last .1 .1 .1 .1 .0) (all .result .at) (all .result .semis) (omega arith) p in
     omega (arith, p .counts, c .before .before .before .before .before .before .before .before .before .before .before .before .before .before .before .before .before .pre .1)
 
-same-length : tie.Need-same-length
-same-length c = search needs
-
 returns-2 : tie.Need-returns-2
 returns-2 c =
     let a = c .before .before .before .before .before .before .before .before .before .before .before .before .before .before .before .before .before .args in
@@ -71,14 +62,5 @@ returns-2 c =
 
 pub write-line-spec : {M : Type 1} → statement M
 write-line-spec =
-    tie.close
-    (tie.spec
-    returns
-    tag-length-requires
-    shared-slice-read-write-text
-    write-text-requires
-    write-rest-requires
-    cast-bytes
-    add-groups
-    same-length
-    returns-2)
+    tie.close (tie.spec returns (λ c κs. search needs) (λ c. search needs) write-text-requires write-rest-requires
+    cast-bytes add-groups (λ c. search needs) returns-2)

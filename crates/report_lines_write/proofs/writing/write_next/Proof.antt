@@ -5,21 +5,6 @@ use borrow.Author.Needs.{needs}
 use Rattle.report_lines_write.proofs.writing.write_next.Statement.{statement}
 use Rattle.report_lines_write.proofs.writing.write_next.Tie as tie
 
-put-byte-requires : tie.Need-put-byte-requires
-put-byte-requires c κs = search needs
-
-add-write-text : tie.Need-add-write-text
-add-write-text c = search needs
-
-add-write-text-2 : tie.Need-add-write-text-2
-add-write-text-2 c = search needs
-
-write-text-requires : tie.Need-write-text-requires
-write-text-requires c κs = search needs
-
-same-length : tie.Need-same-length
-same-length c = search needs
-
 returns : tie.Need-returns
 returns c =
     let a = c .before .before .before .before .before .before .before .before .before .before .before .args in
@@ -28,11 +13,5 @@ returns c =
 
 pub write-next-spec : {M : Type 1} → statement M
 write-next-spec =
-    tie.close
-    (tie.spec
-    put-byte-requires
-    add-write-text
-    add-write-text-2
-    write-text-requires
-    same-length
-    returns)
+    tie.close (tie.spec (λ c κs. search needs) (λ c. search needs) (λ c. search needs) (λ c κs. search needs)
+    (λ c. search needs) returns)

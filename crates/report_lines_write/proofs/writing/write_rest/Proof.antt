@@ -20,24 +20,12 @@ loop-holds c =
     let a = c .before .before .before .before .args in
     (c .before .before .before .before .pre .2, coming-all (a .out .now) (a .at) (a .semis) (afterFrom (joinedText (a .names .now) (a .keys .now)) (a .starts .now) 1))
 
-mul-write-next : tie.Need-mul-write-next Inv-loop μ-loop
-mul-write-next c = search needs
-
-shared-slice-read-write-next : tie.Need-shared-slice-read-write-next Inv-loop μ-loop
-shared-slice-read-write-next c = search needs
-
 write-next-requires : tie.Need-write-next-requires Inv-loop μ-loop
 write-next-requires c κs =
     let a = c .before .before .before .before .before .before .before .before .args in
     let l = c .before .before .before .loop in
     let f = coming-fits (a .out .now) (a .at) (a .semis) (afterFrom (joinedText (a .names .now) (a .keys .now)) (a .starts .now) 1) (l .out) (l .k) (l .s) (afterFrom (joinedText (a .names .now) (a .keys .now)) (a .starts .now) (l .i)) (c .before .before .before .before .before .before .before .before .pre .2) (c .before .before .before .before .before .before .before .before .pre .3) (l .inv .1) in
     (c .before .before .before .before .before .before .before .before .pre .0, c .before .before .before .before .before .before .before .before .pre .1, l .inv .0, omega (arith, f .0, after-length (joinedText (a .names .now) (a .keys .now)) (a .starts .now) (l .i) (c .before .before .loop-test .taken)))
-
-add-i : tie.Need-add-i Inv-loop μ-loop
-add-i c = search needs
-
-loop-less : tie.Need-loop-less Inv-loop μ-loop
-loop-less c = search needs
 
 loop-again : tie.Need-loop-again Inv-loop μ-loop
 loop-again c =
@@ -62,16 +50,5 @@ returns c =
 
 pub write-rest-spec : {M : Type 1} → statement M
 write-rest-spec =
-    tie.close
-    (tie.spec
-    Inv-loop
-    μ-loop
-    loop-holds
-    mul-write-next
-    shared-slice-read-write-next
-    write-next-requires
-    add-i
-    loop-less
-    loop-again
-    same-length
-    returns)
+    tie.close (tie.spec Inv-loop μ-loop loop-holds (λ c. search needs) (λ c. search needs) write-next-requires
+    (λ c. search needs) (λ c. search needs) loop-again same-length returns)

@@ -45,18 +45,12 @@ byte-of-requires c κs =
     let t = c .before .walk .result in
     writing-byte (a .names .now) (a .keys .now) (a .x) (a .out .now) (a .at) (a .semis) (l .out) (l .entry) (l .i) (l .k) (l .s) (l .inv) (t .number) (t .at) (t .i) (c .before .walk .ensures) (c .if1 .left)
 
-put-byte-requires : tie.Need-put-byte-requires Inv-loop μ-loop
-put-byte-requires c κs = search needs
-
 add-k : tie.Need-add-k Inv-loop μ-loop
 add-k c =
     let a = c .before .before .before .before .before .before .before .before .before .before .before .args in
     let l = c .before .before .before .before .before .before .before .loop in
     let t = c .before .before .before .before .before .before .walk .result in
     omega (arith, writing-fits (a .names .now) (a .keys .now) (a .x) (a .out .now) (a .at) (a .semis) (l .out) (l .entry) (l .i) (l .k) (l .s) (l .inv) (t .number) (t .at) (t .i) (c .before .before .before .before .before .before .walk .ensures) (c .before .before .before .before .before .if1 .left) (c .before .before .before .before .before .before .before .before .before .before .before .pre .2) (c .before .before .before .before .before .before .before .before .before .before .before .pre .3) .0)
-
-semi-of-requires : tie.Need-semi-of-requires Inv-loop μ-loop
-semi-of-requires c κs = search needs
 
 add-s : tie.Need-add-s Inv-loop μ-loop
 add-s c =
@@ -81,19 +75,5 @@ loop-again c =
 
 pub write-text-spec : {M : Type 1} → statement M
 write-text-spec =
-    tie.close
-    (tie.spec
-    Inv-loop
-    μ-loop
-    add-entry
-    loop-holds
-    walk-requires
-    same-length
-    returns
-    byte-of-requires
-    put-byte-requires
-    add-k
-    semi-of-requires
-    add-s
-    loop-less
-    loop-again)
+    tie.close (tie.spec Inv-loop μ-loop add-entry loop-holds walk-requires same-length returns byte-of-requires
+    (λ c κs. search needs) add-k (λ c κs. search needs) add-s loop-less loop-again)

@@ -12,41 +12,7 @@ Inv-loop s known k names₀ j₀ names j = (j ≤ k) × (length names ≡ length
 abbrev μ-loop : tie.MeasureT-loop
 μ-loop s known k names₀ j₀ names j = k - j
 
-loop-holds : tie.Need-loop-holds Inv-loop μ-loop
-loop-holds c = search needs
-
-column-at-requires : tie.Need-column-at-requires Inv-loop μ-loop
-column-at-requires c κs = search needs
-
-put-name-requires : tie.Need-put-name-requires Inv-loop μ-loop
-put-name-requires c κs = search needs
-
-add-j : tie.Need-add-j Inv-loop μ-loop
-add-j c = search needs
-
-loop-less : tie.Need-loop-less Inv-loop μ-loop
-loop-less c = search needs
-
-loop-again : tie.Need-loop-again Inv-loop μ-loop
-loop-again c = search needs
-
-same-length : tie.Need-same-length Inv-loop μ-loop
-same-length c = search needs
-
-returns : tie.Need-returns Inv-loop μ-loop
-returns c = search needs
-
 pub put-names-spec : {M : Type 1} → statement M
 put-names-spec =
-    tie.close
-    (tie.spec
-    Inv-loop
-    μ-loop
-    loop-holds
-    column-at-requires
-    put-name-requires
-    add-j
-    loop-less
-    loop-again
-    same-length
-    returns)
+    tie.close (tie.spec Inv-loop μ-loop (λ c. search needs) (λ c κs. search needs) (λ c κs. search needs)
+    (λ c. search needs) (λ c. search needs) (λ c. search needs) (λ c. search needs) (λ c. search needs))

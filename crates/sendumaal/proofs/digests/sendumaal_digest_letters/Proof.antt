@@ -7,15 +7,6 @@ use borrow.Author.Needs.{needs}
 use Rattle.sendumaal.proofs.digests.sendumaal_digest_letters.Statement.{statement}
 use Rattle.sendumaal.proofs.digests.sendumaal_digest_letters.Tie as tie
 
-digest-letters-requires : tie.Need-digest-letters-requires
-digest-letters-requires c κs = search needs
-
-counted-requires : tie.Need-counted-requires
-counted-requires c κs = search needs
-
-same-length : tie.Need-same-length
-same-length c = search needs
-
 returns : tie.Need-returns
 returns c =
     let a = c .before .before .before .before .before .before .before .before .before .before .args in
@@ -25,4 +16,4 @@ returns c =
 
 pub sendumaal-digest-letters-spec : {M : Type 1} → statement M
 sendumaal-digest-letters-spec =
-    tie.close (tie.spec digest-letters-requires counted-requires same-length returns)
+    tie.close (tie.spec (λ c κs. search needs) (λ c κs. search needs) (λ c. search needs) returns)

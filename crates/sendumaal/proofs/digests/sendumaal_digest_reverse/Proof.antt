@@ -7,15 +7,6 @@ use borrow.Author.Needs.{needs}
 use Rattle.sendumaal.proofs.digests.sendumaal_digest_reverse.Statement.{statement}
 use Rattle.sendumaal.proofs.digests.sendumaal_digest_reverse.Tie as tie
 
-reverse-record-requires : tie.Need-reverse-record-requires
-reverse-record-requires c κs = search needs
-
-told-requires : tie.Need-told-requires
-told-requires c κs = search needs
-
-same-length : tie.Need-same-length
-same-length c = search needs
-
 returns : tie.Need-returns
 returns c =
     let w = c .before .before .before .before .reverse-record in
@@ -23,4 +14,4 @@ returns c =
 
 pub sendumaal-digest-reverse-spec : {M : Type 1} → statement M
 sendumaal-digest-reverse-spec =
-    tie.close (tie.spec reverse-record-requires told-requires same-length returns)
+    tie.close (tie.spec (λ c κs. search needs) (λ c κs. search needs) (λ c. search needs) returns)

@@ -7,21 +7,6 @@ use borrow.Author.Needs.{needs}
 use Rattle.sendumaal.proofs.groups.sendumaal_group_digests.Statement.{statement}
 use Rattle.sendumaal.proofs.groups.sendumaal_group_digests.Tie as tie
 
-group-digests-requires : tie.Need-group-digests-requires
-group-digests-requires c κs = search needs
-
-counted-requires : tie.Need-counted-requires
-counted-requires c κs = search needs
-
-same-length : tie.Need-same-length
-same-length c = search needs
-
-same-length-2 : tie.Need-same-length-2
-same-length-2 c = search needs
-
-same-length-3 : tie.Need-same-length-3
-same-length-3 c = search needs
-
 returns : tie.Need-returns
 returns c =
     let a = c .before .before .before .before .before .before .before .before .before .before .before .before .before .before .before .before .before .before .before .before .args in
@@ -32,11 +17,5 @@ returns c =
 
 pub sendumaal-group-digests-spec : {M : Type 1} → statement M
 sendumaal-group-digests-spec =
-    tie.close
-    (tie.spec
-    group-digests-requires
-    counted-requires
-    same-length
-    same-length-2
-    same-length-3
-    returns)
+    tie.close (tie.spec (λ c κs. search needs) (λ c κs. search needs) (λ c. search needs) (λ c. search needs)
+    (λ c. search needs) returns)

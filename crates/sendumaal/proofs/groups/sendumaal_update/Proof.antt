@@ -7,18 +7,6 @@ use borrow.Author.Needs.{needs}
 use Rattle.sendumaal.proofs.groups.sendumaal_update.Statement.{statement}
 use Rattle.sendumaal.proofs.groups.sendumaal_update.Tie as tie
 
-update-requires : tie.Need-update-requires
-update-requires c κs = search needs
-
-counted-requires : tie.Need-counted-requires
-counted-requires c κs = search needs
-
-same-length : tie.Need-same-length
-same-length c = search needs
-
-same-length-2 : tie.Need-same-length-2
-same-length-2 c = search needs
-
 returns : tie.Need-returns
 returns c =
     let a = c .before .before .before .before .before .before .before .before .before .before .before .before .before .before .before .args in
@@ -28,4 +16,5 @@ returns c =
 
 pub sendumaal-update-spec : {M : Type 1} → statement M
 sendumaal-update-spec =
-    tie.close (tie.spec update-requires counted-requires same-length same-length-2 returns)
+    tie.close (tie.spec (λ c κs. search needs) (λ c κs. search needs) (λ c. search needs) (λ c. search needs)
+    returns)

@@ -5,14 +5,8 @@ use borrow.Author.Needs.{needs}
 use Rattle.sendumaal.proofs.names.sendumaal_letters_test.Statement.{statement}
 use Rattle.sendumaal.proofs.names.sendumaal_letters_test.Tie as tie
 
-letters-tested-requires : tie.Need-letters-tested-requires
-letters-tested-requires c κs = search needs
-
-told-requires : tie.Need-told-requires
-told-requires c κs = search needs
-
 returns : tie.Need-returns
 returns c = c .told .ensures ∙ ap testCall (c .before .before .letters-tested .ensures)
 
 pub sendumaal-letters-test-spec : {M : Type 1} → statement M
-sendumaal-letters-test-spec = tie.close (tie.spec letters-tested-requires told-requires returns)
+sendumaal-letters-test-spec = tie.close (tie.spec (λ c κs. search needs) (λ c κs. search needs) returns)

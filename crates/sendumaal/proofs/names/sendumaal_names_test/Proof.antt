@@ -5,14 +5,8 @@ use borrow.Author.Needs.{needs}
 use Rattle.sendumaal.proofs.names.sendumaal_names_test.Statement.{statement}
 use Rattle.sendumaal.proofs.names.sendumaal_names_test.Tie as tie
 
-names-tested-requires : tie.Need-names-tested-requires
-names-tested-requires c κs = search needs
-
-told-requires : tie.Need-told-requires
-told-requires c κs = search needs
-
 returns : tie.Need-returns
 returns c = c .told .ensures ∙ ap testCall (c .before .before .names-tested .ensures)
 
 pub sendumaal-names-test-spec : {M : Type 1} → statement M
-sendumaal-names-test-spec = tie.close (tie.spec names-tested-requires told-requires returns)
+sendumaal-names-test-spec = tie.close (tie.spec (λ c κs. search needs) (λ c κs. search needs) returns)

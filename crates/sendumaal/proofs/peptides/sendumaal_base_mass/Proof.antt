@@ -8,21 +8,6 @@ use borrow.Author.Needs.{needs}
 use Rattle.sendumaal.proofs.peptides.sendumaal_base_mass.Statement.{statement}
 use Rattle.sendumaal.proofs.peptides.sendumaal_base_mass.Tie as tie
 
-base-mass-requires : tie.Need-base-mass-requires
-base-mass-requires c κs = search needs
-
-enum-known-answer : tie.Need-enum-known-answer
-enum-known-answer c = search needs
-
-enum-known-answer-2 : tie.Need-enum-known-answer-2
-enum-known-answer-2 c = search needs
-
-place-requires : tie.Need-place-requires
-place-requires c κs = search needs
-
-number-requires : tie.Need-number-requires
-number-requires c κs = search needs
-
 returns : tie.Need-returns
 returns c = ap (λ (w : Weighed). weightCall w (now (c .before .before .before .before .before .before .args .mass))) (sym (c .before .answer .given .1) ∙ c .before .before .before .base-mass .ensures)
 
@@ -34,12 +19,5 @@ returns-2 c =
 
 pub sendumaal-base-mass-spec : {M : Type 1} → statement M
 sendumaal-base-mass-spec =
-    tie.close
-    (tie.spec
-    base-mass-requires
-    enum-known-answer
-    enum-known-answer-2
-    place-requires
-    number-requires
-    returns
-    returns-2)
+    tie.close (tie.spec (λ c κs. search needs) (λ c. search needs) (λ c. search needs) (λ c κs. search needs)
+    (λ c κs. search needs) returns returns-2)

@@ -9,27 +9,6 @@ use borrow.Author.Needs.{needs}
 use Rattle.sendumaal.proofs.peptides.sendumaal_digest_mass.Statement.{statement}
 use Rattle.sendumaal.proofs.peptides.sendumaal_digest_mass.Tie as tie
 
-digest-mass-requires : tie.Need-digest-mass-requires
-digest-mass-requires c κs = search needs
-
-enum-known-answer : tie.Need-enum-known-answer
-enum-known-answer c = search needs
-
-byte-at-requires : tie.Need-byte-at-requires
-byte-at-requires c κs = search needs
-
-cast-position : tie.Need-cast-position
-cast-position c = search needs
-
-enum-known-answer-2 : tie.Need-enum-known-answer-2
-enum-known-answer-2 c = search needs
-
-place-requires : tie.Need-place-requires
-place-requires c κs = search needs
-
-number-requires : tie.Need-number-requires
-number-requires c κs = search needs
-
 returns : tie.Need-returns
 returns c =
     let a = c .before .before .before .before .before .before .before .before .args in
@@ -43,14 +22,5 @@ returns-2 c =
 
 pub sendumaal-digest-mass-spec : {M : Type 1} → statement M
 sendumaal-digest-mass-spec =
-    tie.close
-    (tie.spec
-    digest-mass-requires
-    enum-known-answer
-    byte-at-requires
-    cast-position
-    enum-known-answer-2
-    place-requires
-    number-requires
-    returns
-    returns-2)
+    tie.close (tie.spec (λ c κs. search needs) (λ c. search needs) (λ c κs. search needs) (λ c. search needs)
+    (λ c. search needs) (λ c κs. search needs) (λ c κs. search needs) returns returns-2)

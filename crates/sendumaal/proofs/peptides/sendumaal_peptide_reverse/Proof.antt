@@ -8,34 +8,10 @@ use borrow.Author.Needs.{needs}
 use Rattle.sendumaal.proofs.peptides.sendumaal_peptide_reverse.Statement.{statement}
 use Rattle.sendumaal.proofs.peptides.sendumaal_peptide_reverse.Tie as tie
 
-test-reverse-requires : tie.Need-test-reverse-requires
-test-reverse-requires c κs = search needs
-
-enum-known-found : tie.Need-enum-known-found
-enum-known-found c = search needs
-
-place-requires : tie.Need-place-requires
-place-requires c κs = search needs
-
-number-requires : tie.Need-number-requires
-number-requires c κs = search needs
-
-enum-told : tie.Need-enum-told
-enum-told c = search needs
-
 turn-requires : tie.Need-turn-requires
 turn-requires c κs =
     let a = c .before .before .before .before .before .before .before .before .before .before .args in
     reverse-passed (now (a .letters)) (now (a .ids)) (now (a .decoy)) (sym (c .before .before .before .before .test-reverse .ensures) ∙ c .before .before .enum-told .given .1)
-
-flipped-requires : tie.Need-flipped-requires
-flipped-requires c κs = search needs
-
-same-length : tie.Need-same-length
-same-length c = search needs
-
-same-length-2 : tie.Need-same-length-2
-same-length-2 c = search needs
 
 returns : tie.Need-returns
 returns c =
@@ -43,12 +19,6 @@ returns c =
     let w = c .before .before .before .found in
     said (w .given .0 .0) (c .number .result) (c .before .place .result) (c .number .ensures) (c .before .place .ensures) ((now (a .decoy) ∷ []) ∷ now (a .letters) ∷ now (a .ids) ∷ [])
     ∙ reverse-no (now (a .letters)) (now (a .ids)) (now (a .decoy)) (w .given .0 .0) (sym (c .before .before .before .before .before .test-reverse .ensures) ∙ w .given .1)
-
-same-length-3 : tie.Need-same-length-3
-same-length-3 c = search needs
-
-same-length-4 : tie.Need-same-length-4
-same-length-4 c = search needs
 
 returns-2 : tie.Need-returns-2
 returns-2 c =
@@ -59,18 +29,6 @@ returns-2 c =
 
 pub sendumaal-peptide-reverse-spec : {M : Type 1} → statement M
 sendumaal-peptide-reverse-spec =
-    tie.close
-    (tie.spec
-    test-reverse-requires
-    enum-known-found
-    place-requires
-    number-requires
-    enum-told
-    turn-requires
-    flipped-requires
-    same-length
-    same-length-2
-    returns
-    same-length-3
-    same-length-4
-    returns-2)
+    tie.close (tie.spec (λ c κs. search needs) (λ c. search needs) (λ c κs. search needs) (λ c κs. search needs)
+    (λ c. search needs) turn-requires (λ c κs. search needs) (λ c. search needs) (λ c. search needs) returns
+    (λ c. search needs) (λ c. search needs) returns-2)

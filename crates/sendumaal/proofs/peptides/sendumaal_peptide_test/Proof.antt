@@ -12,12 +12,6 @@ use borrow.Author.Needs.{needs}
 use Rattle.sendumaal.proofs.peptides.sendumaal_peptide_test.Statement.{statement}
 use Rattle.sendumaal.proofs.peptides.sendumaal_peptide_test.Tie as tie
 
-of-part-requires : tie.Need-of-part-requires
-of-part-requires c κs = search needs
-
-told-requires : tie.Need-told-requires
-told-requires c κs = search needs
-
 returns : tie.Need-returns
 returns c =
     let a = c .before .before .before .before .before .args in
@@ -27,4 +21,4 @@ returns c =
     c .told .ensures ∙ ap testCall found
 
 pub sendumaal-peptide-test-spec : {M : Type 1} → statement M
-sendumaal-peptide-test-spec = tie.close (tie.spec of-part-requires told-requires returns)
+sendumaal-peptide-test-spec = tie.close (tie.spec (λ c κs. search needs) (λ c κs. search needs) returns)

@@ -9,21 +9,6 @@ use borrow.Author.Needs.{needs}
 use Rattle.sendumaal.proofs.proteins.reported.Statement.{statement}
 use Rattle.sendumaal.proofs.proteins.reported.Tie as tie
 
-enum-known-answer : tie.Need-enum-known-answer
-enum-known-answer c = search needs
-
-enum-known-answer-2 : tie.Need-enum-known-answer-2
-enum-known-answer-2 c = search needs
-
-place-requires : tie.Need-place-requires
-place-requires c κs = search needs
-
-number-requires : tie.Need-number-requires
-number-requires c κs = search needs
-
-returns : tie.Need-returns
-returns c = search needs
-
 returns-2 : tie.Need-returns-2
 returns-2 c =
     let f = c .before .before .before .answer2 in
@@ -33,11 +18,5 @@ returns-2 c =
 
 pub reported-spec : {M : Type 1} → statement M
 reported-spec =
-    tie.close
-    (tie.spec
-    enum-known-answer
-    enum-known-answer-2
-    place-requires
-    number-requires
-    returns
-    returns-2)
+    tie.close (tie.spec (λ c. search needs) (λ c. search needs) (λ c κs. search needs) (λ c κs. search needs)
+    (λ c. search needs) returns-2)

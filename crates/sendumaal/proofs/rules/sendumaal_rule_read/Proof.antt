@@ -10,36 +10,6 @@ use borrow.Author.Needs.{needs}
 use Rattle.sendumaal.proofs.rules.sendumaal_rule_read.Statement.{statement}
 use Rattle.sendumaal.proofs.rules.sendumaal_rule_read.Tie as tie
 
-read-rule-requires : tie.Need-read-rule-requires
-read-rule-requires c κs = search needs
-
-enum-known-answer : tie.Need-enum-known-answer
-enum-known-answer c = search needs
-
-kind-requires : tie.Need-kind-requires
-kind-requires c κs = search needs
-
-cast-kind : tie.Need-cast-kind
-cast-kind c = search needs
-
-letter-requires : tie.Need-letter-requires
-letter-requires c κs = search needs
-
-cast-letter : tie.Need-cast-letter
-cast-letter c = search needs
-
-cast-id : tie.Need-cast-id
-cast-id c = search needs
-
-enum-known-answer-2 : tie.Need-enum-known-answer-2
-enum-known-answer-2 c = search needs
-
-place-requires : tie.Need-place-requires
-place-requires c κs = search needs
-
-number-requires : tie.Need-number-requires
-number-requires c κs = search needs
-
 returns : tie.Need-returns
 returns c =
     let a = c .before .before .before .before .before .before .before .before .args in
@@ -56,17 +26,6 @@ returns-2 c =
 
 pub sendumaal-rule-read-spec : {M : Type 1} → statement M
 sendumaal-rule-read-spec =
-    tie.close
-    (tie.spec
-    read-rule-requires
-    enum-known-answer
-    kind-requires
-    cast-kind
-    letter-requires
-    cast-letter
-    cast-id
-    enum-known-answer-2
-    place-requires
-    number-requires
-    returns
-    returns-2)
+    tie.close (tie.spec (λ c κs. search needs) (λ c. search needs) (λ c κs. search needs) (λ c. search needs)
+    (λ c κs. search needs) (λ c. search needs) (λ c. search needs) (λ c. search needs) (λ c κs. search needs)
+    (λ c κs. search needs) returns returns-2)

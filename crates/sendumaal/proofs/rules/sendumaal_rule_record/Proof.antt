@@ -11,9 +11,6 @@ use borrow.Author.Needs.{needs}
 use Rattle.sendumaal.proofs.rules.sendumaal_rule_record.Statement.{statement}
 use Rattle.sendumaal.proofs.rules.sendumaal_rule_record.Tie as tie
 
-is-rule-requires : tie.Need-is-rule-requires
-is-rule-requires c κs = search needs
-
 cast-specificity-of : tie.Need-cast-specificity-of
 cast-specificity-of c =
     let a = c .before .before .before .args in
@@ -24,22 +21,10 @@ cast-specificity-of-2 c =
     let a = c .before .before .before .args in
     omega (arith, rule-bytes (a .kind) (a .letter) (a .id) (sym (c .before .is-rule .ensures) ∙ c .if1 .taken))
 
-specificity-of-requires : tie.Need-specificity-of-requires
-specificity-of-requires c κs = search needs
-
 cast-t11 : tie.Need-cast-t11
 cast-t11 c =
     let a = c .before .before .before .before .args in
     omega (arith, rule-bytes (a .kind) (a .letter) (a .id) (sym (c .before .before .is-rule .ensures) ∙ c .before .if1 .taken))
-
-write-rule-requires : tie.Need-write-rule-requires
-write-rule-requires c κs = search needs
-
-told-requires : tie.Need-told-requires
-told-requires c κs = search needs
-
-same-length : tie.Need-same-length
-same-length c = search needs
 
 returns : tie.Need-returns
 returns c =
@@ -56,15 +41,5 @@ returns-2 c =
 
 pub sendumaal-rule-record-spec : {M : Type 1} → statement M
 sendumaal-rule-record-spec =
-    tie.close
-    (tie.spec
-    is-rule-requires
-    cast-specificity-of
-    cast-specificity-of-2
-    specificity-of-requires
-    cast-t11
-    write-rule-requires
-    told-requires
-    same-length
-    returns
-    returns-2)
+    tie.close (tie.spec (λ c κs. search needs) cast-specificity-of cast-specificity-of-2 (λ c κs. search needs)
+    cast-t11 (λ c κs. search needs) (λ c κs. search needs) (λ c. search needs) returns returns-2)

@@ -11,9 +11,6 @@ use borrow.Author.Needs.{needs}
 use Rattle.sendumaal.proofs.rules.sendumaal_rule_write.Statement.{statement}
 use Rattle.sendumaal.proofs.rules.sendumaal_rule_write.Tie as tie
 
-is-rule-requires : tie.Need-is-rule-requires
-is-rule-requires c κs = search needs
-
 cast-specificity-of : tie.Need-cast-specificity-of
 cast-specificity-of c =
     let a = c .before .before .before .args in
@@ -23,18 +20,6 @@ cast-specificity-of-2 : tie.Need-cast-specificity-of-2
 cast-specificity-of-2 c =
     let a = c .before .before .before .args in
     omega (arith, rule-bytes (a .kind) (a .letter) 0 (sym (c .before .is-rule .ensures) ∙ c .if1 .taken))
-
-specificity-of-requires : tie.Need-specificity-of-requires
-specificity-of-requires c κs = search needs
-
-write-requires : tie.Need-write-requires
-write-requires c κs = search needs
-
-counted-requires : tie.Need-counted-requires
-counted-requires c κs = search needs
-
-same-length : tie.Need-same-length
-same-length c = search needs
 
 returns : tie.Need-returns
 returns c =
@@ -51,14 +36,5 @@ returns-2 c =
 
 pub sendumaal-rule-write-spec : {M : Type 1} → statement M
 sendumaal-rule-write-spec =
-    tie.close
-    (tie.spec
-    is-rule-requires
-    cast-specificity-of
-    cast-specificity-of-2
-    specificity-of-requires
-    write-requires
-    counted-requires
-    same-length
-    returns
-    returns-2)
+    tie.close (tie.spec (λ c κs. search needs) cast-specificity-of cast-specificity-of-2 (λ c κs. search needs)
+    (λ c κs. search needs) (λ c κs. search needs) (λ c. search needs) returns returns-2)

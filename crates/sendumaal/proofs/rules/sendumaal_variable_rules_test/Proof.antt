@@ -5,14 +5,8 @@ use borrow.Author.Needs.{needs}
 use Rattle.sendumaal.proofs.rules.sendumaal_variable_rules_test.Statement.{statement}
 use Rattle.sendumaal.proofs.rules.sendumaal_variable_rules_test.Tie as tie
 
-test-rules-requires : tie.Need-test-rules-requires
-test-rules-requires c κs = search needs
-
-told-requires : tie.Need-told-requires
-told-requires c κs = search needs
-
 returns : tie.Need-returns
 returns c = c .told .ensures ∙ ap testCall (c .before .before .test-rules .ensures)
 
 pub sendumaal-variable-rules-test-spec : {M : Type 1} → statement M
-sendumaal-variable-rules-test-spec = tie.close (tie.spec test-rules-requires told-requires returns)
+sendumaal-variable-rules-test-spec = tie.close (tie.spec (λ c κs. search needs) (λ c κs. search needs) returns)

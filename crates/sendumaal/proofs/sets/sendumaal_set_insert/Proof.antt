@@ -5,11 +5,8 @@ use borrow.Author.Needs.{needs}
 use Rattle.sendumaal.proofs.sets.sendumaal_set_insert.Statement.{statement}
 use Rattle.sendumaal.proofs.sets.sendumaal_set_insert.Tie as tie
 
-insert-requires : tie.Need-insert-requires
-insert-requires c κs = search needs
-
 returns : tie.Need-returns
 returns c = ap (λ (s : LetterSet). s .mask) (c .insert .ensures)
 
 pub sendumaal-set-insert-spec : {M : Type 1} → statement M
-sendumaal-set-insert-spec = tie.close (tie.spec insert-requires returns)
+sendumaal-set-insert-spec = tie.close (tie.spec (λ c κs. search needs) returns)

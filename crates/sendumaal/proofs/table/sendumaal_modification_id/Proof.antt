@@ -8,33 +8,12 @@ use borrow.Author.Needs.{needs}
 use Rattle.sendumaal.proofs.table.sendumaal_modification_id.Statement.{statement}
 use Rattle.sendumaal.proofs.table.sendumaal_modification_id.Tie as tie
 
-insert-requires : tie.Need-insert-requires
-insert-requires c κs = search needs
-
-enum-known-answer : tie.Need-enum-known-answer
-enum-known-answer c = search needs
-
-enum-known-answer-2 : tie.Need-enum-known-answer-2
-enum-known-answer-2 c = search needs
-
-place-requires : tie.Need-place-requires
-place-requires c κs = search needs
-
-number-requires : tie.Need-number-requires
-number-requires c κs = search needs
-
-same-length : tie.Need-same-length
-same-length c = search needs
-
 returns : tie.Need-returns
 returns c =
     let a = c .before .before .before .before .before .before .before .before .args in
     let i = c .before .before .before .before .before .insert in
     let n = c .before .answer in
     insert-id (insertOutcome (now (a .table)) (a .count) (a .mass) (a .name)) (i .result) (i .last .0 ∷ []) (now (a .id)) (i .ensures) (n .given .0 .0) (n .given .1)
-
-same-length-2 : tie.Need-same-length-2
-same-length-2 c = search needs
 
 returns-2 : tie.Need-returns-2
 returns-2 c =
@@ -46,14 +25,5 @@ returns-2 c =
 
 pub sendumaal-modification-id-spec : {M : Type 1} → statement M
 sendumaal-modification-id-spec =
-    tie.close
-    (tie.spec
-    insert-requires
-    enum-known-answer
-    enum-known-answer-2
-    place-requires
-    number-requires
-    same-length
-    returns
-    same-length-2
-    returns-2)
+    tie.close (tie.spec (λ c κs. search needs) (λ c. search needs) (λ c. search needs) (λ c κs. search needs)
+    (λ c κs. search needs) (λ c. search needs) returns (λ c. search needs) returns-2)

@@ -7,18 +7,6 @@ use borrow.Author.Needs.{needs}
 use Rattle.sendumaal_calls.proofs.enzymes.told_field.Statement.{statement}
 use Rattle.sendumaal_calls.proofs.enzymes.told_field.Tie as tie
 
-enum-told : tie.Need-enum-told
-enum-told c = search needs
-
-enum-known-found : tie.Need-enum-known-found
-enum-known-found c = search needs
-
-place-requires : tie.Need-place-requires
-place-requires c κs = search needs
-
-number-requires : tie.Need-number-requires
-number-requires c κs = search needs
-
 returns : tie.Need-returns
 returns c = sym (ap fieldCall (c .enum-told .given .1))
 
@@ -29,5 +17,5 @@ returns-2 c =
 
 pub told-field-spec : {M : Type 1} → statement M
 told-field-spec =
-    tie.close
-    (tie.spec enum-told enum-known-found place-requires number-requires returns returns-2)
+    tie.close (tie.spec (λ c. search needs) (λ c. search needs) (λ c κs. search needs) (λ c κs. search needs)
+    returns returns-2)

@@ -9,27 +9,15 @@ use borrow.Author.Needs.{needs}
 use Rattle.sendumaal_calls.proofs.peptides.test_reverse.Statement.{statement}
 use Rattle.sendumaal_calls.proofs.peptides.test_reverse.Tie as tie
 
-test-lengths-requires : tie.Need-test-lengths-requires
-test-lengths-requires c κs = search needs
-
-enum-known-why : tie.Need-enum-known-why
-enum-known-why c = search needs
-
 returns : tie.Need-returns
 returns c =
     let a = c .before .before .before .before .before .before .args in
     first-refuses (testedLengths (now (a .letters)) (now (a .ids))) (testedTurn (turning (now (a .letters)) (now (a .ids)) (a .decoy)) (a .decoy)) _ (sym (c .before .before .before .test-lengths .ensures) ∙ c .before .why .given .1)
 
-enum-told : tie.Need-enum-told
-enum-told c = search needs
-
 peptide-of-requires : tie.Need-peptide-of-requires
 peptide-of-requires c κs =
     let a = c .before .before .before .before .before .args in
     lengths-fit (now (a .letters)) (now (a .ids)) (sym (c .before .before .test-lengths .ensures) ∙ c .enum-told .given .1) .0
-
-test-turn-requires : tie.Need-test-turn-requires
-test-turn-requires c κs = search needs
 
 returns-2 : tie.Need-returns-2
 returns-2 c =
@@ -41,12 +29,5 @@ returns-2 c =
 
 pub test-reverse-spec : {M : Type 1} → statement M
 test-reverse-spec =
-    tie.close
-    (tie.spec
-    test-lengths-requires
-    enum-known-why
-    returns
-    enum-told
-    peptide-of-requires
-    test-turn-requires
-    returns-2)
+    tie.close (tie.spec (λ c κs. search needs) (λ c. search needs) returns (λ c. search needs) peptide-of-requires
+    (λ c κs. search needs) returns-2)

@@ -13,20 +13,11 @@ use borrow.Author.Needs.{needs}
 use Rattle.sendumaal_calls.proofs.peptides.test_turn.Statement.{statement}
 use Rattle.sendumaal_calls.proofs.peptides.test_turn.Tie as tie
 
-reverse-requires : tie.Need-reverse-requires
-reverse-requires c κs = search needs
-
-enum-known-found : tie.Need-enum-known-found
-enum-known-found c = search needs
-
 returns : tie.Need-returns
 returns c =
     let p = c .before .before .before .before .args .p in
     let t : c .before .before .before .reverse .result .tested ≡ testedPeptide p = ap (λ (m : Made). m .tested) (c .before .before .before .reverse .ensures) ∙ tested-of (testedPeptide p) (reversed p) p in
     first-refuses (testedPeptide p) (cond (leb (c .before .before .before .before .args .decoy) 1) Tested.Passed (Tested.Refused (Field 0))) _ (sym t ∙ c .before .found .given .1)
-
-enum-told : tie.Need-enum-told
-enum-told c = search needs
 
 returns-2 : tie.Need-returns-2
 returns-2 c =
@@ -42,4 +33,5 @@ returns-3 c =
 
 pub test-turn-spec : {M : Type 1} → statement M
 test-turn-spec =
-    tie.close (tie.spec reverse-requires enum-known-found returns enum-told returns-2 returns-3)
+    tie.close (tie.spec (λ c κs. search needs) (λ c. search needs) returns (λ c. search needs) returns-2
+    returns-3)

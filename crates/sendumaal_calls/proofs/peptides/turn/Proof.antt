@@ -9,24 +9,6 @@ use borrow.Author.Needs.{needs}
 use Rattle.sendumaal_calls.proofs.peptides.turn.Statement.{statement}
 use Rattle.sendumaal_calls.proofs.peptides.turn.Tie as tie
 
-peptide-of-requires : tie.Need-peptide-of-requires
-peptide-of-requires c κs = search needs
-
-reverse-requires : tie.Need-reverse-requires
-reverse-requires c κs = search needs
-
-put-back-requires : tie.Need-put-back-requires
-put-back-requires c κs = search needs
-
-put-back-requires-2 : tie.Need-put-back-requires-2
-put-back-requires-2 c κs = search needs
-
-same-length : tie.Need-same-length
-same-length c = search needs
-
-same-length-2 : tie.Need-same-length-2
-same-length-2 c = search needs
-
 returns : tie.Need-returns
 returns c =
     let a = c .before .before .before .before .before .before .before .before .before .before .before .before .before .before .before .before .before .args in
@@ -37,12 +19,5 @@ returns c =
 
 pub turn-spec : {M : Type 1} → statement M
 turn-spec =
-    tie.close
-    (tie.spec
-    peptide-of-requires
-    reverse-requires
-    put-back-requires
-    put-back-requires-2
-    same-length
-    same-length-2
-    returns)
+    tie.close (tie.spec (λ c κs. search needs) (λ c κs. search needs) (λ c κs. search needs)
+    (λ c κs. search needs) (λ c. search needs) (λ c. search needs) returns)

@@ -7,21 +7,6 @@ use borrow.Author.Needs.{needs}
 use Rattle.sendumaal_calls.proofs.telling.told.Statement.{statement}
 use Rattle.sendumaal_calls.proofs.telling.told.Tie as tie
 
-enum-told : tie.Need-enum-told
-enum-told c = search needs
-
-enum-known-found : tie.Need-enum-known-found
-enum-known-found c = search needs
-
-place-requires : tie.Need-place-requires
-place-requires c κs = search needs
-
-number-requires : tie.Need-number-requires
-number-requires c κs = search needs
-
-returns : tie.Need-returns
-returns c = search needs
-
 returns-2 : tie.Need-returns-2
 returns-2 c =
     let f = c .before .before .before .found in
@@ -29,5 +14,5 @@ returns-2 c =
 
 pub told-spec : {M : Type 1} → statement M
 told-spec =
-    tie.close
-    (tie.spec enum-told enum-known-found place-requires number-requires returns returns-2)
+    tie.close (tie.spec (λ c. search needs) (λ c. search needs) (λ c κs. search needs) (λ c κs. search needs)
+    (λ c. search needs) returns-2)

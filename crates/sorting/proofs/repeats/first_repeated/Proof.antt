@@ -14,17 +14,8 @@ cast-count c = let a = c .before .before .before .args in omega (arith, roomy-fi
 repeat-among-requires : tie.Need-repeat-among-requires
 repeat-among-requires c κs = let a = c .before .before .before .before .args in roomy-fits (length (a .names .now) / 64) (a .w .now) (c .before .if1 .taken) .1
 
-cast-place : tie.Need-cast-place
-cast-place c = search needs
-
-same-length : tie.Need-same-length
-same-length c = search needs
-
 returns : tie.Need-returns
 returns c = let a = c .before .before .before .before .before .before .before .before .args in repeated-at (a .names .now) (a .w .now) (c .before .before .before .repeat-among .last .1 .0) (c .before .before .before .repeat-among .result) (roomy-is (length (a .names .now) / 64) (a .w .now) ∙ c .before .before .before .before .before .if1 .taken) (c .before .before .before .repeat-among .ensures .0) (c .before .before .before .repeat-among .ensures .1) (omega arith)
-
-same-length-2 : tie.Need-same-length-2
-same-length-2 c = search needs
 
 returns-2 : tie.Need-returns-2
 returns-2 c = let a = c .before .before .before .before .before .before .before .before .args in repeated-never (a .names .now) (a .w .now) (c .before .before .before .repeat-among .last .1 .0) (c .before .before .before .repeat-among .result) (roomy-is (length (a .names .now) / 64) (a .w .now) ∙ c .before .before .before .before .before .if1 .taken) (c .before .before .before .repeat-among .ensures .0) (c .before .before .before .repeat-among .ensures .1) (omega arith)
@@ -34,13 +25,5 @@ returns-3 c = let a = c .before .before .before .args in repeated-unfit (a .name
 
 pub first-repeated-spec : {M : Type 1} → statement M
 first-repeated-spec =
-    tie.close
-    (tie.spec
-    cast-count
-    repeat-among-requires
-    cast-place
-    same-length
-    returns
-    same-length-2
-    returns-2
-    returns-3)
+    tie.close (tie.spec cast-count repeat-among-requires (λ c. search needs) (λ c. search needs) returns
+    (λ c. search needs) returns-2 returns-3)

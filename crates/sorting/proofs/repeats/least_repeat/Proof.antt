@@ -40,15 +40,6 @@ mul-lesser-of c = omega arith
 sub-lesser-of : tie.Need-sub-lesser-of Inv-loop μ-loop
 sub-lesser-of c = omega arith
 
-part-lesser-of-start : tie.Need-part-lesser-of-start Inv-loop μ-loop
-part-lesser-of-start c = search needs
-
-part-lesser-of-end : tie.Need-part-lesser-of-end Inv-loop μ-loop
-part-lesser-of-end c = search needs
-
-lesser-of-requires : tie.Need-lesser-of-requires Inv-loop μ-loop
-lesser-of-requires c κs = search needs
-
 add-i : tie.Need-add-i Inv-loop μ-loop
 add-i c = omega arith
 
@@ -73,21 +64,6 @@ returns-2 c =
 
 pub least-repeat-spec : {M : Type 1} → statement M
 least-repeat-spec =
-    tie.close
-    (tie.spec
-    Inv-loop
-    μ-loop
-    returns
-    shared-slice-read-p
-    loop-holds
-    mul-x
-    shared-slice-read-x
-    mul-lesser-of
-    sub-lesser-of
-    part-lesser-of-start
-    part-lesser-of-end
-    lesser-of-requires
-    add-i
-    loop-less
-    loop-again
-    returns-2)
+    tie.close (tie.spec Inv-loop μ-loop returns shared-slice-read-p loop-holds mul-x shared-slice-read-x
+    mul-lesser-of sub-lesser-of (λ c. search needs) (λ c. search needs) (λ c κs. search needs) add-i loop-less
+    loop-again returns-2)

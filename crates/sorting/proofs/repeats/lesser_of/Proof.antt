@@ -5,9 +5,6 @@ use borrow.Author.Needs.{needs}
 use Rattle.sorting.proofs.repeats.lesser_of.Statement.{statement}
 use Rattle.sorting.proofs.repeats.lesser_of.Tie as tie
 
-le-requires : tie.Need-le-requires
-le-requires c κs = search needs
-
 returns : tie.Need-returns
 returns c = simp (sym (c .before .before .le .ensures) ∙ c .before .if1 .taken) (omega arith)
 
@@ -18,4 +15,4 @@ returns-3 : tie.Need-returns-3
 returns-3 c = simp (sym (c .before .le .ensures) ∙ c .if1 .left)
 
 pub lesser-of-spec : {M : Type 1} → statement M
-lesser-of-spec = tie.close (tie.spec le-requires returns returns-2 returns-3)
+lesser-of-spec = tie.close (tie.spec (λ c κs. search needs) returns returns-2 returns-3)

@@ -10,24 +10,6 @@ use borrow.Author.Needs.{needs}
 use Rattle.sorting.proofs.repeats.repeat_among.Statement.{statement}
 use Rattle.sorting.proofs.repeats.repeat_among.Tie as tie
 
-add-e : tie.Need-add-e
-add-e c = search needs
-
-count-up-requires : tie.Need-count-up-requires
-count-up-requires c κs = search needs
-
-sort-range-requires : tie.Need-sort-range-requires
-sort-range-requires c κs = search needs
-
-least-repeat-requires : tie.Need-least-repeat-requires
-least-repeat-requires c κs = search needs
-
-clear-requires : tie.Need-clear-requires
-clear-requires c κs = search needs
-
-same-length : tie.Need-same-length
-same-length c = search needs
-
 returns : tie.Need-returns
 returns c =
     let a = c .before .before .before .before .before .before .before .before .before .before .before .before .before .before .before .before .args in
@@ -43,12 +25,5 @@ returns c =
 
 pub repeat-among-spec : {M : Type 1} → statement M
 repeat-among-spec =
-    tie.close
-    (tie.spec
-    add-e
-    count-up-requires
-    sort-range-requires
-    least-repeat-requires
-    clear-requires
-    same-length
-    returns)
+    tie.close (tie.spec (λ c. search needs) (λ c κs. search needs) (λ c κs. search needs) (λ c κs. search needs)
+    (λ c κs. search needs) (λ c. search needs) returns)

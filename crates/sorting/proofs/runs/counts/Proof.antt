@@ -5,9 +5,6 @@ use borrow.Author.Needs.{needs}
 use Rattle.sorting.proofs.runs.counts.Statement.{statement}
 use Rattle.sorting.proofs.runs.counts.Tie as tie
 
-fits-requires : tie.Need-fits-requires
-fits-requires c κs = search needs
-
 sub-result : tie.Need-sub-result
 sub-result c = let a = c .before .before .args in fitting-order (a .lo) (a .hi) (a .to) (a .e) (a .n) (sym (c .before .fits2 .ensures) ∙ c .if1 .taken) .0
 
@@ -18,4 +15,4 @@ returns-2 : tie.Need-returns-2
 returns-2 c = rw (sym (c .before .fits2 .ensures) ∙ c .if1 .left)
 
 pub counts-spec : {M : Type 1} → statement M
-counts-spec = tie.close (tie.spec fits-requires sub-result returns returns-2)
+counts-spec = tie.close (tie.spec (λ c κs. search needs) sub-result returns returns-2)

@@ -4,12 +4,6 @@ use borrow.Author.Needs.{needs}
 use Rattle.sorting.proofs.runs.next_run.Statement.{statement}
 use Rattle.sorting.proofs.runs.next_run.Tie as tie
 
-le-requires : tie.Need-le-requires
-le-requires c κs = search needs
-
-add-result : tie.Need-add-result
-add-result c = search needs
-
 returns : tie.Need-returns
 returns c = simp (sym (c .before .le .ensures) ∙ c .if1 .taken)
 
@@ -17,4 +11,4 @@ returns-2 : tie.Need-returns-2
 returns-2 c = simp (sym (c .before .le .ensures) ∙ c .if1 .left)
 
 pub next-run-spec : {M : Type 1} → statement M
-next-run-spec = tie.close (tie.spec le-requires add-result returns returns-2)
+next-run-spec = tie.close (tie.spec (λ c κs. search needs) (λ c. search needs) returns returns-2)

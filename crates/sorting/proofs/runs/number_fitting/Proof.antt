@@ -62,12 +62,6 @@ mul-next-run c = omega arith
 sub-next-run : tie.Need-sub-next-run Inv-loop μ-loop
 sub-next-run c = omega arith
 
-part-next-run-start : tie.Need-part-next-run-start Inv-loop μ-loop
-part-next-run-start c = search needs
-
-part-next-run-end : tie.Need-part-next-run-end Inv-loop μ-loop
-part-next-run-end c = search needs
-
 next-run-requires : tie.Need-next-run-requires Inv-loop μ-loop
 next-run-requires c κs = omega arith
 
@@ -125,31 +119,6 @@ returns-2 c =
 
 pub number-fitting-spec : {M : Type 1} → statement M
 number-fitting-spec =
-    tie.close
-    (tie.spec
-    Inv-loop
-    μ-loop
-    returns
-    mul-p
-    slice-read-p
-    mul-w
-    slice-write-w
-    add-i
-    add-k
-    loop-holds
-    mul-x
-    slice-read-x
-    mul-next-run
-    sub-next-run
-    part-next-run-start
-    part-next-run-end
-    next-run-requires
-    mul-w-2
-    slice-write-w-2
-    add-i-2
-    add-k-2
-    loop-less
-    loop-again
-    add-result
-    same-length
-    returns-2)
+    tie.close (tie.spec Inv-loop μ-loop returns mul-p slice-read-p mul-w slice-write-w add-i add-k loop-holds
+    mul-x slice-read-x mul-next-run sub-next-run (λ c. search needs) (λ c. search needs) next-run-requires mul-w-2
+    slice-write-w-2 add-i-2 add-k-2 loop-less loop-again add-result same-length returns-2)

@@ -7,9 +7,6 @@ use borrow.Author.Needs.{needs}
 use Rattle.sorting.proofs.runs.number_runs.Statement.{statement}
 use Rattle.sorting.proofs.runs.number_runs.Tie as tie
 
-counts-requires : tie.Need-counts-requires
-counts-requires c κs = search needs
-
 sub-t : tie.Need-sub-t
 sub-t c = let a = c .before .before .before .before .args in let o = numberable-order (a .lo) (a .hi) (a .to) (a .e) (length (a .w .now)) (sym (c .before .counts .ensures) ∙ c .if1 .taken) in o .0
 
@@ -18,9 +15,6 @@ add-t c = let a = c .before .before .before .before .args in let o = numberable-
 
 number-fitting-requires : tie.Need-number-fitting-requires
 number-fitting-requires c κs = let a = c .before .before .before .before .before .args in let o = numberable-order (a .lo) (a .hi) (a .to) (a .e) (length (a .w .now)) (sym (c .before .before .counts .ensures) ∙ c .before .if1 .taken) in (o .0, o .1, refl, o .2, o .3, o .4)
-
-same-length : tie.Need-same-length
-same-length c = search needs
 
 returns : tie.Need-returns
 returns c =
@@ -35,5 +29,5 @@ returns-2 c =
 
 pub number-runs-spec : {M : Type 1} → statement M
 number-runs-spec =
-    tie.close
-    (tie.spec counts-requires sub-t add-t number-fitting-requires same-length returns returns-2)
+    tie.close (tie.spec (λ c κs. search needs) sub-t add-t number-fitting-requires (λ c. search needs) returns
+    returns-2)

@@ -47,15 +47,6 @@ mul-le c = omega arith
 sub-le : tie.Need-sub-le Inv-loop μ-loop
 sub-le c = omega arith
 
-part-le-start : tie.Need-part-le-start Inv-loop μ-loop
-part-le-start c = search needs
-
-part-le-end : tie.Need-part-le-end Inv-loop μ-loop
-part-le-end c = search needs
-
-le-requires : tie.Need-le-requires Inv-loop μ-loop
-le-requires c κs = search needs
-
 add-i-2 : tie.Need-add-i-2 Inv-loop μ-loop
 add-i-2 c = omega arith
 
@@ -88,24 +79,6 @@ returns-3 c =
 
 pub stop-spec : {M : Type 1} → statement M
 stop-spec =
-    tie.close
-    (tie.spec
-    Inv-loop
-    μ-loop
-    returns
-    mul-p
-    shared-slice-read-p
-    add-i
-    loop-holds
-    mul-x
-    shared-slice-read-x
-    mul-le
-    sub-le
-    part-le-start
-    part-le-end
-    le-requires
-    add-i-2
-    loop-less
-    loop-again
-    returns-2
-    returns-3)
+    tie.close (tie.spec Inv-loop μ-loop returns mul-p shared-slice-read-p add-i loop-holds mul-x
+    shared-slice-read-x mul-le sub-le (λ c. search needs) (λ c. search needs) (λ c κs. search needs) add-i-2
+    loop-less loop-again returns-2 returns-3)

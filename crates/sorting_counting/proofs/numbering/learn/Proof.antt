@@ -8,39 +8,12 @@ use borrow.Author.Needs.{needs}
 use Rattle.sorting_counting.proofs.numbering.learn.Statement.{statement}
 use Rattle.sorting_counting.proofs.numbering.learn.Tie as tie
 
-wide-requires : tie.Need-wide-requires
-wide-requires c κs = search needs
-
-add-at : tie.Need-add-at
-add-at c = search needs
-
-mul-if1 : tie.Need-mul-if1
-mul-if1 c = search needs
-
-slice-read-if1 : tie.Need-slice-read-if1
-slice-read-if1 c = search needs
-
-wide-requires-2 : tie.Need-wide-requires-2
-wide-requires-2 c κs = search needs
-
-add-to : tie.Need-add-to
-add-to c = search needs
-
-mul-w : tie.Need-mul-w
-mul-w c = search needs
-
-slice-write-w : tie.Need-slice-write-w
-slice-write-w c = search needs
-
 add-w : tie.Need-add-w
 add-w c =
     let a = c .before .before .before .before .before .args in let pre = c .before .before .before .before .before .pre in
     let e : c .before .before .before .wide .result ≡ a .x = c .before .before .before .wide .ensures .0 in
     let z : getD (a .w .now) (a .t + a .x) 0 ≡ 0 = rw e at (c .before .if1 .taken) in
     omega (arith, room (a .w .now) (a .b) (a .t) (a .m) (a .found) (a .x) (pre .1) (pre .2) (pre .3) (pre .0) z)
-
-mul-w-2 : tie.Need-mul-w-2
-mul-w-2 c = search needs
 
 slice-write-w-2 : tie.Need-slice-write-w-2
 slice-write-w-2 c = let a = c .before .before .before .before .before .args in omega (arith, length-set (a .w .now) (a .b + c .wide2 .result) (a .x))
@@ -51,9 +24,6 @@ add-result c =
     let e : c .before .before .before .wide .result ≡ a .x = c .before .before .before .wide .ensures .0 in
     let z : getD (a .w .now) (a .t + a .x) 0 ≡ 0 = rw e at (c .before .if1 .taken) in
     omega (arith, room (a .w .now) (a .b) (a .t) (a .m) (a .found) (a .x) (pre .1) (pre .2) (pre .3) (pre .0) z)
-
-same-length : tie.Need-same-length
-same-length c = search needs
 
 returns : tie.Need-returns
 returns c =
@@ -71,20 +41,6 @@ returns-2 c =
 
 pub learn-spec : {M : Type 1} → statement M
 learn-spec =
-    tie.close
-    (tie.spec
-    wide-requires
-    add-at
-    mul-if1
-    slice-read-if1
-    wide-requires-2
-    add-to
-    mul-w
-    slice-write-w
-    add-w
-    mul-w-2
-    slice-write-w-2
-    add-result
-    same-length
-    returns
-    returns-2)
+    tie.close (tie.spec (λ c κs. search needs) (λ c. search needs) (λ c. search needs) (λ c. search needs)
+    (λ c κs. search needs) (λ c. search needs) (λ c. search needs) (λ c. search needs) add-w (λ c. search needs)
+    slice-write-w-2 add-result (λ c. search needs) returns returns-2)

@@ -32,9 +32,6 @@ learn-requires c κs =
     let l = c .before .before .before .loop in
     (l .inv .2 .knows, pre .0, omega arith, rw (l .inv .2 .after (a .l + l .i) (omega arith)) (pre .5 (l .i) (omega arith)), pre .3)
 
-wide-requires : tie.Need-wide-requires Inv-loop μ-loop
-wide-requires c κs = search needs
-
 add-of : tie.Need-add-of Inv-loop μ-loop
 add-of c =
     let a = c .before .before .before .before .before .before .before .before .before .args in let pre = c .before .before .before .before .before .before .before .before .before .pre in
@@ -91,24 +88,5 @@ returns c =
 
 pub number-all-spec : {M : Type 1} → statement M
 number-all-spec =
-    tie.close
-    (tie.spec
-    Inv-loop
-    μ-loop
-    loop-holds
-    add-at
-    mul-x
-    slice-read-x
-    learn-requires
-    wide-requires
-    add-of
-    mul-k
-    slice-read-k
-    sub-k
-    mul-w
-    slice-write-w
-    add-i
-    loop-less
-    loop-again
-    same-length
-    returns)
+    tie.close (tie.spec Inv-loop μ-loop loop-holds add-at mul-x slice-read-x learn-requires (λ c κs. search needs)
+    add-of mul-k slice-read-k sub-k mul-w slice-write-w add-i loop-less loop-again same-length returns)

@@ -68,9 +68,6 @@ slice-read-wide c =
     let bd = q .bounds (l .j) u in
     omega (arith, q .order, q .ranks, q .keys, q .fits, l .inv .1)
 
-wide-requires : tie.Need-wide-requires Inv-loop μ-loop
-wide-requires c κs = search needs
-
 add-wide-2 : tie.Need-add-wide-2 Inv-loop μ-loop
 add-wide-2 c =
     let s = c .before .before .before .before .before .before .before .args in let q = c .before .before .before .before .before .before .before .pre in
@@ -97,9 +94,6 @@ slice-read-wide-2 c =
     let bd = q .bounds (l .j) u in
     let ex : c .before .wide .result ≡ getD (s .w .now) (s .o + l .j) 0 = c .before .wide .ensures .0 ∙ read-x (s .w .now) (l .w) (s .o) (s .r) (s .t) (s .e) (s .f) (s .a) (s .b) (s .n) (l .j) (l .seen) (l .k) (l .inv .1) q (omega arith) (l .inv .2) in
     omega (arith, q .order, q .ranks, q .keys, q .fits, l .inv .1)
-
-wide-requires-2 : tie.Need-wide-requires-2 Inv-loop μ-loop
-wide-requires-2 c κs = search needs
 
 add-wide-3 : tie.Need-add-wide-3 Inv-loop μ-loop
 add-wide-3 c =
@@ -136,9 +130,6 @@ slice-read-wide-3 c =
     let bd = q .bounds (l .j) u in
     let ex : c .before .before .before .wide .result ≡ getD (s .w .now) (s .o + l .j) 0 = c .before .before .before .wide .ensures .0 ∙ read-x (s .w .now) (l .w) (s .o) (s .r) (s .t) (s .e) (s .f) (s .a) (s .b) (s .n) (l .j) (l .seen) (l .k) (l .inv .1) q (omega arith) (l .inv .2) in
     omega (arith, q .order, q .ranks, q .keys, q .fits, l .inv .1)
-
-wide-requires-3 : tie.Need-wide-requires-3 Inv-loop μ-loop
-wide-requires-3 c κs = search needs
 
 sub-len : tie.Need-sub-len Inv-loop μ-loop
 sub-len c =
@@ -276,38 +267,8 @@ returns c =
 
 pub spread-runs-spec : {M : Type 1} → statement M
 spread-runs-spec =
-    tie.close
-    (tie.spec
-    Inv-loop
-    μ-loop
-    loop-holds
-    add-next
-    add-g
-    mul-g
-    slice-read-g
-    add-wide
-    mul-wide
-    slice-read-wide
-    wide-requires
-    add-wide-2
-    mul-wide-2
-    slice-read-wide-2
-    wide-requires-2
-    add-wide-3
-    add-wide-4
-    mul-wide-3
-    slice-read-wide-3
-    wide-requires-3
-    sub-len
-    add-copy-run
-    add-copy-run-2
-    add-copy-run-3
-    copy-run-requires
-    add-k
-    add-seen
-    loop-less
-    loop-again
-    loop-less-2
-    loop-again-2
-    same-length
+    tie.close (tie.spec Inv-loop μ-loop loop-holds add-next add-g mul-g slice-read-g add-wide mul-wide
+    slice-read-wide (λ c κs. search needs) add-wide-2 mul-wide-2 slice-read-wide-2 (λ c κs. search needs)
+    add-wide-3 add-wide-4 mul-wide-3 slice-read-wide-3 (λ c κs. search needs) sub-len add-copy-run add-copy-run-2
+    add-copy-run-3 copy-run-requires add-k add-seen loop-less loop-again loop-less-2 loop-again-2 same-length
     returns)

@@ -11,18 +11,6 @@ use native.Mathlib.Omega.{arith}
 use Rattle.sorting_merge.proofs.naming.entry_number.Statement.{statement}
 use Rattle.sorting_merge.proofs.naming.entry_number.Tie as tie
 
-tag-part-requires : tie.Need-tag-part-requires
-tag-part-requires c κs = search needs
-
-number-at-requires : tie.Need-number-at-requires
-number-at-requires c κs = search needs
-
-name-byte-requires : tie.Need-name-byte-requires
-name-byte-requires c κs = search needs
-
-cast-result : tie.Need-cast-result
-cast-result c = search needs
-
 returns : tie.Need-returns
 returns c =
     let s = c .before .before .before .before .before in
@@ -39,11 +27,5 @@ returns-2 c =
 
 pub entry-number-spec : {M : Type 1} → statement M
 entry-number-spec =
-    tie.close
-    (tie.spec
-    tag-part-requires
-    number-at-requires
-    name-byte-requires
-    cast-result
-    returns
-    returns-2)
+    tie.close (tie.spec (λ c κs. search needs) (λ c κs. search needs) (λ c κs. search needs) (λ c. search needs)
+    returns returns-2)

@@ -9,19 +9,11 @@ use Rattle.sorting_merge.proofs.naming.name_byte.Tie as tie
 returns : tie.Need-returns
 returns c = let a = c .before .before .args in sym (name-past (a .letters .now) (a .x) (a .k) (c .if1 .taken))
 
-mul-from : tie.Need-mul-from
-mul-from c = search needs
-
-add-byte-at : tie.Need-add-byte-at
-add-byte-at c = search needs
-
-byte-at-requires : tie.Need-byte-at-requires
-byte-at-requires c κs = search needs
-
 returns-2 : tie.Need-returns-2
 returns-2 c =
     let a = c .before .before .before .args in
     c .byte-at .ensures ∙ sym (name-at (a .letters .now) (a .x) (a .k) (omega arith))
 
 pub name-byte-spec : {M : Type 1} → statement M
-name-byte-spec = tie.close (tie.spec returns mul-from add-byte-at byte-at-requires returns-2)
+name-byte-spec =
+    tie.close (tie.spec returns (λ c. search needs) (λ c. search needs) (λ c κs. search needs) returns-2)

@@ -13,9 +13,6 @@ returns c =
     let a = c .before .before .before .args in
     left-none (a .letters .now) (a .keys .now) (a .at) (a .i) (c .before .before .before .pre .within) (left-past (a .letters .now) (a .keys .now) (a .at) (a .i) (c .if1 .taken))
 
-number-at-requires : tie.Need-number-at-requires
-number-at-requires c κs = search needs
-
 entry-number-requires : tie.Need-entry-number-requires
 entry-number-requires c κs = (c .before .before .before .before .pre .tag, rw (c .number-at .ensures) (c .before .before .before .before .pre .within))
 
@@ -27,9 +24,6 @@ returns-2 c =
     let a = c .before .before .before .before .before .before .args in
     rw (c .before .entry-number .ensures, c .before .before .number-at .ensures)
     (left-on (a .letters .now) (a .keys .now) (a .at) (a .i) (omega arith) (c .before .before .before .before .before .before .pre .within) (λ e. c .if2 .taken (c .before .entry-number .ensures ∙ rw (c .before .before .number-at .ensures) e)))
-
-add-next-2 : tie.Need-add-next-2
-add-next-2 c = search needs
 
 returns-3 : tie.Need-returns-3
 returns-3 c =
@@ -48,13 +42,5 @@ returns-4 c =
 
 pub walk-spec : {M : Type 1} → statement M
 walk-spec =
-    tie.close
-    (tie.spec
-    returns
-    number-at-requires
-    entry-number-requires
-    add-next
-    returns-2
-    add-next-2
-    returns-3
-    returns-4)
+    tie.close (tie.spec returns (λ c κs. search needs) entry-number-requires add-next returns-2
+    (λ c. search needs) returns-3 returns-4)

@@ -5,17 +5,8 @@ use borrow.Author.Needs.{needs}
 use Rattle.sorting_merge.proofs.text.name_of.Statement.{statement}
 use Rattle.sorting_merge.proofs.text.name_of.Tie as tie
 
-mul-from : tie.Need-mul-from
-mul-from c = search needs
-
-add-cut : tie.Need-add-cut
-add-cut c = search needs
-
-cut-requires : tie.Need-cut-requires
-cut-requires c κs = search needs
-
 returns : tie.Need-returns
 returns c = let x = c .before .before .args .x in stands (x * 64) (x * 64 + 64) (c .cut .result .from) (c .cut .result .to) (c .before .before .args .letters .now) (c .cut .ensures .0) (c .cut .ensures .1)
 
 pub name-of-spec : {M : Type 1} → statement M
-name-of-spec = tie.close (tie.spec mul-from add-cut cut-requires returns)
+name-of-spec = tie.close (tie.spec (λ c. search needs) (λ c. search needs) (λ c κs. search needs) returns)

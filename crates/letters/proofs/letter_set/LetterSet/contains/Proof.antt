@@ -13,15 +13,9 @@ returns-2 : tie.Need-returns-2
 unfolding has isLetter
 returns-2 c = simp (le-leb _ _ (c .before .if1 .left), lt-leb _ _ (c .if2 .taken))
 
-cast-result : tie.Need-cast-result
-cast-result c = search needs
-
-shr-result : tie.Need-shr-result
-shr-result c = search needs
-
 returns-3 : tie.Need-returns-3
 unfolding has isLetter bit
 returns-3 c = simp (le-leb _ _ (c .before .before .if1 .left), le-leb _ _ (c .before .if2 .left))
 
 pub contains-spec : {M : Type 1} → statement M
-contains-spec = tie.close (tie.spec returns returns-2 cast-result shr-result returns-3)
+contains-spec = tie.close (tie.spec returns returns-2 (λ c. search needs) (λ c. search needs) returns-3)

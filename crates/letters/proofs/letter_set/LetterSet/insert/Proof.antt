@@ -20,12 +20,6 @@ returns-2 : tie.Need-returns-2
 unfolding inserted isLetter
 returns-2 c = simp (le-leb _ _ (c .before .if1 .left), lt-leb _ _ (c .if2 .taken))
 
-cast-t5 : tie.Need-cast-t5
-cast-t5 c = search needs
-
-shl-t6 : tie.Need-shl-t6
-shl-t6 c = search needs
-
 returns-3 : tie.Need-returns-3
 unfolding inserted isLetter
 returns-3 c =
@@ -36,4 +30,4 @@ returns-3 c =
     (ap {B = LetterSet} (λ (x : ℕ). record { mask = bitOr (a .self .mask) x }) (shl-exact {a = 1} 1 k 32 (omega arith) h ∙ one-mul (2 ^ k)))
 
 pub insert-spec : {M : Type 1} → statement M
-insert-spec = tie.close (tie.spec returns returns-2 cast-t5 shl-t6 returns-3)
+insert-spec = tie.close (tie.spec returns returns-2 (λ c. search needs) (λ c. search needs) returns-3)

@@ -6,27 +6,15 @@ use borrow.Author.Needs.{needs}
 use Rattle.peptide.proofs.making.Peptide.forms.Statement.{statement}
 use Rattle.peptide.proofs.making.Peptide.forms.Tie as tie
 
-test-forms-requires : tie.Need-test-forms-requires
-test-forms-requires c κs = search needs
-
-enum-known-why : tie.Need-enum-known-why
-enum-known-why c = search needs
-
 returns : tie.Need-returns
 returns c =
     let a = c .before .before .before .before .before .before .before .args in
     forms-refused (a .self) (now (a .variable)) (now (a .fixed)) (a .limit) (a .cap) (now (a .out)) _ (sym (c .before .why .given .1) ∙ c .before .before .before .test-forms .ensures)
 
-enum-told : tie.Need-enum-told
-enum-told c = search needs
-
 run-requires : tie.Need-run-requires
 run-requires c κs =
     let a = c .before .before .before .before .before .before .before .args in
     passed-fit (a .self) (now (a .variable)) (now (a .fixed)) (a .limit) (sym (c .before .before .before .test-forms .ensures) ∙ c .before .enum-told .given .1)
-
-same-length : tie.Need-same-length
-same-length c = search needs
 
 returns-2 : tie.Need-returns-2
 returns-2 c =
@@ -35,12 +23,5 @@ returns-2 c =
 
 pub forms-spec : {M : Type 1} → statement M
 forms-spec =
-    tie.close
-    (tie.spec
-    test-forms-requires
-    enum-known-why
-    returns
-    enum-told
-    run-requires
-    same-length
-    returns-2)
+    tie.close (tie.spec (λ c κs. search needs) (λ c. search needs) returns (λ c. search needs) run-requires
+    (λ c. search needs) returns-2)

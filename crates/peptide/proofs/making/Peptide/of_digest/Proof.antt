@@ -19,41 +19,11 @@ within c =
     let r = d .rises in
     rw (c .before .before .before .u32-at .ensures, c .before .before .u32-at2 .ensures) (omega arith, d .within)
 
-test-digest-requires : tie.Need-test-digest-requires
-test-digest-requires c κs = search needs
-
-enum-known-why : tie.Need-enum-known-why
-enum-known-why c = search needs
-
-refused-requires : tie.Need-refused-requires
-refused-requires c κs = search needs
-
 returns : tie.Need-returns
 unfolding madeOfDigest
 returns c =
     let a = c .before .before .before .before .before .before .before .before .args in
     c .refused .ensures ∙ made-refused _ _ (digested (now (a .letters)) (now (a .bytes))) (sym (c .before .before .before .before .test-digest .ensures) ∙ c .before .before .why .given .1)
-
-enum-told : tie.Need-enum-told
-enum-told c = search needs
-
-u32-at-requires : tie.Need-u32-at-requires
-u32-at-requires c κs = search needs
-
-cast-start : tie.Need-cast-start
-cast-start c = search needs
-
-u32-at-requires-2 : tie.Need-u32-at-requires-2
-u32-at-requires-2 c κs = search needs
-
-cast-end : tie.Need-cast-end
-cast-end c = search needs
-
-byte-at-requires : tie.Need-byte-at-requires
-byte-at-requires c κs = search needs
-
-byte-at-requires-2 : tie.Need-byte-at-requires-2
-byte-at-requires-2 c κs = search needs
 
 sub-of-range : tie.Need-sub-of-range
 sub-of-range c = within c .0
@@ -77,21 +47,7 @@ returns-2 c =
 
 pub of-digest-spec : {M : Type 1} → statement M
 of-digest-spec =
-    tie.close
-    (tie.spec
-    test-digest-requires
-    enum-known-why
-    refused-requires
-    returns
-    enum-told
-    u32-at-requires
-    cast-start
-    u32-at-requires-2
-    cast-end
-    byte-at-requires
-    byte-at-requires-2
-    sub-of-range
-    part-of-range-start
-    part-of-range-end
-    of-range-requires
-    returns-2)
+    tie.close (tie.spec (λ c κs. search needs) (λ c. search needs) (λ c κs. search needs) returns
+    (λ c. search needs) (λ c κs. search needs) (λ c. search needs) (λ c κs. search needs) (λ c. search needs)
+    (λ c κs. search needs) (λ c κs. search needs) sub-of-range part-of-range-start part-of-range-end
+    of-range-requires returns-2)

@@ -10,24 +10,12 @@ use borrow.Author.Needs.{needs}
 use Rattle.peptide.proofs.making.Peptide.of_form.Statement.{statement}
 use Rattle.peptide.proofs.making.Peptide.of_form.Tie as tie
 
-test-form-requires : tie.Need-test-form-requires
-test-form-requires c κs = search needs
-
-enum-known-why : tie.Need-enum-known-why
-enum-known-why c = search needs
-
-refused-requires : tie.Need-refused-requires
-refused-requires c κs = search needs
-
 returns : tie.Need-returns
 returns c =
     let a = c .before .before .before .before .before .before .before .args in
     let t = c .before .before .before .before .test-form in
     c .refused .ensures
     ∙ made-refused _ _ (given (now (a .letters)) (now (a .form)) (a .position) (a .decoy)) (of-form-refused (now (a .letters)) (now (a .form)) (a .position) (a .decoy) (t .result) (t .ensures) _ (c .before .before .why .given .1))
-
-enum-told : tie.Need-enum-told
-enum-told c = search needs
 
 given-requires : tie.Need-given-requires
 given-requires c κs =
@@ -39,12 +27,6 @@ test-contents-requires c κs =
     let a = c .before .before .before .before .before .before .args in
     subst (λ (p : Peptide). p .len ≤ 64) (sym (c .given .ensures)) (size-fits (length (now (a .letters))) (form-sized (now (a .letters)) (now (a .form)) (sym (c .before .before .before .test-form .ensures) ∙ c .before .enum-told .given .1)))
 
-enum-known-why-2 : tie.Need-enum-known-why-2
-enum-known-why-2 c = search needs
-
-refused-requires-2 : tie.Need-refused-requires-2
-refused-requires-2 c κs = search needs
-
 returns-2 : tie.Need-returns-2
 returns-2 c =
     let a = c .before .before .before .before .before .before .before .before .before .before .before .args in
@@ -53,9 +35,6 @@ returns-2 c =
     let u = c .before .before .before .before .test-contents in
     c .refused2 .ensures
     ∙ made-refused _ _ (given (now (a .letters)) (now (a .form)) (a .position) (a .decoy)) (of-form-tested (now (a .letters)) (now (a .form)) (a .position) (a .decoy) (t .result) (t .ensures) (c .before .before .before .before .before .before .enum-told .given .1) (p .result) (p .ensures) (u .result) _ (u .ensures) (c .before .before .why2 .given .1))
-
-enum-told-2 : tie.Need-enum-told-2
-enum-told-2 c = search needs
 
 returns-3 : tie.Need-returns-3
 returns-3 c =
@@ -67,17 +46,6 @@ returns-3 c =
 
 pub of-form-spec : {M : Type 1} → statement M
 of-form-spec =
-    tie.close
-    (tie.spec
-    test-form-requires
-    enum-known-why
-    refused-requires
-    returns
-    enum-told
-    given-requires
-    test-contents-requires
-    enum-known-why-2
-    refused-requires-2
-    returns-2
-    enum-told-2
-    returns-3)
+    tie.close (tie.spec (λ c κs. search needs) (λ c. search needs) (λ c κs. search needs) returns
+    (λ c. search needs) given-requires test-contents-requires (λ c. search needs) (λ c κs. search needs) returns-2
+    (λ c. search needs) returns-3)

@@ -9,31 +9,10 @@ use borrow.Author.Needs.{needs}
 use Rattle.peptide.proofs.making.Peptide.of_part.Statement.{statement}
 use Rattle.peptide.proofs.making.Peptide.of_part.Tie as tie
 
-test-part-requires : tie.Need-test-part-requires
-test-part-requires c κs = search needs
-
-enum-known-why : tie.Need-enum-known-why
-enum-known-why c = search needs
-
-refused-requires : tie.Need-refused-requires
-refused-requires c κs = search needs
-
 returns : tie.Need-returns
 returns c =
     let a = c .before .before .before .before .before .before .before .args in
     c .refused .ensures ∙ made-refused _ _ (given (now (a .part)) [] (a .position) (a .decoy)) (sym (c .before .before .before .before .test-part .ensures) ∙ c .before .before .why .given .1)
-
-enum-told : tie.Need-enum-told
-enum-told c = search needs
-
-sub-given : tie.Need-sub-given
-sub-given c = search needs
-
-part-given-start : tie.Need-part-given-start
-part-given-start c = search needs
-
-part-given-end : tie.Need-part-given-end
-part-given-end c = search needs
 
 given-requires : tie.Need-given-requires
 given-requires c κs =
@@ -47,15 +26,5 @@ returns-2 c =
 
 pub of-part-spec : {M : Type 1} → statement M
 of-part-spec =
-    tie.close
-    (tie.spec
-    test-part-requires
-    enum-known-why
-    refused-requires
-    returns
-    enum-told
-    sub-given
-    part-given-start
-    part-given-end
-    given-requires
-    returns-2)
+    tie.close (tie.spec (λ c κs. search needs) (λ c. search needs) (λ c κs. search needs) returns
+    (λ c. search needs) (λ c. search needs) (λ c. search needs) (λ c. search needs) given-requires returns-2)

@@ -6,19 +6,10 @@ use borrow.Author.Needs.{needs}
 use Rattle.peptide.proofs.making.Peptide.reverse.Statement.{statement}
 use Rattle.peptide.proofs.making.Peptide.reverse.Tie as tie
 
-test-peptide-requires : tie.Need-test-peptide-requires
-test-peptide-requires c κs = search needs
-
-enum-known-why : tie.Need-enum-known-why
-enum-known-why c = search needs
-
 returns : tie.Need-returns
 returns c =
     let p = c .before .before .before .before .args .self in
     ap (λ t. madeOr t (reversed p) p) (sym (c .before .why .given .1) ∙ c .before .before .before .test-peptide .ensures)
-
-enum-told : tie.Need-enum-told
-enum-told c = search needs
 
 turned-requires : tie.Need-turned-requires
 turned-requires c κs = passed-fits (c .before .before .before .args .self) (sym (c .before .before .test-peptide .ensures) ∙ c .enum-told .given .1)
@@ -30,5 +21,5 @@ returns-2 c =
 
 pub reverse-spec : {M : Type 1} → statement M
 reverse-spec =
-    tie.close
-    (tie.spec test-peptide-requires enum-known-why returns enum-told turned-requires returns-2)
+    tie.close (tie.spec (λ c κs. search needs) (λ c. search needs) returns (λ c. search needs) turned-requires
+    returns-2)

@@ -7,9 +7,6 @@ use Rattle.peptide_choices.specs.SuccessorLaws.{none-left, one-fits, pas
 use Rattle.peptide_choices.proofs.choice.Choice.next.Statement.{statement}
 use Rattle.peptide_choices.proofs.choice.Choice.next.Tie as tie
 
-is-one-requires : tie.Need-is-one-requires
-is-one-requires c κs = search needs
-
 next-past-requires : tie.Need-next-past-requires
 next-past-requires c κs =
     let p = c .before .before .args .self in
@@ -23,5 +20,4 @@ returns-2 : tie.Need-returns-2
 returns-2 c = sym (none-left (c .before .before .args .self) (c .before .is-one .ensures .1 (c .if1 .left)))
 
 pub next-spec : {M : Type 1} → statement M
-next-spec =
-    tie.close (tie.spec is-one-requires next-past-requires returns returns-2)
+next-spec = tie.close (tie.spec (λ c κs. search needs) next-past-requires returns returns-2)

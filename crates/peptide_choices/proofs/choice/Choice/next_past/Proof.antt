@@ -11,12 +11,6 @@ use Rattle.peptide_choices.specs.Steps.{stepped, steppedTo}
 use Rattle.peptide_choices.proofs.choice.Choice.next_past.Statement.{statement}
 use Rattle.peptide_choices.proofs.choice.Choice.next_past.Tie as tie
 
-one-more-requires : tie.Need-one-more-requires
-one-more-requires c κs = search needs
-
-movable-requires : tie.Need-movable-requires
-movable-requires c κs = search needs
-
 refilled-requires : tie.Need-refilled-requires
 refilled-requires c κs =
     let w = c .before .movable .ensures .1 .0 (c .if1 .taken) in
@@ -52,4 +46,4 @@ returns-2 c =
 
 pub next-past-spec : {M : Type 1} → statement M
 next-past-spec =
-    tie.close (tie.spec one-more-requires movable-requires refilled-requires returns returns-2)
+    tie.close (tie.spec (λ c κs. search needs) (λ c κs. search needs) refilled-requires returns returns-2)
