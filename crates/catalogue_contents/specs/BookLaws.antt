@@ -8,10 +8,10 @@ use native.Mathlib.Omega.{arith}
 use lib.ListN.{length, getD}
 use lib.Dec.{ltb, eqb}
 use borrow.Author.Tests.{ltb-false, eq-eqb, ne-eqb, eqb-true, eqb-false, not-false}
+use Rattle.lists.specs.Tests.{neither, same?}
 use Rattle.records.specs.declared.refusal.Refusal.the-variants.{Field}
 use Rattle.records.specs.declared.refusal.Tested.the-variants.{Passed, Refused}
 use Rattle.records.specs.SearchLaws.{seek-before}
-use Rattle.records.specs.Tests.{neither, same?}
 use Rattle.records.specs.TestedLaws.{passed-first}
 use Rattle.catalogue_contents.specs.Book.{strays, endsWrong, badBound, firstBadBound, boundsTested}
 

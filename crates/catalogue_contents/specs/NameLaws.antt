@@ -9,18 +9,17 @@ use lib.ListN.{length, getD, take, drop, replicate, length-append, length-replic
 use lib.Seq.{length-slice, getD-drop}
 use lib.Dec.{leb, ltb, eqb}
 use borrow.Author.Tests.{le-leb, lt-leb, ltb-true, ltb-false, lt-ltb, le-ltb, eqb-true, leb-true, not-false}
+use Rattle.lists.specs.Tests.{below?, both, neither, clash}
+use Rattle.lists.specs.Lists.{same}
+use Rattle.lists.specs.SameLaws.{same-refl}
 use Rattle.records.specs.declared.refusal.Refusal.the-variants.{Size, Length, Name, Repeat as Again}
 use Rattle.records.specs.declared.refusal.Tested.{Tested}
 use Rattle.records.specs.declared.refusal.Tested.the-variants.{Passed, Refused}
 use Rattle.records.specs.Outcome.{Outcome, outcome}
 use Rattle.records.specs.Search.{seek}
 use Rattle.records.specs.SearchLaws.{seek-to, seek-passes, seek-before}
-use Rattle.records.specs.Tests.{below?, both, neither}
-use Rattle.sorting_merge.specs.Joined.{nameOf}
-use Rattle.sorting_merge.specs.TextLaws.{stands}
-use Rattle.sorting.specs.Distinct.{same}
-use Rattle.sorting.specs.DistinctLaws.{same-refl}
-use Rattle.sorting_merge.specs.SortLaws.{clash}
+use Rattle.sorting_spec.specs.Joined.{nameOf}
+use Rattle.sorting_texts.specs.TextLaws.{stands}
 use Rattle.sorting.specs.Repeats.{repeats, firstRepeat}
 use Rattle.sorting.specs.Repeating.{repeatedAt, repeatOutcome}
 use Rattle.sorting.specs.declared.repeats.Repeated.{Repeated}

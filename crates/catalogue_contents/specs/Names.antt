@@ -9,7 +9,7 @@ use Rattle.records.specs.declared.refusal.Refusal.the-variants.{Size, Length, N
 use Rattle.records.specs.declared.refusal.Tested.{Tested}
 use Rattle.records.specs.declared.refusal.Tested.the-variants.{Passed, Refused}
 use Rattle.records.specs.Search.{seek}
-use Rattle.sorting_merge.specs.Joined.{nameOf}
+use Rattle.sorting_spec.specs.Joined.{nameOf}
 use Rattle.sorting.specs.Repeats.{repeats}
 
 -- ---- one record

@@ -10,7 +10,7 @@ ghost use Prim.Native.Nat.{_+_, _≤_, _<_};
 ghost use lib.ListN.{length};
 ghost use Rattle.records.specs.Outcome.{outcome};
 ghost use Rattle.records.specs.Search.{seek};
-ghost use Rattle.sorting_merge.specs.Joined.{nameOf};
+ghost use Rattle.sorting_spec.specs.Joined.{nameOf};
 ghost use Rattle.catalogue_contents.specs.Names.{nameCount, tooManyNames, wholeNames, isName, badName, namesTested, catalogueTested};
 ghost use Rattle.catalogue_contents.specs.NamesIn.{cleared, namesOutcome};
 ghost use Rattle.catalogue_contents.specs.NameLaws.{lowerOf};

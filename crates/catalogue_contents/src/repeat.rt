@@ -3,7 +3,7 @@ use sorting::Repeated;
 ghost use mathlib.Core.Path.{_≡_};
 ghost use Prim.Native.Nat.{_+_, _≤_};
 ghost use lib.ListN.{length};
-ghost use Rattle.sorting_merge.specs.Joined.{nameOf};
+ghost use Rattle.sorting_spec.specs.Joined.{nameOf};
 ghost use Rattle.sorting.specs.Repeats.{firstRepeat};
 ghost use Rattle.catalogue_contents.specs.Names.{nameCount};
 ghost use Rattle.catalogue_contents.specs.NamesIn.{cleared};

@@ -4,11 +4,12 @@ use Prim.Native.Nat.{ℕ}
 use mathlib.Core.Path.{refl}
 use mathlib.Core.List.{List, [], _∷_, _++_, flatten}
 use lib.ListN.{replicate}
+use Rattle.lists.specs.Lists.{count}
 use Rattle.records.specs.Le.{le, numberAt}
-use Rattle.records.specs.Cases.{Case, Hold, counted, refused, numbers, told}
+use Rattle.records.specs.Cases.{Case, Hold, answered, refused, numbers, told}
 use Rattle.records.specs.Room.{written}
 use Rattle.records.specs.Search.{seek}
-use Rattle.cover_spec.specs.Cover.{count, keep, markForced, coverMarked, stays, pass, passes, greatest, mark, choose, turn, turns, cover, listed, coverList}
+use Rattle.cover_spec.specs.Cover.{markForced, coverMarked, stays, pass, passes, greatest, mark, choose, turn, turns, cover, listed, coverList}
 use Rattle.cover_edges.specs.Edges.{edgesTo, firstBadEdge, firstBadMark}
 use Rattle.cover_spec.specs.Update.{reached, touched, update, updateList}
 use Rattle.cover.specs.Covering.{coverOutcome}
@@ -41,18 +42,18 @@ after = edge 0 0 ∷ edge 1 0 ∷ edge 2 1 ∷ edge 3 1 ∷ edge 0 2 ∷ []
 pub table : List Case
 table =
     -- P8: at equality the highest number
-    covering (edge 0 0 ∷ edge 1 0 ∷ []) 2 1 24 2 (counted 2) (replicate 24 0) (0 ∷ 1 ∷ [])
+    covering (edge 0 0 ∷ edge 1 0 ∷ []) 2 1 24 2 (answered 2) (replicate 24 0) (0 ∷ 1 ∷ [])
     -- P8, with (0, 0) twice; there is more work memory and more room than needed
-    ∷ covering (edge 0 0 ∷ edge 0 0 ∷ edge 1 0 ∷ []) 2 1 31 3 (counted 2) (replicate 31 0) (1 ∷ 0 ∷ 170 ∷ [])
+    ∷ covering (edge 0 0 ∷ edge 0 0 ∷ edge 1 0 ∷ []) 2 1 31 3 (answered 2) (replicate 31 0) (1 ∷ 0 ∷ 170 ∷ [])
     -- P10: the groups {11}, {10}, {12}
-    ∷ covering (edge 0 0 ∷ edge 1 0 ∷ edge 1 1 ∷ edge 2 1 ∷ []) 3 2 44 3 (counted 3) (replicate 44 0) (0 ∷ 1 ∷ 0 ∷ [])
+    ∷ covering (edge 0 0 ∷ edge 1 0 ∷ edge 1 1 ∷ edge 2 1 ∷ []) 3 2 44 3 (answered 3) (replicate 44 0) (0 ∷ 1 ∷ 0 ∷ [])
     -- group 2 holds the only edge of 0; then 0 and 1 have one edge left, and 0 had more
-    ∷ covering (edge 2 0 ∷ edge 2 1 ∷ edge 0 1 ∷ edge 0 2 ∷ edge 1 2 ∷ []) 3 3 54 3 (counted 3) (replicate 54 0) (1 ∷ 0 ∷ 1 ∷ [])
+    ∷ covering (edge 2 0 ∷ edge 2 1 ∷ edge 0 1 ∷ edge 0 2 ∷ edge 1 2 ∷ []) 3 3 54 3 (answered 3) (replicate 54 0) (1 ∷ 0 ∷ 1 ∷ [])
     -- two parts, a choice in each
-    ∷ covering (edge 0 0 ∷ edge 1 0 ∷ edge 2 1 ∷ edge 3 1 ∷ []) 4 2 48 4 (counted 4) (replicate 48 0) (0 ∷ 1 ∷ 0 ∷ 1 ∷ [])
+    ∷ covering (edge 0 0 ∷ edge 1 0 ∷ edge 2 1 ∷ edge 3 1 ∷ []) 4 2 48 4 (answered 4) (replicate 48 0) (0 ∷ 1 ∷ 0 ∷ 1 ∷ [])
     -- no edges; no groups
-    ∷ covering [] 2 1 12 2 (counted 2) (replicate 12 0) (0 ∷ 0 ∷ [])
-    ∷ covering [] 0 0 1 1 (counted 0) (0 ∷ []) (170 ∷ [])
+    ∷ covering [] 2 1 12 2 (answered 2) (replicate 12 0) (0 ∷ 0 ∷ [])
+    ∷ covering [] 0 0 1 1 (answered 0) (0 ∷ []) (170 ∷ [])
     -- 11: the first marks, and work memory of zeros
     ∷ covering (edge 0 0 ∷ edge 1 0 ∷ []) 2 1 24 1 (refused 11 0) (replicate 24 0) (0 ∷ [])
     -- 9: a meta-peptide, a group
@@ -66,18 +67,18 @@ table =
     ∷ covering ((1 ∷ []) ∷ []) 131073 1 2 1 (refused 1 0) (7 ∷ 7 ∷ []) (170 ∷ [])
     ∷ covering ((1 ∷ []) ∷ []) 1 262145 2 1 (refused 1 0) (7 ∷ 7 ∷ []) (170 ∷ [])
     -- P11: the part of 0 and 1 is touched, the part of 2 and 3 is not
-    ∷ updating before after 4 3 (0 ∷ 1 ∷ 0 ∷ 1 ∷ []) 82 4 (counted 4) (replicate 82 0) (1 ∷ 0 ∷ 0 ∷ 1 ∷ [])
-    ∷ updating before after 4 3 (0 ∷ 1 ∷ 1 ∷ 0 ∷ []) 82 4 (counted 4) (replicate 82 0) (1 ∷ 0 ∷ 1 ∷ 0 ∷ [])
+    ∷ updating before after 4 3 (0 ∷ 1 ∷ 0 ∷ 1 ∷ []) 82 4 (answered 4) (replicate 82 0) (1 ∷ 0 ∷ 0 ∷ 1 ∷ [])
+    ∷ updating before after 4 3 (0 ∷ 1 ∷ 1 ∷ 0 ∷ []) 82 4 (answered 4) (replicate 82 0) (1 ∷ 0 ∷ 1 ∷ 0 ∷ [])
     -- the same edges the other way: an edge that only the old list has touches too; more work memory and more room than needed
-    ∷ updating after before 4 3 (1 ∷ 0 ∷ 1 ∷ 0 ∷ []) 83 5 (counted 4) (replicate 83 0) (0 ∷ 1 ∷ 1 ∷ 0 ∷ 170 ∷ [])
+    ∷ updating after before 4 3 (1 ∷ 0 ∷ 1 ∷ 0 ∷ []) 83 5 (answered 4) (replicate 83 0) (0 ∷ 1 ∷ 1 ∷ 0 ∷ 170 ∷ [])
     -- (0, 1) joins both parts in the old list alone: both are touched
-    ∷ updating (edge 0 1 ∷ before) before 4 2 (1 ∷ 0 ∷ 0 ∷ 0 ∷ []) 78 4 (counted 4) (replicate 78 0) (0 ∷ 1 ∷ 0 ∷ 1 ∷ [])
+    ∷ updating (edge 0 1 ∷ before) before 4 2 (1 ∷ 0 ∷ 0 ∷ 0 ∷ []) 78 4 (answered 4) (replicate 78 0) (0 ∷ 1 ∷ 0 ∷ 1 ∷ [])
     -- the same edges in another order: nothing is touched, and the marks given stay, cover or not
-    ∷ updating (edge 0 0 ∷ edge 1 0 ∷ []) (edge 1 0 ∷ edge 0 0 ∷ []) 2 1 (1 ∷ 1 ∷ []) 36 2 (counted 2) (replicate 36 0) (1 ∷ 1 ∷ [])
+    ∷ updating (edge 0 0 ∷ edge 1 0 ∷ []) (edge 1 0 ∷ edge 0 0 ∷ []) 2 1 (1 ∷ 1 ∷ []) 36 2 (answered 2) (replicate 36 0) (1 ∷ 1 ∷ [])
     -- (0, 0) twice, then once
-    ∷ updating (edge 0 0 ∷ edge 0 0 ∷ edge 1 0 ∷ []) (edge 0 0 ∷ edge 1 0 ∷ []) 2 1 (1 ∷ 0 ∷ []) 42 2 (counted 2) (replicate 42 0) (0 ∷ 1 ∷ [])
+    ∷ updating (edge 0 0 ∷ edge 0 0 ∷ edge 1 0 ∷ []) (edge 0 0 ∷ edge 1 0 ∷ []) 2 1 (1 ∷ 0 ∷ []) 42 2 (answered 2) (replicate 42 0) (0 ∷ 1 ∷ [])
     -- no groups
-    ∷ updating [] [] 0 0 [] 1 1 (counted 0) (0 ∷ []) (170 ∷ [])
+    ∷ updating [] [] 0 0 [] 1 1 (answered 0) (0 ∷ []) (170 ∷ [])
     -- 11: the first marks, and work memory of zeros
     ∷ updating before after 4 3 (0 ∷ 1 ∷ 1 ∷ 0 ∷ []) 82 3 (refused 11 0) (replicate 82 0) (1 ∷ 0 ∷ 1 ∷ [])
     -- 9: the old edges before the new ones, those before the marks
@@ -96,5 +97,5 @@ table =
     ∷ []
 
 pub cases : Hold table
-unfolding seek numberAt flatten written count keep markForced coverMarked stays pass passes greatest mark choose turn turns cover listed coverList edgesTo firstBadEdge firstBadMark reached touched update updateList edge covering updating before after table
+unfolding seek numberAt flatten written markForced coverMarked stays pass passes greatest mark choose turn turns cover listed coverList edgesTo firstBadEdge firstBadMark reached touched update updateList edge covering updating before after table
 cases = refl

@@ -7,10 +7,10 @@ use native.Mathlib.Omega.{arith}
 use lib.ListN.{length, take, drop, replicate}
 use lib.Dec.{eqb, ltb}
 use borrow.Author.Tests.{ltb-false}
+use Rattle.lists.specs.Tests.{neither}
 use Rattle.records.specs.declared.refusal.Refusal.the-variants.{Size, Length, Work, Room}
 use Rattle.records.specs.declared.refusal.Tested.the-variants.{Passed}
 use Rattle.records.specs.TestedLaws.{passed-first, passed-field}
-use Rattle.records.specs.Tests.{neither}
 use Rattle.records.specs.declared.refusal.Counted.the-variants.{Count, Refused as No}
 use Rattle.records.specs.Outcome.{outcome}
 use Rattle.cover_spec.specs.Cover.{coverList, listed}

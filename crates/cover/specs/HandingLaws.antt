@@ -7,7 +7,7 @@ use mathlib.Core.List.{List, _++_}
 use lib.ListN.{length, getD, set, take, drop}
 use lib.Seq.{ext-getD, getD-take, length-take-le, getD-set-same, getD-set-other, take-at}
 use borrow.Rule.Slice.PartMut.{midOf, putMid}
-use Rattle.records.specs.Tests.{same?, below?}
+use Rattle.lists.specs.Tests.{same?, below?}
 
 -- the first i places are copied
 abbrev pub Copied : List ℕ → List ℕ → ℕ → Type 0

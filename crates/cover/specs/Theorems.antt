@@ -9,11 +9,13 @@ use lib.ListN.{length, getD, List·getD-eq-default}
 use lib.Dec.{eqb}
 use lib.Seq.{ext-getD}
 use borrow.Author.Tests.{eqb-true, ltb-true}
+use Rattle.lists.specs.Tests.{below?, both}
+use Rattle.lists.specs.Lists.{bit, count, keep, All}
+use Rattle.lists.specs.KeepLaws.{count-keep, every, keep-same}
 use Rattle.records.specs.declared.refusal.Tested.the-variants.{Passed}
-use Rattle.records.specs.Tests.{below?, both}
-use Rattle.cover_spec.specs.Cover.{Edge, group, meta, bit, same, count, keep, ofMeta, cover, coverList}
+use Rattle.cover_spec.specs.Cover.{Edge, group, meta, ofMeta, cover, coverList, sameEdge}
 use Rattle.cover_spec.specs.Update.{touched}
-use Rattle.cover_spec.specs.CountLaws.{All, all-at, count-keep, count-determined, every, find, keep-same}
+use Rattle.cover_spec.specs.CountLaws.{all-at, count-determined, find}
 use Rattle.cover_spec.specs.ChoiceLaws.{Under}
 use Rattle.cover_spec.specs.ListedLaws.{getD-listed, bit-is, length-cover}
 use Rattle.cover_spec.specs.LocalityLaws.{cover-local}
@@ -29,7 +31,7 @@ use Rattle.cover.specs.UpdatingLaws.{UpdateReady, update-ready, mark-of}
 
 -- the edge stands in the list
 abbrev pub In : Edge → List Edge → Type 0
-In e l = 0 < count (same e) l
+In e l = 0 < count (sameEdge e) l
 
 -- ---- Document 01: "Also proved: each meta-peptide with an edge has a marked neighbour, and each marked group, when marked, newly
 -- covered one."
@@ -66,7 +68,7 @@ module _ (bs : List ℕ) (groups metas words : ℕ) (p : coverTested bs groups m
 module _ (bs₁ bs₂ : List ℕ) (groups metas words words′ : ℕ) (p : coverTested bs₁ groups metas words ≡ Passed) (q : coverTested bs₂ groups metas words′ ≡ Passed) where
   -- a set of groups and meta-peptides that no edge of the first list leaves, and of which the second list has each edge as often
   pub part-alone : (sg sm : ℕ → Bool) → All (λ e. sg (group e) ≡ sm (meta e)) (edgesOf bs₁)
-      → ((e : Edge) → count (same e) (keep (λ d. sg (group d)) (edgesOf bs₁)) ≡ count (same e) (edgesOf bs₂))
+      → ((e : Edge) → count (sameEdge e) (keep (λ d. sg (group d)) (edgesOf bs₁)) ≡ count (sameEdge e) (edgesOf bs₂))
       → (g : ℕ) → g < groups → sg g ≡ true → getD (coverMarks bs₁ groups) g 0 ≡ getD (coverMarks bs₂ groups) g 0
   part-alone sg sm closed each g l i =
       mark-at bs₁ groups metas words p g l
@@ -76,10 +78,10 @@ module _ (bs₁ bs₂ : List ℕ) (groups metas words words′ : ℕ) (p : cover
       ∙ sym (mark-at bs₂ groups metas words′ q g l)
 
   -- of the whole list: each edge as often in both
-  pub order-alone : ((e : Edge) → count (same e) (edgesOf bs₁) ≡ count (same e) (edgesOf bs₂)) → coverMarks bs₁ groups ≡ coverMarks bs₂ groups
+  pub order-alone : ((e : Edge) → count (sameEdge e) (edgesOf bs₁) ≡ count (sameEdge e) (edgesOf bs₂)) → coverMarks bs₁ groups ≡ coverMarks bs₂ groups
   order-alone each =
       ext-getD 0 (coverMarks bs₁ groups) (coverMarks bs₂ groups) (length-cover groups (edgesOf bs₁) ∙ sym (length-cover groups (edgesOf bs₂)))
-      (λ g l. part-alone (λ x. true) (λ x. true) (every _ (λ e. refl) (edgesOf bs₁)) (λ e. ap (count (same e)) (keep-same (λ d. true) (edgesOf bs₁) (every _ (λ d. refl) (edgesOf bs₁))) ∙ each e) g (omega (arith, length-cover groups (edgesOf bs₁))) refl)
+      (λ g l. part-alone (λ x. true) (λ x. true) (every _ (λ e. refl) (edgesOf bs₁)) (λ e. ap (count (sameEdge e)) (keep-same (λ d. true) (edgesOf bs₁) (every _ (λ d. refl) (edgesOf bs₁))) ∙ each e) g (omega (arith, length-cover groups (edgesOf bs₁))) refl)
 
 -- ---- the update
 

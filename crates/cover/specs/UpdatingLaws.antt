@@ -10,6 +10,8 @@ use lib.ListN.{length, getD, set, replicate, length-set}
 use lib.Seq.{sets, length-sets, ext-getD, getD-set-same}
 use lib.Dec.{eqb, ltb}
 use borrow.Author.Tests.{ltb-false, eqb-true, eqb-false}
+use Rattle.lists.specs.Tests.{below?, neither, truth?}
+use Rattle.lists.specs.Lists.{bit}
 use Rattle.records.specs.declared.refusal.Refusal.the-variants.{Size, Length, Work, Room}
 use Rattle.records.specs.declared.refusal.Tested.{Tested}
 use Rattle.records.specs.declared.refusal.Tested.the-variants.{Passed}
@@ -21,8 +23,7 @@ use Rattle.records.specs.Room.{fits, fitted, singly}
 use Rattle.records.specs.RoomLaws.{stored-text, fits-text}
 use Rattle.records.specs.Tested.{andThen, fieldTested}
 use Rattle.records.specs.TestedLaws.{passed-both, passed-first, passed-field}
-use Rattle.records.specs.Tests.{below?, neither, truth?}
-use Rattle.cover_spec.specs.Cover.{bit, coverList}
+use Rattle.cover_spec.specs.Cover.{coverList}
 use Rattle.cover_spec.specs.ListedLaws.{length-listed, getD-listed, length-cover}
 use Rattle.cover_spec.specs.Marks.{workNeeded, handed}
 use Rattle.cover_spec.specs.Update.{touched, update, updateList}

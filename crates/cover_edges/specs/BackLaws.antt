@@ -9,14 +9,16 @@ use native.Mathlib.Omega.{arith}
 use borrow.Author.Tests.{lt-leb}
 use lib.ListN.{length, getD, take, drop, length-map}
 use lib.Seq.{drop-append-add}
+use Rattle.lists.specs.KeepLaws.{map-all}
+use Rattle.lists.specs.Tests.{below?}
+use Rattle.lists.specs.Lists.{All}
+use Rattle.lists.specs.KeepLaws.{all-map}
 use Rattle.records.specs.Le.{value, numberAt}
 use Rattle.records.specs.LeLaws.{value-le}
 use Rattle.records.specs.RoomLaws.{Sized, length-flatten}
 use Rattle.records.specs.Search.{seek}
 use Rattle.records.specs.SearchLaws.{seek-passes, seek-to}
-use Rattle.records.specs.Tests.{below?}
 use Rattle.cover_spec.specs.Cover.{Edge, group, meta}
-use Rattle.cover_spec.specs.CountLaws.{All, all-map}
 use Rattle.cover_edges.specs.Edges.{edgeAt, edgesTo, edgesOf, edgeBytes, badEdge, firstBadEdge}
 
 -- the numbers of all edges fit their fields
@@ -28,8 +30,7 @@ unfolding edgeBytes
 length-edge e = refl
 
 pub sized-edges : (es : List Edge) → Sized 8 (map edgeBytes es)
-sized-edges [] = tt
-sized-edges (e ∷ es) = (length-edge e, sized-edges es)
+sized-edges es = map-all (λ (r : List ℕ). length r ≡ 8) edgeBytes length-edge es
 
 -- a record in front, and those behind it
 first-edge : (e : Edge) (rest : List ℕ) → group e < 4294967296 → meta e < 4294967296 → edgeAt (edgeBytes e ++ rest) 0 ≡ e

@@ -5,6 +5,7 @@ use mathlib.Core.Path.{_≡_, refl, sym, ap, _∙_}
 use mathlib.Core.Bool.{Bool, true, false, cond}
 use mathlib.Core.Logic.{⊎-elim}
 use mathlib.Core.List.{List}
+use Rattle.lists.specs.Tests.{same?, below?}
 use Rattle.records.specs.Le.{numberAt}
 use lib.ListN.{length, getD, set, length-set}
 use lib.Dec.{eqb}
@@ -12,7 +13,6 @@ use lib.Seq.{getD-set-same, getD-set-other}
 use native.Mathlib.Numerals.{add-one}
 use borrow.Author.Tests.{eqb-true, eq-eqb, ne-eqb}
 use Rattle.cover_edges.specs.Chains.{Out, lastOf, Chains}
-use Rattle.records.specs.Tests.{same?, below?}
 
 pub last-le : (bs : List ℕ) (f x i : ℕ) → lastOf bs f x i ≤ i
 unfolding lastOf

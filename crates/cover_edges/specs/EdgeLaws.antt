@@ -4,9 +4,10 @@ use native.Mathlib.Omega.{arith}
 use mathlib.Core.Path.{_≡_, refl, _∙_}
 use mathlib.Core.List.{List, [], _∷_, _++_}
 use lib.ListN.{length, length-append}
+use Rattle.lists.specs.Lists.{All}
+use Rattle.lists.specs.KeepLaws.{all-map}
 use Rattle.cover_spec.specs.ChoiceLaws.{Under}
 use Rattle.cover_spec.specs.Cover.{Edge, group, meta}
-use Rattle.cover_spec.specs.CountLaws.{All, all-map}
 use Rattle.cover_edges.specs.Edges.{edgeAt, edgesTo}
 use Rattle.cover_edges.specs.RangeLaws.{InRange}
 

@@ -7,9 +7,9 @@ use native.Mathlib.Omega.{arith}
 use lib.Dec.{leb}
 use lib.ListN.{length, getD}
 use borrow.Author.Tests.{leb-false, ltb-false}
+use Rattle.lists.specs.Tests.{neither}
 use Rattle.records.specs.Le.{numberAt}
 use Rattle.records.specs.SearchLaws.{seek-before}
-use Rattle.records.specs.Tests.{neither}
 use Rattle.cover_spec.specs.Cover.{group, meta}
 use Rattle.cover_edges.specs.Edges.{edgeAt, badEdge, firstBadEdge, badMark, firstBadMark}
 

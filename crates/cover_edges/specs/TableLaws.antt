@@ -5,7 +5,7 @@ use mathlib.Core.Logic.{⊎-elim}
 use mathlib.Core.List.{List, _++_, append-nil}
 use lib.ListN.{length, getD, replicate, drop, getD-replicate, List·getD-eq-default}
 use lib.Seq.{drop-length}
-use Rattle.records.specs.Tests.{below?}
+use Rattle.lists.specs.Tests.{below?}
 
 pub zero-at : (l : List ℕ) (i : ℕ) → l ≡ replicate (length l) 0 → getD l i 0 ≡ 0
 zero-at l i z = ⊎-elim (λ (h : i < length l). ap (λ (x : List ℕ). getD x i 0) z ∙ getD-replicate {A = ℕ} (length l) i 0 0 h) (λ (h : length l ≤ i). List·getD-eq-default l 0 h) (below? i (length l))

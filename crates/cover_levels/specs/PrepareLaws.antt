@@ -10,10 +10,11 @@ use lib.Dec.{eqb}
 use lib.ListN.{length, getD, set, length-set}
 use lib.Seq.{getD-set-same, getD-set-other}
 use borrow.Author.Tests.{eqb-true, eqb-false}
+use Rattle.lists.specs.Lists.{bit, count, some, keep}
+use Rattle.lists.specs.KeepLaws.{count-keep, count-le, count-append, some-app}
+use Rattle.lists.specs.Tests.{eqb-sym}
 use Rattle.records.specs.Le.{numberAt}
-use Rattle.cover_spec.specs.Cover.{Edge, group, meta, bit, count, some, keep, ofGroup, ofMeta, pass, markForced, coverMarked, start, same}
-use Rattle.cover_spec.specs.CountLaws.{count-keep, count-le, count-append, some-app}
-use Rattle.cover_spec.specs.TestLaws.{eqb-sym}
+use Rattle.cover_spec.specs.Cover.{Edge, group, meta, ofGroup, ofMeta, pass, markForced, coverMarked, start, sameEdge}
 use Rattle.cover_spec.specs.TrimLaws.{iter}
 use Rattle.cover_spec.specs.LevelLaws.{Order, degree}
 use Rattle.cover_edges.specs.Edges.{edgeAt, edgesTo}
@@ -33,34 +34,34 @@ abbrev pub metaAt : List ℕ → ℕ → ℕ
 metaAt bs i = numberAt 4 bs (8 * i + 4)
 
 equals-group : (bs : List ℕ) (k x : ℕ) → equals (groupAt bs) k x ≡ ofGroup x (edgesTo bs k)
-unfolding equals edgesTo count
+unfolding equals edgesTo
 equals-group bs zero x = refl
 equals-group bs (suc k) x = omega (arith, count-append (λ e. eqb (group e) x) (edgesTo bs k) (edgeAt bs k ∷ []), equals-group bs k x)
 
 equals-meta : (bs : List ℕ) (k x : ℕ) → equals (metaAt bs) k x ≡ ofMeta x (edgesTo bs k)
-unfolding equals edgesTo count
+unfolding equals edgesTo
 equals-meta bs zero x = refl
 equals-meta bs (suc k) x = omega (arith, count-append (λ e. eqb (meta e) x) (edgesTo bs k) (edgeAt bs k ∷ []), equals-meta bs k x)
 
-pairs-group : (bs : List ℕ) (k x y : ℕ) → pairs (groupAt bs) (metaAt bs) k x y ≡ count (same (x, y)) (edgesTo bs k)
-unfolding pairs edgesTo count
+pairs-group : (bs : List ℕ) (k x y : ℕ) → pairs (groupAt bs) (metaAt bs) k x y ≡ count (sameEdge (x, y)) (edgesTo bs k)
+unfolding pairs edgesTo
 pairs-group bs zero x y = refl
 pairs-group bs (suc k) x y =
     omega (
       arith,
-      count-append (same (x, y)) (edgesTo bs k) (edgeAt bs k ∷ []),
+      count-append (sameEdge (x, y)) (edgesTo bs k) (edgeAt bs k ∷ []),
       pairs-group bs k x y,
       ap (λ (b : Bool). bit (b && eqb (metaAt bs k) y)) (eqb-sym (groupAt bs k) x),
       ap (λ (b : Bool). bit (eqb x (groupAt bs k) && b)) (eqb-sym (metaAt bs k) y),
     )
 
-pairs-meta : (bs : List ℕ) (k x y : ℕ) → pairs (metaAt bs) (groupAt bs) k x y ≡ count (same (y, x)) (edgesTo bs k)
-unfolding pairs edgesTo count
+pairs-meta : (bs : List ℕ) (k x y : ℕ) → pairs (metaAt bs) (groupAt bs) k x y ≡ count (sameEdge (y, x)) (edgesTo bs k)
+unfolding pairs edgesTo
 pairs-meta bs zero x y = refl
 pairs-meta bs (suc k) x y =
     omega (
       arith,
-      count-append (same (y, x)) (edgesTo bs k) (edgeAt bs k ∷ []),
+      count-append (sameEdge (y, x)) (edgesTo bs k) (edgeAt bs k ∷ []),
       pairs-meta bs k x y,
       ap bit (and-comm (eqb (metaAt bs k) x) (eqb (groupAt bs k) y)),
       ap (λ (b : Bool). bit (b && eqb (metaAt bs k) x)) (eqb-sym (groupAt bs k) y),
@@ -124,10 +125,10 @@ module _ (n m ge go mo gm mg od : ℕ) (bs : List ℕ) (k : ℕ) (w : List ℕ) 
       → Order n (degree n all) (λ i. getD w (od + i) 0) → Tables n m go mo od all w
   tables-from r i a b c = record {
     bounds = edges-all bs k n m i;
-    byGroup = lists-sorted (groupAt bs) (metaAt bs) k go n gm (n + m + n) w (λ x. ofGroup x all) (λ x y. count (same (x, y)) all)
+    byGroup = lists-sorted (groupAt bs) (metaAt bs) k go n gm (n + m + n) w (λ x. ofGroup x all) (λ x y. count (sameEdge (x, y)) all)
         (equals-group bs k) (pairs-group bs k) (omega (arith, r .edges-at, r .groups-at)) (omega (arith, r .metas-at, r .group-lists-at))
         (omega (arith, r .meta-lists-at, r .order-at, r .fits)) a;
-    byMeta = lists-sorted (metaAt bs) (groupAt bs) k mo m mg (n + m + n) w (λ x. ofMeta x all) (λ x y. count (same (y, x)) all)
+    byMeta = lists-sorted (metaAt bs) (groupAt bs) k mo m mg (n + m + n) w (λ x. ofMeta x all) (λ x y. count (sameEdge (y, x)) all)
         (equals-meta bs k) (pairs-meta bs k) (omega (arith, r .edges-at, r .groups-at, r .metas-at)) (omega (arith, r .group-lists-at, r .meta-lists-at))
         (omega (arith, r .order-at, r .fits)) b;
     order = c;
@@ -164,7 +165,7 @@ hits aim on zero y = false
 hits aim on (suc k) y = (eqb (aim k) y && on k) || hits aim on k y
 
 hits-some : (p : Edge → Bool) (bs : List ℕ) (aim : ℕ → ℕ) (on : ℕ → Bool) (k y : ℕ) → ((i : ℕ) → i < k → (eqb (aim i) y && on i) ≡ p (edgeAt bs i)) → hits aim on k y ≡ some p (edgesTo bs k)
-unfolding hits edgesTo count
+unfolding hits edgesTo
 hits-some p bs aim on zero y h = refl
 hits-some p bs aim on (suc k) y h =
     rw (h k (omega arith), hits-some p bs aim on k y (λ i b. h i (omega arith)), some-app p (edgesTo bs k) (edgeAt bs k)) (swap (p (edgeAt bs k)) (some p (edgesTo bs k)))
@@ -222,7 +223,7 @@ sumOf-le aim on (suc k) y = go (eqb (aim k) y && on k) (sumOf-le aim on k y)
     go false h = omega arith
 
 sumOf-count : (p : Edge → Bool) (bs : List ℕ) (aim : ℕ → ℕ) (on : ℕ → Bool) (k y : ℕ) → ((i : ℕ) → i < k → (eqb (aim i) y && on i) ≡ p (edgeAt bs i)) → sumOf aim on k y ≡ count p (edgesTo bs k)
-unfolding sumOf edgesTo count
+unfolding sumOf edgesTo
 sumOf-count p bs aim on zero y h = refl
 sumOf-count p bs aim on (suc k) y h =
     omega (arith, ap bit (h k (omega arith)), sumOf-count p bs aim on k y (λ i b. h i (omega arith)), count-append p (edgesTo bs k) (edgeAt bs k ∷ []))

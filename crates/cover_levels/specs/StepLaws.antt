@@ -9,9 +9,11 @@ use lib.Dec.{ltb, eqb}
 use lib.ListN.{length, getD, set, length-set}
 use lib.Seq.{getD-set-same, getD-set-other}
 use borrow.Author.Tests.{eqb-true, eqb-false, lt-ltb}
-use Rattle.cover_spec.specs.Cover.{Edge, group, meta, bit, count, some, keep, ofGroup, State, cover, same}
-use Rattle.cover_spec.specs.CountLaws.{All, all-map, count-ext, count-keep, all-at, keep-ext, every}
-use Rattle.cover_spec.specs.TestLaws.{eqb-sym}
+use Rattle.lists.specs.Lists.{bit, count, some, keep, All}
+use Rattle.lists.specs.KeepLaws.{all-map, count-ext, count-keep, keep-ext, every}
+use Rattle.lists.specs.Tests.{eqb-sym}
+use Rattle.cover_spec.specs.Cover.{Edge, group, meta, ofGroup, State, cover, sameEdge}
+use Rattle.cover_spec.specs.CountLaws.{all-at}
 use Rattle.cover_spec.specs.TakeLaws.{taken, takes}
 use Rattle.cover_spec.specs.RunLaws.{after}
 use Rattle.cover_spec.specs.LevelLaws.{remaining, At, after-lean, found, passed-by, down, at-start, at-end}
@@ -21,21 +23,20 @@ use Rattle.cover_levels.specs.TableLaws.{Lowerable, Lists, lists-same, T
 -- ---- counting
 
 count-split : (p q r : Edge → Bool) → ((e : Edge) → bit (p e) + bit (q e) ≡ bit (r e)) → (l : List Edge) → count p l + count q l ≡ count r l
-unfolding count
 count-split p q r h [] = refl
 count-split p q r h (e ∷ l) = omega (arith, h e, count-split p q r h l)
 
 -- a meta-peptide x, not covered, is covered: each group loses its edges to x
 pub split : (u v : ℕ → Bool) (x g : ℕ) → u x ≡ false → ((y : ℕ) → v y ≡ (eqb y x || u y)) → (l : List Edge)
-    → ofGroup g (keep (λ e. not (v (meta e))) l) + count (same (g, x)) l ≡ ofGroup g (keep (λ e. not (u (meta e))) l)
+    → ofGroup g (keep (λ e. not (v (meta e))) l) + count (sameEdge (g, x)) l ≡ ofGroup g (keep (λ e. not (u (meta e))) l)
 split u v x g i h l =
     rw (count-keep (λ e. eqb (group e) g) (λ e. not (v (meta e))) l, count-keep (λ e. eqb (group e) g) (λ e. not (u (meta e))) l)
-    (count-split (λ e. not (v (meta e)) && eqb (group e) g) (same (g, x)) (λ e. not (u (meta e)) && eqb (group e) g) each l)
+    (count-split (λ e. not (v (meta e)) && eqb (group e) g) (sameEdge (g, x)) (λ e. not (u (meta e)) && eqb (group e) g) each l)
   where
-    each : (e : Edge) → bit (not (v (meta e)) && eqb (group e) g) + bit (same (g, x) e) ≡ bit (not (u (meta e)) && eqb (group e) g)
+    each : (e : Edge) → bit (not (v (meta e)) && eqb (group e) g) + bit (sameEdge (g, x) e) ≡ bit (not (u (meta e)) && eqb (group e) g)
     each e = go (eqb (meta e) x) refl (eqb (group e) g) refl
       where
-        go : (a : Bool) → eqb (meta e) x ≡ a → (b : Bool) → eqb (group e) g ≡ b → bit (not (v (meta e)) && eqb (group e) g) + bit (same (g, x) e) ≡ bit (not (u (meta e)) && eqb (group e) g)
+        go : (a : Bool) → eqb (meta e) x ≡ a → (b : Bool) → eqb (group e) g ≡ b → bit (not (v (meta e)) && eqb (group e) g) + bit (sameEdge (g, x) e) ≡ bit (not (u (meta e)) && eqb (group e) g)
         go true j true k = rw (h (meta e), j, k, eqb-sym g (group e) ∙ k, eqb-sym x (meta e) ∙ j, ap u (eqb-true (meta e) x j) ∙ i)
         go true j false k = rw (h (meta e), j, k, eqb-sym g (group e) ∙ k, ap u (eqb-true (meta e) x j) ∙ i)
         go false j true k = rw (h (meta e), j, k, eqb-sym g (group e) ∙ k, eqb-sym x (meta e) ∙ j) (omega arith)
@@ -64,7 +65,7 @@ module _ (n m go mo od : ℕ) (all : List Edge) where
   -- w with all meta-peptides of c covered is v
   pub record Reaches (c : ℕ) (w v : List ℕ) : Type 0 where
     pub walk : Walk v
-    pub covered : (y : ℕ) → covers v y ≡ (covers w y || some (same (c, y)) all)
+    pub covered : (y : ℕ) → covers v y ≡ (covers w y || some (sameEdge (c, y)) all)
     pub rest : Same (n + m) w v
 
   -- ---- one meta-peptide
@@ -101,13 +102,13 @@ module _ (n m go mo od : ℕ) (all : List Edge) where
     abbrev pub till : ℕ
     till = getD covered (mo + x + 1) 0
 
-    lists′ : Lists (n + m + n) mo m (λ z. count (λ e. eqb (meta e) z) all) (λ z y. count (same (y, z)) all) covered
-    lists′ = lists-same (n + m + n) mo m (λ z. count (λ e. eqb (meta e) z) all) (λ z y. count (same (y, z)) all) w covered (length-set w (n + x) 1) (λ y c. high-set y (omega arith)) (r .byMeta)
+    lists′ : Lists (n + m + n) mo m (λ z. count (λ e. eqb (meta e) z) all) (λ z y. count (sameEdge (y, z)) all) covered
+    lists′ = lists-same (n + m + n) mo m (λ z. count (λ e. eqb (meta e) z) all) (λ z y. count (sameEdge (y, z)) all) w covered (length-set w (n + x) 1) (λ y c. high-set y (omega arith)) (r .byMeta)
 
     size′ : till - from ≡ count (λ e. eqb (meta e) x) all
     size′ = omega (arith, lists′ .sizes x b)
 
-    listed′ : (g : ℕ) → among covered from (till - from) g ≡ count (same (g, x)) all
+    listed′ : (g : ℕ) → among covered from (till - from) g ≡ count (sameEdge (g, x)) all
     listed′ g = rw size′ (lists′ .lists x g b)
 
     pub visit-lowerable : covers w x ≡ false → Lowerable n from till covered
@@ -119,7 +120,7 @@ module _ (n m go mo od : ℕ) (all : List Edge) where
       enough = λ g c. omega (arith, listed′ g, low-set g c, k g c, split (covers w) (covers covered) x g i covers-set all);
     }
       where
-        named : (p : ℕ) → 0 < count (same (getD covered p 0, x)) all → getD covered p 0 < n
+        named : (p : ℕ) → 0 < count (sameEdge (getD covered p 0, x)) all → getD covered p 0 < n
         named p z = all-at (λ e. (group e < n) × (meta e < m)) (getD covered p 0, x) all (r .bounds) z .0
 
     pub meta-lists : (mo + x < length w) × (mo + x + 1 < length w)
@@ -209,10 +210,10 @@ module _ (n m go mo od : ℕ) (all : List Edge) where
           one : (y : ℕ) → (covers v y || ltb 0 (among w₀ (p + 1) ((last c w₀) - (p + 1)) y)) ≡ (covers w y || ltb 0 (among w₀ p ((last c w₀) - p) y))
           one y = rw (h .covered y, among-step w₀ p (last c w₀) y more, here, eqb-sym y (getD w₀ p 0)) (shuffle (eqb (getD w₀ p 0) y) (covers w y) (among w₀ (p + 1) ((last c w₀) - (p + 1)) y))
 
-    pub spread-end : (w : List ℕ) (p : ℕ) → Spread c w₀ w p → (last c w₀) ≤ p → (y : ℕ) → covers w y ≡ (covers w₀ y || some (same (c, y)) all)
+    pub spread-end : (w : List ℕ) (p : ℕ) → Spread c w₀ w p → (last c w₀) ≤ p → (y : ℕ) → covers w y ≡ (covers w₀ y || some (sameEdge (c, y)) all)
     spread-end w p s d y =
         let q : (last c w₀) - (first c w₀) ≡ ofGroup c all = omega (arith, r₀ .byGroup .sizes c b) in
-        let z : among w₀ (first c w₀) ((last c w₀) - (first c w₀)) y ≡ count (same (c, y)) all = rw q (r₀ .byGroup .lists c y b) in
+        let z : among w₀ (first c w₀) ((last c w₀) - (first c w₀)) y ≡ count (sameEdge (c, y)) all = rw q (r₀ .byGroup .lists c y b) in
         sym (or-false (covers w y)) ∙ ap (λ (i : ℕ). covers w y || ltb 0 i) (sym (among-done w₀ p (last c w₀) y d)) ∙ s .covereds y ∙ ap (λ (i : ℕ). covers w₀ y || ltb 0 i) z
 
     pub reaches : (w : List ℕ) (p : ℕ) → Spread c w₀ w p → (last c w₀) ≤ p → Reaches c w₀ w
@@ -231,7 +232,7 @@ module _ (n m go mo od : ℕ) (all : List Edge) where
   -- what taking group c does
   pub record Takes (c : ℕ) (w v : List ℕ) : Type 0 where
     pub walk : Walk v
-    pub covered : (y : ℕ) → y < m → covers v y ≡ (covers w y || some (same (c, y)) all)
+    pub covered : (y : ℕ) → y < m → covers v y ≡ (covers w y || some (sameEdge (c, y)) all)
     pub marked : (g : ℕ) → g < n → marks v g ≡ (eqb g c || marks w g)
     pub rest : Same (n + m + n) w v
 
@@ -250,15 +251,15 @@ module _ (n m go mo od : ℕ) (all : List Edge) where
       marked = λ g b. k .marked g b ∙ rw (s .marked g b) (ap (λ (u : State). u .marked g) (sym e));
     }
       where
-        grown : (y : ℕ) (d : Bool) → after n all t .covered y ≡ d → (d || some (same (c, y)) all) ≡ (d || takes (after n all t .edges) c y)
+        grown : (y : ℕ) (d : Bool) → after n all t .covered y ≡ d → (d || some (sameEdge (c, y)) all) ≡ (d || takes (after n all t .edges) c y)
         grown y true i = refl
         grown y false i =
             ap (λ (j : ℕ). ltb 0 j)
-            (count-ext (same (c, y)) (λ x. not (after n all t .covered (meta x)) && (eqb (meta x) y && eqb (group x) c)) all (every _ each all)
+            (count-ext (sameEdge (c, y)) (λ x. not (after n all t .covered (meta x)) && (eqb (meta x) y && eqb (group x) c)) all (every _ each all)
             ∙ sym (count-keep (λ x. eqb (meta x) y && eqb (group x) c) (λ x. not (after n all t .covered (meta x))) all)
             ∙ ap (count (λ x. eqb (meta x) y && eqb (group x) c)) (sym (after-lean n all t)))
           where
-            each : (x : Edge) → same (c, y) x ≡ (not (after n all t .covered (meta x)) && (eqb (meta x) y && eqb (group x) c))
+            each : (x : Edge) → sameEdge (c, y) x ≡ (not (after n all t .covered (meta x)) && (eqb (meta x) y && eqb (group x) c))
             each x = rw (eqb-sym c (group x), eqb-sym y (meta x)) (step (eqb (meta x) y) refl)
               where
                 step : (q : Bool) → eqb (meta x) y ≡ q → (eqb (group x) c && q) ≡ (not (after n all t .covered (meta x)) && (q && eqb (group x) c))
@@ -287,7 +288,7 @@ module _ (n m go mo od : ℕ) (all : List Edge) where
     pub takes-all : (v : List ℕ) → Reaches c withMark v → Takes c w v
     takes-all v h = record {
       walk = h .walk;
-      covered = λ y d. h .covered y ∙ ap (λ (z : ℕ). eqb z 1 || some (same (c, y)) all) (other (n + y) (λ q. omega arith));
+      covered = λ y d. h .covered y ∙ ap (λ (z : ℕ). eqb z 1 || some (sameEdge (c, y)) all) (other (n + y) (λ q. omega arith));
       marked = λ g d. ap (λ (z : ℕ). eqb z 1) (h .rest (n + m + g) (omega arith)) ∙ one g (eqb g c) refl;
       rest = λ x d. h .rest x (omega arith) ∙ other x (λ q. omega arith);
     }

@@ -9,8 +9,8 @@ use lib.Dec.{eqb}
 use lib.ListN.{length, getD, set, length-set}
 use lib.Seq.{getD-set-same, getD-set-other}
 use borrow.Author.Tests.{eqb-true, eqb-false, eq-eqb}
-use Rattle.cover_spec.specs.Cover.{Edge, group, meta, bit, count, ofGroup, same}
-use Rattle.cover_spec.specs.CountLaws.{All}
+use Rattle.lists.specs.Lists.{bit, count, All}
+use Rattle.cover_spec.specs.Cover.{Edge, group, meta, ofGroup, sameEdge}
 use Rattle.cover_spec.specs.LevelLaws.{Order, degree, remaining}
 use Rattle.cover_index.specs.PlaceLaws.{among, Same, among-same, among-step, among-done}
 
@@ -113,8 +113,8 @@ lists-same s o n sz c w v l h r = record {
 
 pub record Tables (n m go mo od : ℕ) (all : List Edge) (w : List ℕ) : Type 0 where
   pub bounds : All (λ e. (group e < n) × (meta e < m)) all
-  pub byGroup : Lists (n + m + n) go n (λ x. ofGroup x all) (λ x y. count (same (x, y)) all) w
-  pub byMeta : Lists (n + m + n) mo m (λ x. count (λ e. eqb (meta e) x) all) (λ x y. count (same (y, x)) all) w
+  pub byGroup : Lists (n + m + n) go n (λ x. ofGroup x all) (λ x y. count (sameEdge (x, y)) all) w
+  pub byMeta : Lists (n + m + n) mo m (λ x. count (λ e. eqb (meta e) x) all) (λ x y. count (sameEdge (y, x)) all) w
   pub order : Order n (degree n all) (λ i. getD w (od + i) 0)
   pub order-above : n + m + n ≤ od
   pub order-fits : od + n ≤ length w
@@ -122,8 +122,8 @@ pub record Tables (n m go mo od : ℕ) (all : List Edge) (w : List ℕ) : Type 0
 pub tables-same : (n m go mo od : ℕ) (all : List Edge) (w v : List ℕ) → length v ≡ length w → Same (n + m + n) w v → Tables n m go mo od all w → Tables n m go mo od all v
 tables-same n m go mo od all w v l h r = record {
   bounds = r .bounds;
-  byGroup = lists-same (n + m + n) go n (λ x. ofGroup x all) (λ x y. count (same (x, y)) all) w v l h (r .byGroup);
-  byMeta = lists-same (n + m + n) mo m (λ x. count (λ e. eqb (meta e) x) all) (λ x y. count (same (y, x)) all) w v l h (r .byMeta);
+  byGroup = lists-same (n + m + n) go n (λ x. ofGroup x all) (λ x y. count (sameEdge (x, y)) all) w v l h (r .byGroup);
+  byMeta = lists-same (n + m + n) mo m (λ x. count (λ e. eqb (meta e) x) all) (λ x y. count (sameEdge (y, x)) all) w v l h (r .byMeta);
   order = record {
     below = λ i b. rw (at i) (r .order .below i b);
     holds = λ g b. let (i, j, q) = r .order .holds g b in (i, j, at i ∙ q);

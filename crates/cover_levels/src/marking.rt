@@ -6,7 +6,7 @@ ghost use mathlib.Core.Path.{_≡_};
 ghost use mathlib.Core.Bool.{cond, not};
 ghost use lib.Dec.{eqb};
 ghost use lib.ListN.{getD, length};
-ghost use Rattle.cover_spec.specs.Cover.{bit};
+ghost use Rattle.lists.specs.Lists.{bit};
 ghost use Rattle.cover_edges.specs.Edges.{edgesTo};
 ghost use Rattle.cover_edges.specs.RangeLaws.{InRange};
 ghost use Rattle.cover_levels.specs.TableLaws.{Tables};

@@ -7,8 +7,8 @@ use lib.ListN.{length}
 use mathlib.Core.Path.{_≡_, refl, sym}
 use native.Mathlib.Omega.{arith}
 use borrow.Author.Tests.{eqb-true, eqb-false, ltb-true, ltb-false, leb-true, leb-false, eq-eqb}
-use Rattle.cover_spec.specs.Cover.{Edge, group, count, ofGroup, notAbove, greatest, choice}
-use Rattle.cover_spec.specs.CountLaws.{All}
+use Rattle.lists.specs.Lists.{All}
+use Rattle.cover_spec.specs.Cover.{Edge, group, ofGroup, notAbove, greatest, choice}
 
 -- ---- the order of the choice: remaining edges, then original edges, then the number
 
@@ -94,7 +94,6 @@ Under n l = All (λ e. group e < n) l
 
 -- where an edge remains, the choice has one
 pub choice-has : (all l : List Edge) (n : ℕ) → Under n l → 0 < length l → 0 < ofGroup (choice all l n) l
-unfolding count
 choice-has all [] n u h = absurd (omega arith)
 choice-has all (e ∷ l) n u h =
     omega (arith, has, greatest-max (λ g. ofGroup g (e ∷ l)) (λ g. ofGroup g all) n (group e) (u .0) .0)

@@ -8,13 +8,15 @@ use mathlib.Core.Path.{_≡_, refl, sym, ap, _∙_, subst}
 use mathlib.Core.Logic.{_⊎_, inl, inr}
 use native.Mathlib.Omega.{arith}
 use borrow.Author.Tests.{eqb-true, eq-eqb, ltb-true, lt-ltb}
-use Rattle.cover_spec.specs.Cover.{Edge, group, meta, same, count, some, keep}
+use Rattle.lists.specs.Lists.{count, some, keep, All}
+use Rattle.lists.specs.Tests.{or-left, or-right}
+use Rattle.lists.specs.KeepLaws.{all-map, all-keep, all-kept, all-two, all-has, count-keep, count-le, length-keep}
+use Rattle.cover_spec.specs.Cover.{Edge, group, meta, sameEdge}
 use Rattle.cover_spec.specs.Update.{meets, reached, part}
-use Rattle.cover_spec.specs.TestLaws.{or-left, or-right}
-use Rattle.cover_spec.specs.CountLaws.{All, all-map, all-keep, all-kept, all-two, all-at, all-has, find, same-refl, count-keep, count-le, length-keep}
+use Rattle.cover_spec.specs.CountLaws.{all-at, find, edge-same}
 
 abbrev pub _∈_ : Edge → List Edge → Type 0
-e ∈ l = 0 < count (same e) l
+e ∈ l = 0 < count (sameEdge e) l
 
 infix 40 _∈_
 -- two groups are connected by a chain of groups, each of which shares a meta-peptide with the next
@@ -29,18 +31,17 @@ chain a (across d e b x y q) = across d e (chain a b) x y q
 -- ---- an edge that stands in a list
 
 pub all-in : (l : List Edge) → All (λ e. e ∈ l) l
-all-in l = all-map (λ e h. h (same e) (same-refl e)) l (all-has l)
+all-in l = all-map (λ e h. h (sameEdge e) (edge-same e)) l (all-has l)
 
 pub has : (p : Edge → Bool) (e : Edge) (l : List Edge) → e ∈ l → p e ≡ true → some p l ≡ true
 has p e l i j = lt-ltb 0 (count p l) (all-at (λ d. (q : Edge → Bool) → q d ≡ true → 0 < count q l) e l (all-has l) i p j)
 
 kept : (q : Edge → Bool) (e : Edge) (l : List Edge) → e ∈ l → q e ≡ true → e ∈ keep q l
 kept q e l i j =
-    rw (count-keep (same e) q l) (ltb-true 0 (count (λ d. q d && same e d) l) (has (λ d. q d && same e d) e l i (rw (j, same-refl e))))
+    rw (count-keep (sameEdge e) q l) (ltb-true 0 (count (λ d. q d && sameEdge e d) l) (has (λ d. q d && sameEdge e d) e l i (rw (j, edge-same e))))
 
--- a weaker test keeps the same edges, or more
+-- a weaker test keeps the sameEdge edges, or more
 grow : (q r : Edge → Bool) (l : List Edge) → All (λ e. q e ≡ true → r e ≡ true) l → (keep r l ≡ keep q l) ⊎ (length (keep q l) < length (keep r l))
-unfolding keep
 grow q r [] h = inl refl
 grow q r (e ∷ l) h = go (q e) refl (r e) refl (grow q r l (h .1))
   where

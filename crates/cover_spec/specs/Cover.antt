@@ -1,9 +1,10 @@
 -- Document 01, "Groups and cover": the cover. Edges are a list of pairs (group, meta-peptide), in which repeats count.
-use mathlib.Core.Bool.{Bool, true, false, not, _&&_, _||_, cond}
+use mathlib.Core.Bool.{Bool, false, not, _&&_, _||_, cond}
 use mathlib.Core.List.{List, [], _∷_}
-use Prim.Native.Nat.{ℕ, zero, suc, _+_}
+use Prim.Native.Nat.{ℕ, zero, suc}
 use lib.Dec.{leb, ltb, eqb}
 use lib.ListN.{length}
+use Rattle.lists.specs.Lists.{bit, count, some, keep}
 
 abbrev pub Edge : Type 0
 Edge = ℕ × ℕ
@@ -14,24 +15,8 @@ group e = e .0
 abbrev pub meta : Edge → ℕ
 meta e = e .1
 
-abbrev pub bit : Bool → ℕ
-bit true = 1
-bit false = 0
-
--- how many edges of the list pass the test; whether some edge does; the edges that do, in their order
-unfoldable pub count : (Edge → Bool) → List Edge → ℕ
-count p [] = 0
-count p (e ∷ l) = bit (p e) + count p l
-
-abbrev pub some : (Edge → Bool) → List Edge → Bool
-some p l = ltb 0 (count p l)
-
-unfoldable pub keep : (Edge → Bool) → List Edge → List Edge
-keep p [] = []
-keep p (e ∷ l) = cond (p e) (e ∷ keep p l) (keep p l)
-
-abbrev pub same : Edge → Edge → Bool
-same d e = eqb (group d) (group e) && eqb (meta d) (meta e)
+abbrev pub sameEdge : Edge → Edge → Bool
+sameEdge d e = eqb (group d) (group e) && eqb (meta d) (meta e)
 
 -- how many edges a group has, and a meta-peptide
 abbrev pub ofGroup : ℕ → List Edge → ℕ

@@ -8,10 +8,11 @@ use mathlib.Core.Path.{_≡_, refl, sym, ap, _∙_, subst}
 use mathlib.Core.Logic.{_⊎_, inl, inr}
 use native.Mathlib.Omega.{arith}
 use borrow.Author.Tests.{eqb-true, eqb-false, ltb-true, eq-eqb, lt-ltb}
-use Rattle.records.specs.Tests.{both, neither}
-use Rattle.cover_spec.specs.Cover.{Edge, group, meta, same, count, some, keep, ofMeta, State, forced, markForced, coverMarked, stays, pass, trim, choice, mark, choose, turn, turns, start, cover}
-use Rattle.cover_spec.specs.TestLaws.{not-is, or-left, or-right}
-use Rattle.cover_spec.specs.CountLaws.{All, all-map, count-ext, count-keep, count-le, same-eq, all-at, count-mono, some-mono, find, all-kept, some-none}
+use Rattle.lists.specs.Tests.{both, neither, not-is, or-left, or-right}
+use Rattle.lists.specs.Lists.{count, some, keep, All}
+use Rattle.lists.specs.KeepLaws.{all-map, count-ext, count-keep, count-le, count-mono, some-mono, all-kept, some-none}
+use Rattle.cover_spec.specs.Cover.{Edge, group, meta, ofMeta, State, forced, markForced, coverMarked, stays, pass, trim, choice, mark, choose, turn, turns, start, cover, sameEdge}
+use Rattle.cover_spec.specs.CountLaws.{all-at, find, same-edge}
 use Rattle.cover_spec.specs.TrimLaws.{iter, passes-iter, trim-settled, trim-le}
 use Rattle.cover_spec.specs.ChoiceLaws.{Under, choice-has}
 use Rattle.cover_spec.specs.TurnLaws.{under-pass, turn-empty, turn-choose, turns-iter, turns-end}
@@ -141,21 +142,21 @@ module _ (n : ℕ) (all : List Edge) where
     pub visited : Visited before
     pub unmarked : before .marked g ≡ false
     pub target : ℕ
-    pub remains : 0 < count (same (g, target)) (before .edges)
+    pub remains : 0 < count (sameEdge (g, target)) (before .edges)
     pub uncovered : before .covered target ≡ false
     pub newly : ((pass before .marked g ≡ true) × (pass before .covered target ≡ true))
         ⊎ ((pass before ≡ before) × (g ≡ choice all (before .edges) n) × (pass (choose all n before) .covered target ≡ true))
 
   -- a pass covers what an edge of a group that it leaves marked leads to
-  covers : (s : State) (g m : ℕ) → 0 < count (same (g, m)) (s .edges) → pass s .marked g ≡ true → pass s .covered m ≡ true
+  covers : (s : State) (g m : ℕ) → 0 < count (sameEdge (g, m)) (s .edges) → pass s .marked g ≡ true → pass s .covered m ≡ true
   unfolding pass coverMarked
   covers s g m h i =
       or-right (s .covered m) (some (λ e. eqb (meta e) m && markForced s (group e)) (s .edges))
-      (some-mono (same (g, m)) (λ e. eqb (meta e) m && markForced s (group e)) each (s .edges) (lt-ltb 0 (count (same (g, m)) (s .edges)) h))
+      (some-mono (sameEdge (g, m)) (λ e. eqb (meta e) m && markForced s (group e)) each (s .edges) (lt-ltb 0 (count (sameEdge (g, m)) (s .edges)) h))
     where
-      each : (e : Edge) → same (g, m) e ≡ true → (eqb (meta e) m && markForced s (group e)) ≡ true
+      each : (e : Edge) → sameEdge (g, m) e ≡ true → (eqb (meta e) m && markForced s (group e)) ≡ true
       each e j =
-          let q = same-eq (g, m) e j in
+          let q = same-edge (g, m) e j in
           subst (λ (d : Edge). (eqb (meta d) m && markForced s (group d)) ≡ true) q (rw (eq-eqb m m refl, i))
 
   visited-under : Under n all → {s : State} → Visited s → Under n (s .edges)
@@ -176,7 +177,7 @@ module _ (n : ℕ) (all : List Edge) where
           let p : Edge → Bool = λ e. eqb (group e) g && eqb (ofMeta (meta e) (s .edges)) 1 in
           let (e, k, z) = find p (s .edges) (ltb-true 0 (count p (s .edges)) (rw j at i)) in
           let q : group e ≡ g = eqb-true (group e) g (both (eqb (group e) g) (eqb (ofMeta (meta e) (s .edges)) 1) k .0) in
-          let x : 0 < count (same (g, meta e)) (s .edges) = subst (λ (h : ℕ). 0 < count (same (h, meta e)) (s .edges)) q z in
+          let x : 0 < count (sameEdge (g, meta e)) (s .edges) = subst (λ (h : ℕ). 0 < count (sameEdge (h, meta e)) (s .edges)) q z in
           record {
             before = s;
             visited = v;
@@ -194,7 +195,7 @@ module _ (n : ℕ) (all : List Edge) where
           let c : ℕ = choice all (s .edges) n in
           let q : g ≡ c = eqb-true g c (sym (or-false (eqb g c)) ∙ (rw j at i)) in
           let (d, k, y) = find (λ d. eqb (group d) c) (s .edges) (choice-has all (s .edges) n (visited-under u v) z) in
-          let x : 0 < count (same (g, meta d)) (s .edges) = subst (λ (h : ℕ). 0 < count (same (h, meta d)) (s .edges)) (eqb-true (group d) c k ∙ sym q) y in
+          let x : 0 < count (sameEdge (g, meta d)) (s .edges) = subst (λ (h : ℕ). 0 < count (sameEdge (h, meta d)) (s .edges)) (eqb-true (group d) c k ∙ sym q) y in
           record {
             before = s;
             visited = v;

@@ -8,9 +8,10 @@ use native.Mathlib.Omega.{arith}
 use lib.Dec.{ltb, eqb}
 use lib.ListN.{length}
 use borrow.Author.Tests.{eqb-true, eqb-false, ltb-true, ltb-false, eq-eqb, lt-ltb}
-use Rattle.records.specs.Tests.{both}
-use Rattle.cover_spec.specs.Cover.{Edge, group, meta, bit, count, keep, ofGroup, State, turn, greatest, choice, start, cover}
-use Rattle.cover_spec.specs.CountLaws.{all-map, all-keep, count-keep, count-le, count-none, count-mono, all-has}
+use Rattle.lists.specs.Tests.{both}
+use Rattle.lists.specs.Lists.{bit, count, keep}
+use Rattle.lists.specs.KeepLaws.{all-map, all-keep, count-keep, count-le, count-none, count-mono, all-has}
+use Rattle.cover_spec.specs.Cover.{Edge, group, meta, ofGroup, State, turn, greatest, choice, start, cover}
 use Rattle.cover_spec.specs.TrimLaws.{iter}
 use Rattle.cover_spec.specs.ChoiceLaws.{Lex, lex-anti, greatest-max, greatest-lt, Under}
 use Rattle.cover_spec.specs.CoverLaws.{Visited, begin, visited-trim, visited-turn, sound}
@@ -105,7 +106,6 @@ module _ (n : ℕ) (all : List Edge) where
   under-after t u = subst (λ (l : List Edge). Under n l) (sym (after-lean t)) (all-keep (λ e. group e < n) (λ e. not (after n all t .covered (meta e))) all u)
 
   empty : (l : List Edge) → Under n l → ((g : ℕ) → g < n → ofGroup g l ≤ 0) → length l ≡ 0
-  unfolding count
   empty [] u h = refl
   empty (e ∷ l) u h = absurd (omega (arith, h (group e) (u .0), ap bit (eq-eqb (group e) (group e) refl)))
 

@@ -5,7 +5,6 @@ pub mod Cover
 pub mod Update
 pub mod Marks
 pub mod Cases
-pub mod TestLaws
 pub mod CountLaws
 pub mod PartLaws
 pub mod TrimLaws

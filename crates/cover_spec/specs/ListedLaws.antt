@@ -7,7 +7,8 @@ use lib.ListN.{length, getD}
 use mathlib.Core.Path.{_≡_, refl, sym, ap, _∙_}
 use native.Mathlib.Omega.{arith}
 use lib.Seq.{ext-getD}
-use Rattle.cover_spec.specs.Cover.{Edge, bit, cover, listed, coverList}
+use Rattle.lists.specs.Lists.{bit}
+use Rattle.cover_spec.specs.Cover.{Edge, cover, listed, coverList}
 
 pub length-listed : (n : ℕ) (f : ℕ → ℕ) → length (listed n f) ≡ n
 unfolding listed

@@ -7,9 +7,10 @@ use lib.ListN.{length}
 use mathlib.Core.Path.{_≡_, refl, sym, ap, _∙_, subst}
 use native.Mathlib.Omega.{arith}
 use borrow.Author.Tests.{eqb-true, eqb-false}
-use Rattle.cover_spec.specs.Cover.{Edge, group, count, ofGroup, State, pass, trim, choice, mark, choose, turn, start, cover}
-use Rattle.cover_spec.specs.TestLaws.{within}
-use Rattle.cover_spec.specs.CountLaws.{All, count-ext, length-count, count-le, count-none}
+use Rattle.lists.specs.Lists.{count, All}
+use Rattle.lists.specs.Tests.{within}
+use Rattle.lists.specs.KeepLaws.{count-ext, length-count, count-le, count-none}
+use Rattle.cover_spec.specs.Cover.{Edge, group, ofGroup, State, pass, trim, choice, mark, choose, turn, start, cover}
 use Rattle.cover_spec.specs.PartLaws.{Closed, Part, part-pass}
 use Rattle.cover_spec.specs.TrimLaws.{iter, trim-iter, trim-le}
 use Rattle.cover_spec.specs.ChoiceLaws.{Lex, lex-anti, lex-cast, greatest-lt, greatest-max, Under, choice-has}

@@ -7,10 +7,10 @@ use lib.ListN.{length}
 use mathlib.Core.Path.{_≡_, refl, sym, ap, _∙_, subst}
 use native.Mathlib.Omega.{arith}
 use borrow.Author.Tests.{eq-eqb, lt-ltb}
-use Rattle.records.specs.Tests.{both, neither}
-use Rattle.cover_spec.specs.Cover.{Edge, group, meta, count, some, keep, ofMeta, State, forced, markForced, coverMarked, stays, pass, trim, mark, choose}
-use Rattle.cover_spec.specs.TestLaws.{not-is, or-right}
-use Rattle.cover_spec.specs.CountLaws.{All, all-map, all-keep, count-ext, count-keep, length-count, length-keep, keep-same, none, all-has, all-kept, all-two, keep-keep, keep-ext}
+use Rattle.lists.specs.Tests.{both, neither, not-is, or-right}
+use Rattle.lists.specs.Lists.{count, some, keep, All}
+use Rattle.lists.specs.KeepLaws.{all-map, all-keep, count-ext, count-keep, length-count, length-keep, keep-same, none, all-has, all-kept, all-two, keep-keep, keep-ext}
+use Rattle.cover_spec.specs.Cover.{Edge, group, meta, ofMeta, State, forced, markForced, coverMarked, stays, pass, trim, mark, choose}
 use Rattle.cover_spec.specs.TrimLaws.{iter, iter-fix, pass-still, trim-iter}
 use Rattle.cover_spec.specs.CoverLaws.{Visited, sound, begin, passed, chosen}
 

@@ -5,9 +5,10 @@ use Prim.Native.Nat.{ℕ}
 use lib.Dec.{ltb, eqb}
 use mathlib.Core.Path.{_≡_, sym, ap, _∙_}
 use borrow.Author.Tests.{eqb-true}
-use Rattle.cover_spec.specs.Cover.{Edge, group, meta, count, ofMeta, State, forced, markForced, coverMarked, stays, pass}
-use Rattle.cover_spec.specs.TestLaws.{within, guard, inside}
-use Rattle.cover_spec.specs.CountLaws.{All, all-map, all-keep, count-ext, count-keep}
+use Rattle.lists.specs.Lists.{count, All}
+use Rattle.lists.specs.Tests.{within, guard, inside}
+use Rattle.lists.specs.KeepLaws.{all-map, all-keep, count-ext, count-keep}
+use Rattle.cover_spec.specs.Cover.{Edge, group, meta, ofMeta, State, forced, markForced, coverMarked, stays, pass}
 
 -- ---- the relation: t is the part of s inside the set
 

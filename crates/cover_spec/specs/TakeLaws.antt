@@ -7,10 +7,10 @@ use lib.ListN.{length}
 use mathlib.Core.Path.{_≡_, refl, ap, _∙_, fun-ext}
 use native.Mathlib.Omega.{arith}
 use borrow.Author.Tests.{eqb-true, eqb-false, eq-eqb, lt-ltb}
-use Rattle.records.specs.Tests.{both, neither}
-use Rattle.cover_spec.specs.Cover.{Edge, group, meta, count, some, keep, State, forced, markForced, coverMarked, stays, pass, trim, choice, mark, noEdges, choose, turn}
-use Rattle.cover_spec.specs.TestLaws.{not-is}
-use Rattle.cover_spec.specs.CountLaws.{All, all-map, count-ext, keep-all, all-has, all-two, keep-ext, every}
+use Rattle.lists.specs.Tests.{both, neither, not-is}
+use Rattle.lists.specs.Lists.{count, some, keep, All}
+use Rattle.lists.specs.KeepLaws.{all-map, count-ext, keep-all, all-has, all-two, keep-ext, every}
+use Rattle.cover_spec.specs.Cover.{Edge, group, meta, State, forced, markForced, coverMarked, stays, pass, trim, choice, mark, noEdges, choose, turn}
 use Rattle.cover_spec.specs.TrimLaws.{iter, stay-unmarked, still-forced, trim-settled, trim-trim}
 use Rattle.cover_spec.specs.TurnLaws.{turn-empty, turn-choose}
 use Rattle.cover_spec.specs.CoverLaws.{Visited, visited-trim, visited-turn, chosen}

@@ -5,11 +5,12 @@ use Prim.Native.Nat.{ℕ}
 use lib.Dec.{eqb}
 use mathlib.Core.Path.{_≡_, refl, sym, ap, _∙_}
 use borrow.Author.Tests.{eqb-true, ltb-true, eq-eqb}
-use Rattle.records.specs.Tests.{both}
-use Rattle.cover_spec.specs.Cover.{Edge, group, meta, count, some}
+use Rattle.lists.specs.Tests.{both, iff}
+use Rattle.lists.specs.Lists.{count, some, All}
+use Rattle.lists.specs.KeepLaws.{all-map}
+use Rattle.cover_spec.specs.Cover.{Edge, group, meta}
 use Rattle.cover_spec.specs.Update.{part, differs, touched}
-use Rattle.cover_spec.specs.TestLaws.{iff}
-use Rattle.cover_spec.specs.CountLaws.{All, all-map, all-at, find}
+use Rattle.cover_spec.specs.CountLaws.{all-at, find}
 use Rattle.cover_spec.specs.ConnectedLaws.{_∈_, Connected, here, across, chain, all-in, has, part-linked, part-has}
 
 -- the connected part of g is touched: some edge of it stands a different number of times in the two lists

@@ -7,10 +7,10 @@ use mathlib.Core.Path.{_≡_, refl, sym, ap, _∙_, fun-ext}
 use native.Mathlib.Omega.{arith}
 use borrow.Author.Tests.{eqb-true, eqb-false}
 use native.Mathlib.Decide.{le-ind}
-use Rattle.records.specs.Tests.{both, neither}
+use Rattle.lists.specs.Tests.{both, neither, not-is}
+use Rattle.lists.specs.Lists.{All}
+use Rattle.lists.specs.KeepLaws.{all-map, count-le, length-keep, keep-all, keep-same, none}
 use Rattle.cover_spec.specs.Cover.{group, meta, State, forced, markForced, coverMarked, stays, pass, passes, trim}
-use Rattle.cover_spec.specs.TestLaws.{not-is}
-use Rattle.cover_spec.specs.CountLaws.{All, all-map, count-le, length-keep, keep-all, keep-same, none}
 
 -- ---- repeating
 

@@ -7,9 +7,9 @@ use lib.ListN.{length}
 use mathlib.Core.Path.{_≡_, refl, sym, ap, _∙_}
 use native.Mathlib.Omega.{arith}
 use borrow.Author.Tests.{eqb-true, eqb-false, leb-true, leb-false, eq-eqb, ne-eqb}
-use Rattle.records.specs.Tests.{neither}
+use Rattle.lists.specs.Tests.{neither}
+use Rattle.lists.specs.KeepLaws.{all-map, all-keep, keep-all, count-none}
 use Rattle.cover_spec.specs.Cover.{Edge, group, ofGroup, State, forced, markForced, stays, pass, passes, trim, choice, mark, noEdges, choose, turn, turns}
-use Rattle.cover_spec.specs.CountLaws.{all-map, all-keep, keep-all, count-none}
 use Rattle.cover_spec.specs.TrimLaws.{iter, iter-fix, iter-still, stay-unmarked, pass-le, passes-iter, trim-iter, trim-trim, trim-le}
 use Rattle.cover_spec.specs.ChoiceLaws.{Under, choice-has}
 

@@ -6,7 +6,8 @@ use mathlib.Core.List.{List, _++_}
 use Prim.Native.Nat.{ℕ, zero, suc}
 use lib.Dec.{eqb}
 use lib.ListN.{length, getD}
-use Rattle.cover_spec.specs.Cover.{Edge, group, meta, bit, same, count, some, keep, cover, listed}
+use Rattle.lists.specs.Lists.{bit, count, some, keep}
+use Rattle.cover_spec.specs.Cover.{Edge, group, meta, cover, listed, sameEdge}
 
 -- the edge shares its group or its meta-peptide with one of the list
 abbrev pub meets : List Edge → Edge → Bool
@@ -23,7 +24,7 @@ part all g = reached (length all) all g
 
 -- the edge stands a different number of times in the two lists
 abbrev pub differs : List Edge → List Edge → Edge → Bool
-differs old new e = not (eqb (count (same e) old) (count (same e) new))
+differs old new e = not (eqb (count (sameEdge e) old) (count (sameEdge e) new))
 
 unfoldable pub touched : List Edge → List Edge → ℕ → Bool
 touched old new g = some (differs old new) (part (old ++ new) g)

@@ -6,10 +6,12 @@ use lib.Dec.{eqb}
 use mathlib.Core.Path.{_≡_, refl, sym, ap, _∙_}
 use native.Mathlib.Omega.{arith}
 use borrow.Author.Tests.{eqb-true, eqb-false}
-use Rattle.cover_spec.specs.Cover.{Edge, group, meta, same, bit, count, keep, cover, coverList}
+use Rattle.lists.specs.Lists.{bit, count, keep, All}
+use Rattle.lists.specs.Tests.{within}
+use Rattle.lists.specs.KeepLaws.{all-map, all-keep, count-ext, count-keep, count-none, count-append, all-append}
+use Rattle.cover_spec.specs.Cover.{Edge, group, meta, cover, coverList, sameEdge}
 use Rattle.cover_spec.specs.Update.{touched, update, updateList}
-use Rattle.cover_spec.specs.TestLaws.{within}
-use Rattle.cover_spec.specs.CountLaws.{All, all-map, all-keep, count-ext, count-keep, count-none, same-eq, count-determined, count-append, all-append}
+use Rattle.cover_spec.specs.CountLaws.{count-determined, same-edge}
 use Rattle.cover_spec.specs.PartLaws.{Closed}
 use Rattle.cover_spec.specs.ChoiceLaws.{Under}
 use Rattle.cover_spec.specs.LocalityLaws.{cover-local}
@@ -32,14 +34,14 @@ module _ (n : ℕ) (old new : List Edge) where
   closed = all-map (λ e h. ap not h) J (touched-linked old new)
 
   -- an edge whose group is untouched stands as often in one list as in the other
-  untouched : (e : Edge) → sg (group e) ≡ true → count (same e) old ≡ count (same e) new
+  untouched : (e : Edge) → sg (group e) ≡ true → count (sameEdge e) old ≡ count (sameEdge e) new
   unfolding sg
-  untouched e i = go (eqb (count (same e) old) (count (same e) new)) refl
+  untouched e i = go (eqb (count (sameEdge e) old) (count (sameEdge e) new)) refl
     where
-      go : (b : Bool) → eqb (count (same e) old) (count (same e) new) ≡ b → count (same e) old ≡ count (same e) new
-      go true j = eqb-true (count (same e) old) (count (same e) new) j
+      go : (b : Bool) → eqb (count (sameEdge e) old) (count (sameEdge e) new) ≡ b → count (sameEdge e) old ≡ count (sameEdge e) new
+      go true j = eqb-true (count (sameEdge e) old) (count (sameEdge e) new) j
       go false j =
-          let z : 0 < count (same e) J = omega (arith, count-append (same e) old new, eqb-false (count (same e) old) (count (same e) new) j) in
+          let z : 0 < count (sameEdge e) J = omega (arith, count-append (sameEdge e) old new, eqb-false (count (sameEdge e) old) (count (sameEdge e) new) j) in
           absurd (true≢false (sym i ∙ ap not (touched-of old new (group e) (e, z, ap not j, here))))
 
   part-new : (p : Edge → Bool) → count (λ e. sg (group e) && p e) new ≡ count p (keep (λ e. sg (group e)) new)
@@ -48,28 +50,28 @@ module _ (n : ℕ) (old new : List Edge) where
   part-old : (p : Edge → Bool) → count (λ e. sg (group e) && p e) old ≡ count p (keep (λ e. sg (group e)) new)
   part-old p = sym (count-keep p (λ e. sg (group e)) old) ∙ count-determined (keep (λ e. sg (group e)) old) (keep (λ e. sg (group e)) new) each p
     where
-      inside-out : (e : Edge) (l : List Edge) → sg (group e) ≡ true → count (λ d. sg (group d) && same e d) l ≡ count (same e) l
-      inside-out e l i = count-ext (λ d. sg (group d) && same e d) (same e) l (all l)
+      inside-out : (e : Edge) (l : List Edge) → sg (group e) ≡ true → count (λ d. sg (group d) && sameEdge e d) l ≡ count (sameEdge e) l
+      inside-out e l i = count-ext (λ d. sg (group d) && sameEdge e d) (sameEdge e) l (all l)
         where
-          all : (k : List Edge) → All (λ d. (sg (group d) && same e d) ≡ same e d) k
+          all : (k : List Edge) → All (λ d. (sg (group d) && sameEdge e d) ≡ sameEdge e d) k
           all [] = tt
-          all (d ∷ k) = (sym (within (sg (group d)) (same e d) (λ q. ap (λ (x : Edge). sg (group x)) (sym (same-eq e d q)) ∙ i)), all k)
+          all (d ∷ k) = (sym (within (sg (group d)) (sameEdge e d) (λ q. ap (λ (x : Edge). sg (group x)) (sym (same-edge e d q)) ∙ i)), all k)
 
-      outside : (e : Edge) (l : List Edge) → sg (group e) ≡ false → count (λ d. sg (group d) && same e d) l ≡ 0
-      outside e l i = count-none (λ d. sg (group d) && same e d) l (all l)
+      outside : (e : Edge) (l : List Edge) → sg (group e) ≡ false → count (λ d. sg (group d) && sameEdge e d) l ≡ 0
+      outside e l i = count-none (λ d. sg (group d) && sameEdge e d) l (all l)
         where
-          one : (d : Edge) (b : Bool) → same e d ≡ b → (sg (group d) && b) ≡ false
-          one d true q = rw (ap (λ (x : Edge). sg (group x)) (sym (same-eq e d q)) ∙ i)
+          one : (d : Edge) (b : Bool) → sameEdge e d ≡ b → (sg (group d) && b) ≡ false
+          one d true q = rw (ap (λ (x : Edge). sg (group x)) (sym (same-edge e d q)) ∙ i)
           one d false q = and-false (sg (group d))
 
-          all : (k : List Edge) → All (λ d. (sg (group d) && same e d) ≡ false) k
+          all : (k : List Edge) → All (λ d. (sg (group d) && sameEdge e d) ≡ false) k
           all [] = tt
-          all (d ∷ k) = (one d (same e d) refl, all k)
+          all (d ∷ k) = (one d (sameEdge e d) refl, all k)
 
-      each : (e : Edge) → count (same e) (keep (λ d. sg (group d)) old) ≡ count (same e) (keep (λ d. sg (group d)) new)
-      each e = count-keep (same e) (λ d. sg (group d)) old ∙ go (sg (group e)) refl ∙ sym (count-keep (same e) (λ d. sg (group d)) new)
+      each : (e : Edge) → count (sameEdge e) (keep (λ d. sg (group d)) old) ≡ count (sameEdge e) (keep (λ d. sg (group d)) new)
+      each e = count-keep (sameEdge e) (λ d. sg (group d)) old ∙ go (sg (group e)) refl ∙ sym (count-keep (sameEdge e) (λ d. sg (group d)) new)
         where
-          go : (b : Bool) → sg (group e) ≡ b → count (λ d. sg (group d) && same e d) old ≡ count (λ d. sg (group d) && same e d) new
+          go : (b : Bool) → sg (group e) ≡ b → count (λ d. sg (group d) && sameEdge e d) old ≡ count (λ d. sg (group d) && sameEdge e d) new
           go true i = inside-out e old i ∙ untouched e i ∙ sym (inside-out e new i)
           go false i = outside e old i ∙ sym (outside e new i)
 

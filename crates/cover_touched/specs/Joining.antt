@@ -5,8 +5,8 @@ use mathlib.Core.Path.{_≡_}
 use mathlib.Core.Bool.{Bool}
 use mathlib.Core.List.{List}
 use lib.ListN.{length, getD}
+use Rattle.lists.specs.Lists.{All}
 use Rattle.cover_spec.specs.Cover.{Edge}
-use Rattle.cover_spec.specs.CountLaws.{All}
 use Rattle.cover_edges.specs.Chains.{Out}
 
 pub record Forest (w : List ℕ) (p n : ℕ) : Type 0 where

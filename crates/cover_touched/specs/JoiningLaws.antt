@@ -9,9 +9,10 @@ use lib.ListN.{length, getD, set, length-set}
 use lib.Seq.{getD-set-same, getD-set-other}
 use lib.Dec.{eqb}
 use borrow.Author.Tests.{eq-eqb, ne-eqb}
-use Rattle.records.specs.Tests.{same?, below?}
+use Rattle.lists.specs.Tests.{same?, below?}
+use Rattle.lists.specs.Lists.{All}
+use Rattle.lists.specs.KeepLaws.{all-map}
 use Rattle.cover_spec.specs.Cover.{Edge}
-use Rattle.cover_spec.specs.CountLaws.{All, all-map}
 use Rattle.cover_edges.specs.Chains.{Out}
 use Rattle.cover_touched.specs.Joining.{Forest, Reps, Held, Found, Joined}
 

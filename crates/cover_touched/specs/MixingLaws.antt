@@ -8,7 +8,7 @@ use mathlib.Core.List.{List}
 use lib.ListN.{length, getD, set}
 use lib.Seq.{getD-set-same, getD-set-other}
 use lib.Dec.{eqb}
-use Rattle.records.specs.Tests.{same?}
+use Rattle.lists.specs.Tests.{same?}
 use Rattle.cover_spec.specs.Cover.{Edge}
 use Rattle.cover_spec.specs.Update.{touched}
 use Rattle.cover_touched.specs.Joining.{Forest, Found}

@@ -10,11 +10,13 @@ use lib.ListN.{length, getD}
 use lib.Seq.{ext-getD}
 use lib.Dec.{eqb, ltb}
 use borrow.Author.Tests.{eqb-true, eq-eqb, ne-eqb, ltb-true, lt-ltb, le-ltb}
+use Rattle.lists.specs.Tests.{same?, below?, truth?, both}
+use Rattle.lists.specs.Lists.{count, All}
+use Rattle.lists.specs.KeepLaws.{all-map, all-has, all-append, all-two, count-append, none}
 use Rattle.records.specs.Le.{numberAt}
-use Rattle.records.specs.Tests.{same?, below?, truth?, both}
-use Rattle.cover_spec.specs.Cover.{Edge, group, meta, same, count}
+use Rattle.cover_spec.specs.Cover.{Edge, group, meta, sameEdge}
 use Rattle.cover_spec.specs.Update.{differs, touched}
-use Rattle.cover_spec.specs.CountLaws.{All, all-map, all-has, all-append, all-two, count-append, none, find}
+use Rattle.cover_spec.specs.CountLaws.{find}
 use Rattle.cover_spec.specs.ConnectedLaws.{here, has}
 use Rattle.cover_spec.specs.TouchedLaws.{Touched, touchedMeta, touched-to, touched-of, touched-linked, flags-touched}
 use Rattle.cover_edges.specs.Chains.{Out}
@@ -108,23 +110,23 @@ module _ (old new : List Edge) where
   abbrev J : List Edge
   J = old ++ new
 
-  differing-has : (e : Edge) → 0 < count (same e) J → differs old new e ≡ true → differing old new (group e) ≡ true
+  differing-has : (e : Edge) → 0 < count (sameEdge e) J → differs old new e ≡ true → differing old new (group e) ≡ true
   unfolding differing
   differing-has e i q = has (λ d. eqb (group d) (group e) && differs old new d) e J i (rw (eq-eqb (group e) (group e) refl) q)
 
-  pub differing-yes : (g m : ℕ) → (count (same (g, m)) old ≡ count (same (g, m)) new → ⊥) → differing old new g ≡ true
+  pub differing-yes : (g m : ℕ) → (count (sameEdge (g, m)) old ≡ count (sameEdge (g, m)) new → ⊥) → differing old new g ≡ true
   differing-yes g m u =
-      differing-has (g, m) (⊎-elim (λ (h : 0 < count (same (g, m)) J). h) (λ (h : count (same (g, m)) J ≤ 0). absurd (u (omega (arith, count-append (same (g, m)) old new)))) (below? 0 (count (same (g, m)) J)))
-      (ap not (ne-eqb (count (same (g, m)) old) (count (same (g, m)) new) u))
+      differing-has (g, m) (⊎-elim (λ (h : 0 < count (sameEdge (g, m)) J). h) (λ (h : count (sameEdge (g, m)) J ≤ 0). absurd (u (omega (arith, count-append (sameEdge (g, m)) old new)))) (below? 0 (count (sameEdge (g, m)) J)))
+      (ap not (ne-eqb (count (sameEdge (g, m)) old) (count (sameEdge (g, m)) new) u))
 
-  pub differing-no : (g metas : ℕ) → All (λ e. meta e < metas) J → ((m : ℕ) → m < metas → count (same (g, m)) old ≡ count (same (g, m)) new) → differing old new g ≡ false
+  pub differing-no : (g metas : ℕ) → All (λ e. meta e < metas) J → ((m : ℕ) → m < metas → count (sameEdge (g, m)) old ≡ count (sameEdge (g, m)) new) → differing old new g ≡ false
   unfolding differing
   differing-no g metas inside h = none (λ e. eqb (group e) g && differs old new e) J (all-map (λ e l. go e l (eqb (group e) g) refl) J inside)
     where
       go : (e : Edge) → meta e < metas → (b : Bool) → eqb (group e) g ≡ b → (b && differs old new e) ≡ false
       go e l true i =
-          let q : count (same e) old ≡ count (same e) new = subst (λ (x : ℕ). count (same (x, meta e)) old ≡ count (same (x, meta e)) new) (sym (eqb-true (group e) g i)) (h (meta e) l) in
-          ap not (eq-eqb (count (same e) old) (count (same e) new) q)
+          let q : count (sameEdge e) old ≡ count (sameEdge e) new = subst (λ (x : ℕ). count (sameEdge (x, meta e)) old ≡ count (sameEdge (x, meta e)) new) (sym (eqb-true (group e) g i)) (h (meta e) l) in
+          ap not (eq-eqb (count (sameEdge e) old) (count (sameEdge e) new) q)
       go e l false i = refl
 
   seed-edge : (g : ℕ) → differing old new g ≡ true → touched old new g ≡ true
@@ -208,7 +210,7 @@ module _ (old : List ℕ) (on : ℕ) (new : List ℕ) (nn groups metas : ℕ) (w
       sym (ap (λ (b : Bool). b && touches (1 + g)) (lt-ltb g groups l))
       ∙ flags-touched olds news (λ x. ltb x groups && touches (1 + x)) (λ m. touches (1 + groups + m))
       (all-map (λ e r. ap (λ (b : Bool). b && touches (1 + group e)) (lt-ltb (group e) groups (r .0 .0)) ∙ ap (λ (x : ℕ). eqb x 0) (r .1)) both-lists (all-two _ _ both-lists inside by-edge))
-      (all-map (λ e r q. ap (λ (b : Bool). b && touches (1 + group e)) (lt-ltb (group e) groups (r .0 .0)) ∙ eq-eqb (h .rep (1 + group e)) 0 (sym (by-seed (group e) (r .0 .0) (differing-has olds news e (r .1 (same e) (rw (eq-eqb (group e) (group e) refl, eq-eqb (meta e) (meta e) refl))) q)) ∙ zero-top)) both-lists (all-two _ _ both-lists inside (all-has both-lists)))
+      (all-map (λ e r q. ap (λ (b : Bool). b && touches (1 + group e)) (lt-ltb (group e) groups (r .0 .0)) ∙ eq-eqb (h .rep (1 + group e)) 0 (sym (by-seed (group e) (r .0 .0) (differing-has olds news e (r .1 (sameEdge e) (rw (eq-eqb (group e) (group e) refl, eq-eqb (meta e) (meta e) refl))) q)) ∙ zero-top)) both-lists (all-two _ _ both-lists inside (all-has both-lists)))
       (λ x e. guarded x (ltb x groups) refl e) g
 
   pub parts-told : Told olds news groups metas w

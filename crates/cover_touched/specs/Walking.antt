@@ -6,7 +6,8 @@ use mathlib.Core.Bool.{Bool, true, false, _&&_}
 use mathlib.Core.List.{List, _++_}
 use lib.ListN.{length, getD}
 use lib.Dec.{eqb}
-use Rattle.cover_spec.specs.Cover.{Edge, group, same, count, some}
+use Rattle.lists.specs.Lists.{count, some}
+use Rattle.cover_spec.specs.Cover.{Edge, group, sameEdge}
 use Rattle.cover_spec.specs.Update.{differs}
 use Rattle.cover_edges.specs.Chains.{Chains}
 use Rattle.cover_edges.specs.Edges.{edgesTo}
@@ -18,7 +19,7 @@ differing old new g = some (λ e. eqb (group e) g && differs old new e) (old ++ 
 
 -- how often the edge (g, m) stands among the first i records
 unfoldable pub ofPair : ℕ → ℕ → List ℕ → ℕ → ℕ
-ofPair g m bs i = count (same (g, m)) (edgesTo bs i)
+ofPair g m bs i = count (sameEdge (g, m)) (edgesTo bs i)
 
 pub record Walkable (bs : List ℕ) (n groups metas : ℕ) (w : List ℕ) (hd nx : ℕ) : Type 0 where
   pub few : n ≤ 1048576

@@ -10,10 +10,11 @@ use lib.ListN.{length, getD, set, length-set}
 use lib.Seq.{getD-set-same, getD-set-other}
 use lib.Dec.{eqb}
 use borrow.Author.Tests.{eqb-true, eqb-false, eq-eqb, ne-eqb}
+use Rattle.lists.specs.Tests.{same?, below?, truth?, neither, eqb-sym}
+use Rattle.lists.specs.Lists.{bit, count}
+use Rattle.cover_spec.specs.Cover.{sameEdge}
+use Rattle.lists.specs.KeepLaws.{count-append, count-le, none}
 use Rattle.records.specs.Le.{numberAt}
-use Rattle.records.specs.Tests.{same?, below?, truth?, neither}
-use Rattle.cover_spec.specs.Cover.{bit, same, count}
-use Rattle.cover_spec.specs.CountLaws.{count-append, count-le, none}
 use Rattle.cover_edges.specs.Chains.{lastOf}
 use Rattle.cover_edges.specs.ChainLaws.{last-le, last-hit}
 use Rattle.cover_edges.specs.Edges.{edgeAt, edgesTo}
@@ -23,19 +24,16 @@ use Rattle.cover_touched.specs.Walking.{ofPair, Walkable, Beside, Tallie
 -- ---- how often an edge stands among the first records
 
 pair-nil : (g m : ℕ) (bs : List ℕ) → ofPair g m bs 0 ≡ 0
-unfolding ofPair edgesTo count
+unfolding ofPair edgesTo
 pair-nil g m bs = refl
 
 pub pair-le : (g m : ℕ) (bs : List ℕ) (i : ℕ) → ofPair g m bs i ≤ i
 unfolding ofPair
-pair-le g m bs i = omega (arith, count-le (same (g, m)) (edgesTo bs i), length-edges bs i)
+pair-le g m bs i = omega (arith, count-le (sameEdge (g, m)) (edgesTo bs i), length-edges bs i)
 
-pair-more : (g m : ℕ) (bs : List ℕ) (i : ℕ) → ofPair g m bs (suc i) ≡ ofPair g m bs i + bit (same (g, m) (edgeAt bs i))
-unfolding ofPair edgesTo count
-pair-more g m bs i = omega (arith, count-append (same (g, m)) (edgesTo bs i) (edgeAt bs i ∷ []))
-
-eqb-sym : (a b : ℕ) → eqb a b ≡ eqb b a
-eqb-sym a b = ⊎-elim (λ (h : a ≡ b). eq-eqb a b h ∙ sym (eq-eqb b a (sym h))) (λ (h : a ≡ b → ⊥). ne-eqb a b h ∙ sym (ne-eqb b a (λ z. h (sym z)))) (same? a b)
+pair-more : (g m : ℕ) (bs : List ℕ) (i : ℕ) → ofPair g m bs (suc i) ≡ ofPair g m bs i + bit (sameEdge (g, m) (edgeAt bs i))
+unfolding ofPair edgesTo
+pair-more g m bs i = omega (arith, count-append (sameEdge (g, m)) (edgesTo bs i) (edgeAt bs i ∷ []))
 
 -- the records after the last of group g do not count
 pair-skip : (g m : ℕ) (bs : List ℕ) (i : ℕ) → ofPair g m bs i ≡ ofPair g m bs (lastOf bs 0 g i)

@@ -7,8 +7,9 @@ use mathlib.Core.Logic.{⊎-elim}
 use mathlib.Core.List.{List, []}
 use lib.ListN.{length, getD, set, replicate}
 use lib.Seq.{getD-set-same, getD-set-other}
-use Rattle.records.specs.Tests.{same?}
-use Rattle.cover_spec.specs.Cover.{turns, cover, bit, listed, coverList}
+use Rattle.lists.specs.Tests.{same?}
+use Rattle.lists.specs.Lists.{bit}
+use Rattle.cover_spec.specs.Cover.{turns, cover, listed, coverList}
 use Rattle.cover_spec.specs.ListedLaws.{listed-ext}
 use Rattle.cover_edges.specs.Edges.{edgesTo}
 use Rattle.cover_walk.specs.Tables.{Fit}

@@ -3,7 +3,8 @@ ghost use Prim.Native.Nat.{_+_, _≤_};
 ghost use mathlib.Core.Path.{_≡_};
 ghost use lib.Dec.{eqb};
 ghost use lib.ListN.{getD, length};
-ghost use Rattle.cover_spec.specs.Cover.{listed, bit};
+ghost use Rattle.lists.specs.Lists.{bit};
+ghost use Rattle.cover_spec.specs.Cover.{listed};
 
 fn mark(x: u32) -> u8
     ensures { λ r. ⌜ r ≡ bit (eqb x 1) ⌝ }

@@ -5,7 +5,7 @@ use mathlib.Core.Path.{refl}
 use mathlib.Core.List.{List, [], _∷_, _++_, flatten, map}
 use lib.ListN.{length, replicate}
 use Rattle.records.specs.Le.{le, numberAt}
-use Rattle.records.specs.Cases.{Case, Hold, counted, refused, told}
+use Rattle.records.specs.Cases.{Case, Hold, answered, refused, told}
 use Rattle.records.specs.Room.{written}
 use Rattle.records.specs.Search.{seek}
 use Rattle.letters.specs.Letters.{isLetter, firstBad}
@@ -37,17 +37,17 @@ grouping ds words bytes places answer work groups proteins = record {
 pub table : List Case
 table =
     -- no digests: no groups
-    grouping [] 12 1 1 (counted 0) (replicate 12 0) (170 ∷ []) (9 ∷ [])
+    grouping [] 12 1 1 (answered 0) (replicate 12 0) (170 ∷ []) (9 ∷ [])
     -- AC of b and of a, also as the last group: sorted by name, the reference the first in input order
-    ∷ grouping (digest 0 2 3 0 0 ∷ digest 0 2 3 0 1 ∷ []) 24 48 2 (counted 1) (replicate 24 0) (group (digest 0 2 3 0 0) 0 2 ++ replicate 24 170) (1 ∷ 0 ∷ [])
+    ∷ grouping (digest 0 2 3 0 0 ∷ digest 0 2 3 0 1 ∷ []) 24 48 2 (answered 1) (replicate 24 0) (group (digest 0 2 3 0 0) 0 2 ++ replicate 24 170) (1 ∷ 0 ∷ [])
     -- by position, then decoy, then letters; A before AC
-    ∷ grouping (digest 0 2 3 0 0 ∷ digest 0 1 3 0 0 ∷ digest 0 2 3 1 1 ∷ digest 0 2 0 0 2 ∷ []) 36 96 4 (counted 4) (replicate 36 0)
+    ∷ grouping (digest 0 2 3 0 0 ∷ digest 0 1 3 0 0 ∷ digest 0 2 3 1 1 ∷ digest 0 2 0 0 2 ∷ []) 36 96 4 (answered 4) (replicate 36 0)
     (group (digest 0 2 0 0 2) 0 1 ++ (group (digest 0 1 3 0 0) 1 1 ++ (group (digest 0 2 3 0 0) 2 1 ++ group (digest 0 2 3 1 1) 3 1))) (2 ∷ 0 ∷ 0 ∷ 1 ∷ [])
     -- a decoy's letters are reversed inside: AACC of ACAC, before ACC, that would stand before ACAC
-    ∷ grouping (digest 1 4 3 1 0 ∷ digest 0 4 3 1 0 ∷ digest 0 2 3 1 1 ∷ []) 30 72 3 (counted 3) (replicate 30 0)
+    ∷ grouping (digest 1 4 3 1 0 ∷ digest 0 4 3 1 0 ∷ digest 0 2 3 1 1 ∷ []) 30 72 3 (answered 3) (replicate 30 0)
     (group (digest 0 4 3 1 0) 0 1 ++ (group (digest 0 2 3 1 1) 1 1 ++ group (digest 1 4 3 1 0) 2 1)) (0 ∷ 1 ∷ 0 ∷ [])
     -- repeats are kept; more room than needed stays
-    ∷ grouping (digest 0 2 3 0 0 ∷ digest 2 4 3 0 0 ∷ []) 24 24 3 (counted 1) (replicate 24 0) (group (digest 0 2 3 0 0) 0 2) (0 ∷ 0 ∷ 9 ∷ [])
+    ∷ grouping (digest 0 2 3 0 0 ∷ digest 2 4 3 0 0 ∷ []) 24 24 3 (answered 1) (replicate 24 0) (group (digest 0 2 3 0 0) 0 2) (0 ∷ 0 ∷ 9 ∷ [])
     -- 11: no room for the second group, or for the second protein; both lists hold what fits
     ∷ grouping (digest 0 2 3 0 0 ∷ digest 0 2 0 0 2 ∷ []) 24 47 2 (refused 11 0) (replicate 24 0) (group (digest 0 2 0 0 2) 0 1 ++ replicate 23 170) (2 ∷ 0 ∷ [])
     ∷ grouping (digest 0 2 3 0 0 ∷ digest 0 2 0 0 2 ∷ []) 24 48 1 (refused 11 0) (replicate 24 0) (group (digest 0 2 0 0 2) 0 1 ++ group (digest 0 2 3 0 0) 1 1) (2 ∷ [])

@@ -7,6 +7,7 @@ use native.Mathlib.Omega.{arith}
 use lib.ListN.{length, getD}
 use lib.Dec.{ltb, leb, eqb}
 use borrow.Author.Tests.{ltb-true, ltb-false, leb-true, eqb-true, not-false}
+use Rattle.lists.specs.Tests.{both, neither}
 use Rattle.records.specs.declared.refusal.Refusal.{Refusal}
 use Rattle.records.specs.declared.refusal.Refusal.the-variants.{Size, Length, Field, Work, Letter}
 use Rattle.records.specs.declared.refusal.Tested.{Tested}
@@ -15,7 +16,6 @@ use Rattle.records.specs.Tested.{andThen}
 use Rattle.records.specs.TestedLaws.{first-refuses, first-passes, passed-both, passed-first}
 use Rattle.records.specs.Search.{seek}
 use Rattle.records.specs.SearchLaws.{seek-before}
-use Rattle.records.specs.Tests.{both, neither}
 use Rattle.letters.specs.Letters.{isLetter, noLetter, firstBad}
 use Rattle.catalogue_contents.specs.Names.{nameCount, tooManyNames, wholeNames, namesTested}
 use Rattle.catalogue_contents.specs.Book.{tooManyLetters, boundsOf, boundsTested, lettersTested}

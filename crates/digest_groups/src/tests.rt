@@ -39,8 +39,8 @@ fn width(bounds: &[u32], protein: u32) -> u32
     ensures { λ r. ⌜ r ≡ getD (now (bounds .entry)) (protein + 1) 0 - getD (now (bounds .entry)) protein 0 ⌝ }
 {
     let i = protein as usize;
-    let from = sorting_merge::number_at(bounds, i);
-    let to = sorting_merge::number_at(bounds, i + 1);
+    let from = sorting_texts::number_at(bounds, i);
+    let to = sorting_texts::number_at(bounds, i + 1);
     if from <= to { to - from } else { 0 }
 }
 

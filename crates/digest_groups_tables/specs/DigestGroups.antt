@@ -5,6 +5,7 @@ use mathlib.Core.Bool.{Bool, cond, _&&_}
 use mathlib.Core.List.{List, [], _∷_, _++_, map}
 use lib.ListN.{length, getD, take, drop, replicate}
 use lib.Dec.{eqb}
+use Rattle.lists.specs.Lists.{upFrom, keep, same}
 use Rattle.records.specs.declared.refusal.Refusal.the-variants.{Room}
 use Rattle.records.specs.declared.refusal.Counted.{Counted}
 use Rattle.records.specs.declared.refusal.Counted.the-variants.{Count, Refused}
@@ -12,11 +13,10 @@ use Rattle.records.specs.Le.{le, numberAt}
 use Rattle.records.specs.Outcome.{Outcome, outcome}
 use Rattle.records.specs.Room.{fits, fitted, singly}
 use Rattle.letters.specs.Reversal.{lettersOf}
-use Rattle.sorting_merge.specs.Sort.{sorted}
-use Rattle.sorting_merge.specs.Lex.{lexLe}
-use Rattle.sorting_merge.specs.Joined.{nameOf}
-use Rattle.sorting.specs.Counting.{upFrom}
-use Rattle.sorting.specs.Distinct.{keep, same, distinct}
+use Rattle.sorting_spec.specs.Sort.{sorted}
+use Rattle.sorting_spec.specs.Lex.{lexLe}
+use Rattle.sorting_spec.specs.Joined.{nameOf}
+use Rattle.sorting.specs.Distinct.{distinct}
 
 -- digest i of a list: the 16 bytes of its record
 abbrev pub digestAt : List ℕ → ℕ → List ℕ

@@ -7,6 +7,8 @@ use native.Mathlib.Omega.{arith}
 use lib.ListN.{length, take, replicate, length-append, length-map}
 use lib.Seq.{sets, length-take-le, slice}
 use lib.Dec.{leb}
+use Rattle.lists.specs.KeepLaws.{all-both, all-keep}
+use Rattle.lists.specs.Lists.{upFrom, keep, same}
 use Rattle.records.specs.declared.refusal.Refusal.the-variants.{Room}
 use Rattle.records.specs.declared.refusal.Counted.{Counted}
 use Rattle.records.specs.declared.refusal.Counted.the-variants.{Count, Refused}
@@ -16,8 +18,7 @@ use Rattle.records.specs.Outcome.{outcome}
 use Rattle.records.specs.Room.{fits, fitted, singly}
 use Rattle.records.specs.RoomLaws.{Sized, stored-text}
 use Rattle.records.specs.StoreLaws.{storedFrom, stored-all}
-use Rattle.sorting.specs.Counting.{upFrom}
-use Rattle.sorting.specs.Distinct.{keep, same, distinct}
+use Rattle.sorting.specs.Distinct.{distinct}
 use Rattle.sorting.specs.Runs.{joined, runsOf}
 use Rattle.digest_groups_tables.specs.DigestGroups.{digestAt, digestsIn, keyOf, gathered, groupOf, groupsFrom, proteinList, grouped}
 use Rattle.digest_groups_tables.specs.Turns.{orderOf, Sorted, Gathered}
@@ -25,43 +26,27 @@ use Rattle.digest_groups_tables.specs.TurnLaws.{length-digest}
 
 -- ---- every record of a group has 24 bytes
 
-abbrev Whole : List (List ℕ) → Type 0
-Whole [] = Unit {0}
-Whole (d ∷ ds) = (length d ≡ 16) × Whole ds
-
-whole-keep : (p : List ℕ → Bool) (ds : List (List ℕ)) → Whole ds → Whole (keep p ds)
-whole-keep p [] h = tt
-whole-keep p (d ∷ ds) h = go (p d) (whole-keep p ds (h .1))
-  where
-    go : (b : Bool) → Whole (keep p ds) → Whole (cond b (d ∷ keep p ds) (keep p ds))
-    go true r = (h .0, r)
-    go false r = r
-
-whole-digests : (bytes : List ℕ) (a n : ℕ) → 16 * (a + n) ≤ length bytes → Whole (map (digestAt bytes) (upFrom a n))
+whole-digests : (bytes : List ℕ) (a n : ℕ) → 16 * (a + n) ≤ length bytes → Sized 16 (map (digestAt bytes) (upFrom a n))
 whole-digests bytes a zero h = tt
 whole-digests bytes a (suc n) h = (length-digest bytes a (omega arith), whole-digests bytes (suc a) n (omega arith))
 
-sized-append : (rs qs : List (List ℕ)) → Sized 24 rs → Sized 24 qs → Sized 24 (rs ++ qs)
-sized-append [] qs h k = k
-sized-append (r ∷ rs) qs h k = (h .0, sized-append rs qs (h .1) k)
-
-sized-group : (at : ℕ) (ms : List (List ℕ)) → Whole ms → Sized 24 (groupOf at ms)
+sized-group : (at : ℕ) (ms : List (List ℕ)) → Sized 16 ms → Sized 24 (groupOf at ms)
 sized-group at [] h = tt
 sized-group at (d ∷ ds) h =
     (length-append (d ++ le 4 at) (le 4 (length (d ∷ ds))) ∙ omega (arith, length-append d (le 4 at), length-le 4 at, length-le 4 (length (d ∷ ds)), h .0), tt)
 
-sized-groups : (q : List ℕ → List ℕ → Bool) (ds : List (List ℕ)) → Whole ds → (at : ℕ) (ks : List (List ℕ)) → Sized 24 (groupsFrom at (map (λ (k : List ℕ). keep (λ (d : List ℕ). q d k) ds) ks))
+sized-groups : (q : List ℕ → List ℕ → Bool) (ds : List (List ℕ)) → Sized 16 ds → (at : ℕ) (ks : List (List ℕ)) → Sized 24 (groupsFrom at (map (λ (k : List ℕ). keep (λ (d : List ℕ). q d k) ds) ks))
 sized-groups q ds h at [] = tt
 sized-groups q ds h at (k ∷ ks) =
-    sized-append (groupOf at (keep (λ (d : List ℕ). q d k) ds)) (groupsFrom (at + length (keep (λ (d : List ℕ). q d k) ds)) (map (λ (k : List ℕ). keep (λ (d : List ℕ). q d k) ds) ks))
-    (sized-group at (keep (λ (d : List ℕ). q d k) ds) (whole-keep (λ (d : List ℕ). q d k) ds h))
+    all-both (λ (r : List ℕ). length r ≡ 24) (groupOf at (keep (λ (d : List ℕ). q d k) ds)) (groupsFrom (at + length (keep (λ (d : List ℕ). q d k) ds)) (map (λ (k : List ℕ). keep (λ (d : List ℕ). q d k) ds) ks))
+    (sized-group at (keep (λ (d : List ℕ). q d k) ds) (all-keep (λ (r : List ℕ). length r ≡ 16) (λ (d : List ℕ). q d k) ds h))
     (sized-groups q ds h (at + length (keep (λ (d : List ℕ). q d k) ds)) ks)
 
 pub sized-gathered : (bounds letters bytes : List ℕ) (n : ℕ) → length bytes ≡ 16 * n → Sized 24 (groupsFrom 0 (gathered bounds letters (digestsIn bytes)))
 sized-gathered bounds letters bytes n h =
     let e : n ≡ length bytes / 16 = omega arith in
     sized-groups (λ (d k : List ℕ). same (keyOf bounds letters d) k) (digestsIn bytes)
-    (subst (λ (k : ℕ). Whole (map (digestAt bytes) (upFrom 0 k))) e (whole-digests bytes 0 n (omega arith))) 0 (distinct (map (keyOf bounds letters) (digestsIn bytes)))
+    (subst (λ (k : ℕ). Sized 16 (map (digestAt bytes) (upFrom 0 k))) e (whole-digests bytes 0 n (omega arith))) 0 (distinct (map (keyOf bounds letters) (digestsIn bytes)))
 
 -- ---- there are as many records as runs
 

@@ -8,13 +8,13 @@ use native.Mathlib.Omega.{arith}
 use native.Mathlib.Nat.{zero-add, suc-add}
 use lib.ListN.{length, getD, take, drop}
 use lib.Seq.{slice, getD-drop, take-nil, drop-nil}
-use Rattle.sorting_merge.specs.declared.text.By.the-variants.{Spelled}
-use Rattle.sorting_merge.specs.Sort.{sorted}
-use Rattle.sorting_merge.specs.SortLaws.{In, sorted-in, sorted-alike, sorted-map}
-use Rattle.sorting_merge.specs.Lex.{lexLe}
-use Rattle.sorting_merge.specs.Text.{textOf, leBy, spellingOf as lettersBy}
-use Rattle.sorting.specs.Counting.{upFrom}
-use Rattle.sorting.specs.CountingLaws.{up-in}
+use Rattle.lists.specs.Lists.{In, upFrom}
+use Rattle.lists.specs.RowLaws.{up-in}
+use Rattle.sorting_texts.specs.declared.text.By.the-variants.{Spelled}
+use Rattle.sorting_spec.specs.Sort.{sorted}
+use Rattle.sorting_spec.specs.SortLaws.{sorted-in, sorted-alike, sorted-map}
+use Rattle.sorting_spec.specs.Lex.{lexLe}
+use Rattle.sorting_texts.specs.Text.{textOf, leBy, spellingOf as lettersBy}
 use Rattle.sorting.specs.Runs.{joined, runsOf}
 use Rattle.sorting.specs.RunLaws.{runs-alike}
 use Rattle.sorting.specs.DistinctLaws.{runs-distinct}

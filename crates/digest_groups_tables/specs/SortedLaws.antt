@@ -7,13 +7,13 @@ use mathlib.Core.List.{List, [], _∷_, map}
 use native.Mathlib.Omega.{arith}
 use lib.ListN.{length, getD, drop}
 use lib.Seq.{slice, length-slice, ext-getD}
-use Rattle.sorting_merge.specs.declared.text.By.the-variants.{Spelled}
-use Rattle.sorting_merge.specs.Sort.{sorted}
-use Rattle.sorting_merge.specs.SortLaws.{In, sorted-in, length-sorted}
-use Rattle.sorting_merge.specs.Text.{leBy}
-use Rattle.sorting_merge.specs.PartLaws.{at-slice}
-use Rattle.sorting.specs.Counting.{upFrom}
-use Rattle.sorting.specs.CountingLaws.{length-up, getD-up, up-in}
+use Rattle.lists.specs.Lists.{In, upFrom}
+use Rattle.lists.specs.RowLaws.{length-up, getD-up, up-in}
+use Rattle.sorting_texts.specs.declared.text.By.the-variants.{Spelled}
+use Rattle.sorting_spec.specs.Sort.{sorted}
+use Rattle.sorting_spec.specs.SortLaws.{sorted-in, length-sorted}
+use Rattle.sorting_texts.specs.Text.{leBy}
+use Rattle.sorting_spec.specs.PartLaws.{at-slice}
 use Rattle.sorting.specs.Runs.{runsOf}
 use Rattle.sorting.specs.Sorting.{fitting, arranged}
 use Rattle.sorting.specs.SortingLaws.{order-fitting, length-arranged, arranged-sorted, arranged-drop}

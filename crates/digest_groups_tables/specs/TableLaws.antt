@@ -9,7 +9,7 @@ use native.Mathlib.Nat.{min-le-left, min-le-right}
 use lib.ListN.{length, getD, take, drop, set, length-take, length-drop, length-set}
 use lib.Seq.{getD-take, getD-drop, getD-set-same, getD-set-other}
 use lib.Dec.{ltb, eqb}
-use Rattle.records.specs.Tests.{below?, same?}
+use Rattle.lists.specs.Tests.{below?, same?}
 use Rattle.letters.specs.Reversal.{lettersOf}
 use Rattle.letters.specs.ReversalLaws.{length-letters, letter-inner, letter-outer}
 use Rattle.digest_groups_tables.specs.declared.spelling.Spelling.{Spelling}

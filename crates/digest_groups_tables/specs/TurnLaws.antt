@@ -10,19 +10,19 @@ use lib.Dec.{leb, ltb}
 use borrow.Author.Tests.{le-leb}
 use lib.ListN.{length-append, length-drop, length, getD, take, drop, set, length-set, length-map}
 use lib.Seq.{sets, length-sets, length-take-le, slice, slice-cons, slice-empty, length-slice, ext-getD, getD-set-same, getD-set-other}
-use Rattle.records.specs.Tests.{below?, same?}
+use Rattle.lists.specs.Tests.{below?, same?}
 use Rattle.records.specs.Le.{le}
 use Rattle.records.specs.Room.{roomOf}
 use Rattle.records.specs.LeLaws.{length-le, sets-append}
 use Rattle.records.specs.StoreLaws.{stored, storedFrom}
-use Rattle.sorting_merge.specs.declared.text.By.the-variants.{Name, Spelled}
-use Rattle.sorting_merge.specs.Sort.{sorted}
-use Rattle.sorting_merge.specs.Text.{leBy}
+use Rattle.sorting_texts.specs.declared.text.By.the-variants.{Name, Spelled}
+use Rattle.sorting_spec.specs.Sort.{sorted}
+use Rattle.sorting_texts.specs.Text.{leBy}
 use Rattle.sorting.specs.Runs.{runLength, runsOf}
 use Rattle.sorting.specs.RunLaws.{runs-slice, run-some, run-most}
 use Rattle.sorting.specs.Sorting.{arranged}
 use Rattle.sorting.specs.SortingLaws.{length-arranged, arranged-before, arranged-between, arranged-sorted, arranged-drop}
-use Rattle.sorting_merge.specs.PartLaws.{at-slice, slice-same, slice-join, drop-same}
+use Rattle.sorting_spec.specs.PartLaws.{at-slice, slice-same, slice-join, drop-same}
 use Rattle.digest_groups_tables.specs.DigestGroups.{digestAt, protein, byName, proteinsOf, groupOf, groupsFrom, proteinList}
 use Rattle.digest_groups_tables.specs.Turns.{Replaced, Listed, Ready, orderOf, runsFrom, Turned, Ahead, Gathered}
 
@@ -208,10 +208,3 @@ ended letters bytes n lo w hi r h p =
 
 pub length-digest : (bytes : List ℕ) (i : ℕ) → 16 * i + 16 ≤ length bytes → length (digestAt bytes i) ≡ 16
 length-digest bytes i h = length-take-le 16 (drop (16 * i) bytes) (omega (arith, length-drop (16 * i) bytes))
-
-pub length-stored : (out : List ℕ) (g : ℕ) (r : List ℕ) → length (stored 24 1048576 out g r) ≡ length out
-length-stored out g r = go (ltb g (roomOf 24 1048576 out))
-  where
-    go : (b : Bool) → length (cond b (sets out (24 * g) r) out) ≡ length out
-    go true = length-sets out (24 * g) r
-    go false = refl

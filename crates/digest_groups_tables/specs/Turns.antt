@@ -7,8 +7,8 @@ use lib.ListN.{length, getD, take, drop}
 use lib.Seq.{slice}
 use Rattle.records.specs.Le.{le}
 use Rattle.records.specs.StoreLaws.{stored, storedFrom}
-use Rattle.sorting_merge.specs.declared.text.By.the-variants.{Spelled}
-use Rattle.sorting_merge.specs.Text.{leBy}
+use Rattle.sorting_texts.specs.declared.text.By.the-variants.{Spelled}
+use Rattle.sorting_texts.specs.Text.{leBy}
 use Rattle.sorting.specs.Runs.{runLength, runsOf}
 use Rattle.digest_groups_tables.specs.DigestGroups.{digestAt, digestsIn, gathered, proteinsOf, groupsFrom, proteinList}
 

@@ -8,9 +8,9 @@ use native.Mathlib.Omega.{arith}
 use native.Mathlib.Nat.{add-zero}
 use lib.ListN.{length, getD, drop, drop-of-length-le, List·getD-eq-default}
 use lib.Seq.{drop-cons}
-use Rattle.records.specs.Tests.{below?}
-use Rattle.sorting_merge.specs.Lex.{lexLe}
-use Rattle.sorting_merge.specs.LexLaws.{lex-lt, lex-gt, lex-eq}
+use Rattle.lists.specs.Tests.{below?}
+use Rattle.sorting_spec.specs.Lex.{lexLe}
+use Rattle.sorting_spec.specs.LexLaws.{lex-lt, lex-gt, lex-eq}
 use Rattle.digest_groups_tables.specs.Word.{packed, wordOf}
 
 -- each is a letter, A to Z

@@ -17,7 +17,7 @@ pub struct Spelling {
 fn place(bounds: &[u32], protein: u32, start: u32) -> usize
     ensures { λ r. ⌜ r ≡ getD (now (bounds .entry)) protein 0 + start ⌝ }
 {
-    let first = sorting_merge::number_at(bounds, protein as usize);
+    let first = sorting_texts::number_at(bounds, protein as usize);
     first as usize + start as usize
 }
 

@@ -10,7 +10,7 @@ use Rattle.records.specs.declared.refusal.Tested.{Tested}
 use Rattle.records.specs.declared.refusal.Tested.the-variants.{Passed, Refused as RefusedBy}
 use Rattle.records.specs.Le.{le, numberAt}
 use Rattle.records.specs.Outcome.{Outcome}
-use Rattle.records.specs.Cases.{Case, Hold, counted, refused, numbers, told}
+use Rattle.records.specs.Cases.{Case, Hold, answered, refused, numbers, told}
 use Rattle.records.specs.Room.{written}
 use Rattle.records.specs.Search.{seek}
 use Rattle.letters.specs.declared.letter_set.LetterSet.{LetterSet}
@@ -48,27 +48,27 @@ digesting letters e alphabet st bytes answer rows left = record {
 pub digestCases : List Case
 digestCases =
     -- P1: MAKCRDK, set KR, skip P, C side, missed 1, lengths 2 to 50
-    digesting (77 ∷ 65 ∷ 75 ∷ 67 ∷ 82 ∷ 68 ∷ 75 ∷ []) (enzyme (Set (set 132096)) (set 32768) C false) (set 67108863) (settings 1 2 50) 80 (counted 5) (row 0 3 0 0 0 0 9 ∷ row 3 5 0 0 3 0 9 ∷ row 5 7 0 0 1 0 9 ∷ row 0 5 1 0 0 0 9 ∷ row 3 7 1 0 1 0 9 ∷ []) 0
+    digesting (77 ∷ 65 ∷ 75 ∷ 67 ∷ 82 ∷ 68 ∷ 75 ∷ []) (enzyme (Set (set 132096)) (set 32768) C false) (set 67108863) (settings 1 2 50) 80 (answered 5) (row 0 3 0 0 0 0 9 ∷ row 3 5 0 0 3 0 9 ∷ row 5 7 0 0 1 0 9 ∷ row 0 5 1 0 0 0 9 ∷ row 3 7 1 0 1 0 9 ∷ []) 0
     -- P3: DADA, set D, N side, missed 1, from length 1
-    ∷ digesting (68 ∷ 65 ∷ 68 ∷ 65 ∷ []) (enzyme (Set (set 8)) (set 0) N false) (set 67108863) (settings 1 1 50) 32 (counted 2) (row 0 2 0 0 0 0 9 ∷ row 0 4 1 0 2 0 9 ∷ []) 0
+    ∷ digesting (68 ∷ 65 ∷ 68 ∷ 65 ∷ []) (enzyme (Set (set 8)) (set 0) N false) (set 67108863) (settings 1 1 50) 32 (answered 2) (row 0 2 0 0 0 0 9 ∷ row 0 4 1 0 2 0 9 ∷ []) 0
     -- P4: ACK, set KR, semi, missed 0, from length 1
-    ∷ digesting (65 ∷ 67 ∷ 75 ∷ []) (enzyme (Set (set 132096)) (set 0) C true) (set 67108863) (settings 0 1 50) 80 (counted 5) (row 0 3 0 0 2 0 9 ∷ row 0 1 0 1 0 0 9 ∷ row 1 3 0 1 1 0 9 ∷ row 0 2 0 1 0 0 9 ∷ row 2 3 0 1 1 0 9 ∷ []) 0
+    ∷ digesting (65 ∷ 67 ∷ 75 ∷ []) (enzyme (Set (set 132096)) (set 0) C true) (set 67108863) (settings 0 1 50) 80 (answered 5) (row 0 3 0 0 2 0 9 ∷ row 0 1 0 1 0 0 9 ∷ row 1 3 0 1 1 0 9 ∷ row 0 2 0 1 0 0 9 ∷ row 2 3 0 1 1 0 9 ∷ []) 0
     -- P5: AAC, none, lengths 1 to 2
-    ∷ digesting (65 ∷ 65 ∷ 67 ∷ []) (enzyme None (set 0) C false) (set 67108863) (settings 0 1 2) 64 (counted 4) (row 0 1 0 0 0 0 9 ∷ row 2 3 0 0 1 0 9 ∷ row 0 2 0 0 0 0 9 ∷ row 1 3 0 0 1 0 9 ∷ []) 0
+    ∷ digesting (65 ∷ 65 ∷ 67 ∷ []) (enzyme None (set 0) C false) (set 67108863) (settings 0 1 2) 64 (answered 4) (row 0 1 0 0 0 0 9 ∷ row 2 3 0 0 1 0 9 ∷ row 0 2 0 0 0 0 9 ∷ row 1 3 0 0 1 0 9 ∷ []) 0
     -- no room: the first records that fit
     ∷ digesting (77 ∷ 65 ∷ 75 ∷ 67 ∷ 82 ∷ 68 ∷ 75 ∷ []) (enzyme (Set (set 132096)) (set 32768) C false) (set 67108863) (settings 1 2 50) 79 (refused 11 0) (row 0 3 0 0 0 0 9 ∷ row 3 5 0 0 3 0 9 ∷ row 5 7 0 0 1 0 9 ∷ row 0 5 1 0 0 0 9 ∷ []) 15
     -- the skip set, on the C side
-    ∷ digesting (65 ∷ 75 ∷ 80 ∷ 65 ∷ 75 ∷ 65 ∷ []) (enzyme (Set (set 132096)) (set 32768) C false) (set 67108863) (settings 0 1 50) 32 (counted 2) (row 0 5 0 0 0 0 9 ∷ row 5 6 0 0 1 0 9 ∷ []) 0
+    ∷ digesting (65 ∷ 75 ∷ 80 ∷ 65 ∷ 75 ∷ 65 ∷ []) (enzyme (Set (set 132096)) (set 32768) C false) (set 67108863) (settings 0 1 50) 32 (answered 2) (row 0 5 0 0 0 0 9 ∷ row 5 6 0 0 1 0 9 ∷ []) 0
     -- the skip set, on the N side
-    ∷ digesting (65 ∷ 68 ∷ 80 ∷ 68 ∷ []) (enzyme (Set (set 32776)) (set 32768) N false) (set 67108863) (settings 0 1 50) 64 (counted 3) (row 0 1 0 0 0 0 9 ∷ row 1 3 0 0 3 0 9 ∷ row 3 4 0 0 1 0 9 ∷ []) 16
+    ∷ digesting (65 ∷ 68 ∷ 80 ∷ 68 ∷ []) (enzyme (Set (set 32776)) (set 32768) N false) (set 67108863) (settings 0 1 50) 64 (answered 3) (row 0 1 0 0 0 0 9 ∷ row 1 3 0 0 3 0 9 ∷ row 3 4 0 0 1 0 9 ∷ []) 16
     -- semi and missed together, N side
-    ∷ digesting (65 ∷ 75 ∷ 67 ∷ 75 ∷ []) (enzyme (Set (set 1024)) (set 0) N true) (set 67108863) (settings 1 1 3) 160 (counted 8) (row 0 1 0 0 0 0 9 ∷ row 1 3 0 0 3 0 9 ∷ row 3 4 0 0 1 0 9 ∷ row 0 3 1 0 0 0 9 ∷ row 1 4 1 0 1 0 9 ∷ row 2 3 0 1 3 0 9 ∷ row 0 2 1 1 0 0 9 ∷ row 2 4 1 1 1 0 9 ∷ []) 32
+    ∷ digesting (65 ∷ 75 ∷ 67 ∷ 75 ∷ []) (enzyme (Set (set 1024)) (set 0) N true) (set 67108863) (settings 1 1 3) 160 (answered 8) (row 0 1 0 0 0 0 9 ∷ row 1 3 0 0 3 0 9 ∷ row 3 4 0 0 1 0 9 ∷ row 0 3 1 0 0 0 9 ∷ row 1 4 1 0 1 0 9 ∷ row 2 3 0 1 3 0 9 ∷ row 0 2 1 1 0 0 9 ∷ row 2 4 1 1 1 0 9 ∷ []) 32
     -- "end", whatever side, skip set, semi and missed say
-    ∷ digesting (65 ∷ 75 ∷ 65 ∷ []) (enzyme End (set 1) N true) (set 67108863) (settings 2 1 50) 32 (counted 1) (row 0 3 0 0 2 0 9 ∷ []) 16
+    ∷ digesting (65 ∷ 75 ∷ 65 ∷ []) (enzyme End (set 1) N true) (set 67108863) (settings 2 1 50) 32 (answered 1) (row 0 3 0 0 2 0 9 ∷ []) 16
     -- an empty set means "none"
-    ∷ digesting (65 ∷ 67 ∷ []) (enzyme (Set (set 0)) (set 0) N true) (set 67108863) (settings 2 0 2) 64 (counted 3) (row 0 1 0 0 0 0 9 ∷ row 1 2 0 0 1 0 9 ∷ row 0 2 0 0 2 0 9 ∷ []) 16
+    ∷ digesting (65 ∷ 67 ∷ []) (enzyme (Set (set 0)) (set 0) N true) (set 67108863) (settings 2 0 2) 64 (answered 3) (row 0 1 0 0 0 0 9 ∷ row 1 2 0 0 1 0 9 ∷ row 0 2 0 0 2 0 9 ∷ []) 16
     -- the empty protein
-    ∷ digesting [] (enzyme (Set (set 1024)) (set 0) C true) (set 67108863) (settings 2 1 5) 16 (counted 0) [] 16
+    ∷ digesting [] (enzyme (Set (set 1024)) (set 0) C true) (set 67108863) (settings 2 1 5) 16 (answered 0) [] 16
     -- 2: AkA
     ∷ digesting (65 ∷ 107 ∷ 65 ∷ []) (enzyme (Set (set 1024)) (set 0) C false) (set 67108863) (settings 0 1 50) 16 (refused 2 1) [] 16
     -- 3 before 2: the cleave set
@@ -121,8 +121,8 @@ reversalCases =
     ∷ marking (row 5 5 0 0 3 0 9) (refused 9 0) (row 5 5 0 0 3 0 9)
     ∷ marking (le 4 5 ++ le 4 5) (refused 8 0) (le 4 5 ++ le 4 5)
     -- the letters of 1..5 of MACDEK, and of its decoy
-    ∷ spelling (77 ∷ 65 ∷ 67 ∷ 68 ∷ 69 ∷ 75 ∷ []) (row 1 5 0 0 3 0 9) 6 (counted 4) (65 ∷ 67 ∷ 68 ∷ 69 ∷ 170 ∷ 170 ∷ [])
-    ∷ spelling (77 ∷ 65 ∷ 67 ∷ 68 ∷ 69 ∷ 75 ∷ []) (row 1 5 0 0 3 1 9) 4 (counted 4) (65 ∷ 68 ∷ 67 ∷ 69 ∷ [])
+    ∷ spelling (77 ∷ 65 ∷ 67 ∷ 68 ∷ 69 ∷ 75 ∷ []) (row 1 5 0 0 3 0 9) 6 (answered 4) (65 ∷ 67 ∷ 68 ∷ 69 ∷ 170 ∷ 170 ∷ [])
+    ∷ spelling (77 ∷ 65 ∷ 67 ∷ 68 ∷ 69 ∷ 75 ∷ []) (row 1 5 0 0 3 1 9) 4 (answered 4) (65 ∷ 68 ∷ 67 ∷ 69 ∷ [])
     -- no room: the first letters that fit
     ∷ spelling (77 ∷ 65 ∷ 67 ∷ 68 ∷ 69 ∷ 75 ∷ []) (row 1 5 0 0 3 1 9) 3 (refused 11 0) (65 ∷ 68 ∷ 67 ∷ [])
     -- 9: the end is not within the protein

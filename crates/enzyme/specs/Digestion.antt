@@ -5,11 +5,11 @@ use mathlib.Core.Bool.{Bool, cond, not, _&&_, _||_}
 use mathlib.Core.List.{List, [], _∷_, map}
 use lib.ListN.{length}
 use lib.Dec.{ltb}
-use Rattle.records.specs.declared.refusal.Refusal.the-variants.{Size, Letter, Alphabet, Room}
+use Rattle.records.specs.declared.refusal.Refusal.the-variants.{Size, Letter, Alphabet}
 use Rattle.records.specs.declared.refusal.Tested.{Tested}
 use Rattle.records.specs.declared.refusal.Tested.the-variants.{Passed, Refused}
 use Rattle.records.specs.Outcome.{Outcome, outcome, unlessRefused, only}
-use Rattle.records.specs.Room.{fits, fitted}
+use Rattle.records.specs.Room.{counted}
 use Rattle.letters.specs.declared.letter_set.LetterSet.{LetterSet}
 use Rattle.letters.specs.Letters.{empty, proper, subset, firstBad}
 use Rattle.enzyme_cuts.specs.declared.kinds.Kind.{Kind}
@@ -19,7 +19,7 @@ use Rattle.enzyme_cuts.specs.Cutting.{digests}
 use Rattle.enzyme_keep.specs.Digests.{recordOf}
 use Rattle.enzyme.specs.declared.settings.Settings.{Settings}
 use Rattle.records.specs.declared.refusal.Counted.{Counted}
-use Rattle.records.specs.declared.refusal.Counted.the-variants.{Count, Refused as No}
+use Rattle.records.specs.declared.refusal.Counted.the-variants.{Refused as No}
 
 -- 1: a protein has at most 65,536 letters, missed is at most 16, minimum and maximum at most 65,536
 abbrev pub tooLarge : List ℕ → Settings → Bool
@@ -50,13 +50,10 @@ tested s alphabet e st =
 abbrev pub digestRecords : Enzyme → ℕ → ℕ → ℕ → ℕ → List ℕ → List (List ℕ)
 digestRecords e missed minimum maximum protein s = map (recordOf (length s) protein) (digests e missed minimum maximum s)
 
--- then 11: a list of at most 1,048,576 records of 16 bytes, and how many there are, or that there is no room for all
-abbrev pub listed : List ℕ → List (List ℕ) → Outcome Counted
-listed old rs = outcome (cond (fits 16 1048576 old rs) (Count (length rs)) (No Room)) (fitted 16 1048576 old rs ∷ [])
-
+-- then 11: a list of at most 1,048,576 records of 16 bytes
 abbrev pub digestOutcome : List ℕ → LetterSet → Enzyme → Settings → ℕ → List ℕ → Outcome Counted
 digestOutcome s alphabet e st protein old =
-    unlessRefused (tested s alphabet e st) No (old ∷ []) (listed old (digestRecords e (st .missed) (st .minimum) (st .maximum) protein s))
+    unlessRefused (tested s alphabet e st) No (old ∷ []) (counted 16 1048576 old (digestRecords e (st .missed) (st .minimum) (st .maximum) protein s))
 
 -- no second answer and no second contents meet the contract of `digest`
 pub digest-only : (s : List ℕ) (alphabet : LetterSet) (e : Enzyme) (st : Settings) (protein : ℕ) (old : List ℕ) (r q : Counted) (k l : List ℕ)

@@ -2,21 +2,21 @@
 -- digest record with decoy 1 has its range's letters, all but first and last reversed.
 use Prim.Native.Nat.{ℕ, _-_}
 use mathlib.Core.Path.{_≡_}
-use mathlib.Core.Bool.{Bool, cond, _&&_, _||_}
+use mathlib.Core.Bool.{cond, _&&_, _||_}
 use mathlib.Core.List.{List, [], _∷_}
 use lib.ListN.{length, take, drop, getD, set}
 use lib.Dec.{ltb, leb, eqb}
-use Rattle.records.specs.declared.refusal.Refusal.the-variants.{Size, Letter, Length, Field, Room}
+use Rattle.records.specs.declared.refusal.Refusal.the-variants.{Size, Letter, Length, Field}
 use Rattle.records.specs.declared.refusal.Tested.{Tested}
 use Rattle.records.specs.declared.refusal.Tested.the-variants.{Passed, Refused}
 use Rattle.records.specs.Le.{numberAt}
 use Rattle.records.specs.Outcome.{Outcome, outcome, unlessRefused, only}
-use Rattle.records.specs.Room.{fits, fitted, singly}
+use Rattle.records.specs.Room.{singly, counted}
 use Rattle.letters.specs.Letters.{firstBad}
 use Rattle.enzyme_keep.specs.Digests.{goodRecord}
 use Rattle.letters.specs.Reversal.{reversed, lettersOf}
 use Rattle.records.specs.declared.refusal.Counted.{Counted}
-use Rattle.records.specs.declared.refusal.Counted.the-variants.{Count, Refused as No}
+use Rattle.records.specs.declared.refusal.Counted.the-variants.{Refused as No}
 
 -- ---- of letters
 
@@ -57,11 +57,8 @@ spellingTested s r =
     (Refused Length))
 
 -- then 11: a text's record is a byte
-abbrev pub spelled : List ℕ → List ℕ → Outcome Counted
-spelled old text = outcome (cond (fits 1 65536 old (singly text)) (Count (length text)) (No Room)) (fitted 1 65536 old (singly text) ∷ [])
-
 abbrev pub lettersOutcome : List ℕ → List ℕ → List ℕ → Outcome Counted
-lettersOutcome s r old = unlessRefused (spellingTested s r) No (old ∷ []) (spelled old (recordLetters s r))
+lettersOutcome s r old = unlessRefused (spellingTested s r) No (old ∷ []) (counted 1 65536 old (singly (recordLetters s r)))
 
 -- ---- no second answer and no second contents meet the contracts
 

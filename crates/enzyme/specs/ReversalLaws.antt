@@ -9,10 +9,10 @@ use lib.ListN.{length, getD, set, length-set}
 use lib.Seq.{getD-set-same, getD-set-other, ext-getD}
 use lib.Dec.{ltb, eqb}
 use borrow.Author.Tests.{eqb-false}
+use Rattle.lists.specs.Tests.{below?, same?}
 use Rattle.records.specs.declared.refusal.Refusal.the-variants.{Size}
 use Rattle.records.specs.declared.refusal.Tested.{Tested}
 use Rattle.records.specs.declared.refusal.Tested.the-variants.{Passed, Refused}
-use Rattle.records.specs.Tests.{below?, same?}
 use Rattle.letters.specs.Reversal.{reversed}
 use Rattle.letters.specs.ReversalLaws.{length-reversed, reversed-first, reversed-last, reversed-inner}
 use Rattle.enzyme.specs.Reversal.{stretchTested}

@@ -12,10 +12,10 @@ use lib.Dec.{ltb}
 use borrow.Author.Tests.{ltb-true, ltb-false}
 use Rattle.records.specs.declared.refusal.Refusal.the-variants.{Room}
 use Rattle.records.specs.Outcome.{Outcome, outcome}
-use Rattle.records.specs.Room.{written}
+use Rattle.records.specs.Room.{written, counted}
 use Rattle.records.specs.RoomLaws.{Sized, Standing, written-none, written-more, standing-length, standing-done, standing-full}
 use Rattle.enzyme_cuts.specs.declared.kinds.Enzyme.{Enzyme}
-use Rattle.enzyme_cuts.specs.Cutting.{Range, keep, wanted, digests}
+use Rattle.enzyme_cuts.specs.Cutting.{Range, wanted, digests, kept}
 use Rattle.enzyme_cuts.specs.Work.{Inside}
 use Rattle.enzyme_cuts.specs.InsideLaws.{inside-append}
 use Rattle.enzyme_keep.specs.declared.offering.Step.{Step}
@@ -29,7 +29,7 @@ use Rattle.enzyme_ways.specs.Ways.{way}
 use Rattle.enzyme_ways.specs.WayLaws.{way-keeps, way-inside}
 use Rattle.records.specs.declared.refusal.Counted.{Counted}
 use Rattle.records.specs.declared.refusal.Counted.the-variants.{Count, Refused}
-use Rattle.enzyme.specs.Digestion.{listed, digestRecords}
+use Rattle.enzyme.specs.Digestion.{digestRecords}
 
 -- the answer to a whole run
 abbrev pub ended : After → Outcome Counted
@@ -44,12 +44,12 @@ sized n p [] = tt
 sized n p (k ∷ ks) = (length-record n p k, sized n p ks)
 
 -- what is kept stays, in order
-extends : (s : List ℕ) (mn mx : ℕ) (ks rest : List Range) → (more : List Range) × (foldl (keep s mn mx) ks rest ≡ ks ++ more)
+extends : (s : List ℕ) (mn mx : ℕ) (ks rest : List Range) → (more : List Range) × (foldl (kept s mn mx) ks rest ≡ ks ++ more)
 extends s mn mx ks [] = ([], sym (append-nil ks))
 extends s mn mx ks (r ∷ rest) = go (wanted s mn mx ks r) refl (λ qs. extends s mn mx qs rest)
   where
-    go : (w : Bool) → wanted s mn mx ks r ≡ w → ((qs : List Range) → (more : List Range) × (foldl (keep s mn mx) qs rest ≡ qs ++ more))
-        → (more : List Range) × (foldl (keep s mn mx) (keep s mn mx ks r) rest ≡ ks ++ more)
+    go : (w : Bool) → wanted s mn mx ks r ≡ w → ((qs : List Range) → (more : List Range) × (foldl (kept s mn mx) qs rest ≡ qs ++ more))
+        → (more : List Range) × (foldl (kept s mn mx) (kept s mn mx ks r) rest ≡ ks ++ more)
     go true e ih = let x = ih (ks ++ (r ∷ [])) in (r ∷ x .0, rw e (x .1 ∙ append-assoc ks (r ∷ []) (x .0)))
     go false e ih = let x = ih ks in (x .0, rw e (x .1))
 
@@ -72,7 +72,7 @@ record State (run : Run) (rest : List Range) (out : List ℕ) (count : ℕ) : Ty
   number : count ≡ length ks
   free : count ≤ room (run .old)
   inside : Inside (length (run .s)) ks
-  ahead : foldl (keep (run .s) (run .terms .minimum) (run .terms .maximum)) ks rest ≡ run .all
+  ahead : foldl (kept (run .s) (run .terms .minimum) (run .terms .maximum)) ks rest ≡ run .all
 
 module _ (run : Run) where
   -- the records that are written, and those behind them
@@ -87,7 +87,7 @@ module _ (run : Run) where
       (stands (st .ks) [] out count (st .bytes) (st .number) (st .free))
 
   -- the whole list fits
-  finished : (out : List ℕ) (count : ℕ) → State run [] out count → outcome (Count count) (out ∷ []) ≡ listed (run .old) (recs run (run .all))
+  finished : (out : List ℕ) (count : ℕ) → State run [] out count → outcome (Count count) (out ∷ []) ≡ counted 16 1048576 (run .old) (recs run (run .all))
   finished out count st =
       let e : st .ks ++ [] ≡ run .all = append-nil (st .ks) ∙ st .ahead in
       let x = standing-done 16 1048576 (run .old) (recs run (st .ks ++ [])) (sized (length (run .s)) (run .terms .protein) (st .ks ++ [])) out count (stands (st .ks) [] out count (st .bytes) (st .number) (st .free)) in
@@ -132,7 +132,7 @@ module _ (run : Run) where
         record { ks = st .ks; bytes = q ∙ st .bytes; ranges = ap₂ rangesIn c q ∙ st .ranges; number = c ∙ st .number; free = omega (arith, c, st .free); inside = st .inside; ahead = rw e at (st .ahead) }
 
     full : (w b : Bool) → wanted (run .s) (run .terms .minimum) (run .terms .maximum) (st .ks) r ≡ w → ltb count (room (run .old)) ≡ b
-        → (out′ : List ℕ) → after Full out′ ≡ decided w b count out new → outcome (Refused Room) (out′ ∷ []) ≡ listed (run .old) (recs run (run .all))
+        → (out′ : List ℕ) → after Full out′ ≡ decided w b count out new → outcome (Refused Room) (out′ ∷ []) ≡ counted 16 1048576 (run .old) (recs run (run .all))
     unfolding new
     full true true e f out′ g =
         let p : Full ≡ Kept (count + 1) = ap (λ (x : After). x .step) g in
@@ -151,15 +151,15 @@ module _ (run : Run) where
         absurd (omega arith)
 
     stepped : (x : Step) (o : List ℕ) → after x o ≡ offered (run .s) (run .terms) r count out
-        → ((o : List ℕ) (n : ℕ) → State run rest o n → ended (offers (run .s) (run .terms) rest n o) ≡ listed (run .old) (recs run (run .all)))
-        → ended (andThen (after x o) (offers (run .s) (run .terms) rest)) ≡ listed (run .old) (recs run (run .all))
+        → ((o : List ℕ) (n : ℕ) → State run rest o n → ended (offers (run .s) (run .terms) rest n o) ≡ counted 16 1048576 (run .old) (recs run (run .all)))
+        → ended (andThen (after x o) (offers (run .s) (run .terms) rest)) ≡ counted 16 1048576 (run .old) (recs run (run .all))
     unfolding new offered
     stepped (Kept n) o f ih = ih o n (kept _ _ refl refl o n (rw (st .ranges, same-length (r ∷ rest) out count st) at f))
     stepped Full o f ih = full _ _ refl refl o (rw (st .ranges, same-length (r ∷ rest) out count st) at f)
 
   -- a run from any state ends as the definition says
   run-ends : (rest : List Range) (out : List ℕ) (count : ℕ) → State run rest out count → Inside (length (run .s)) rest
-      → ended (offers (run .s) (run .terms) rest count out) ≡ listed (run .old) (recs run (run .all))
+      → ended (offers (run .s) (run .terms) rest count out) ≡ counted 16 1048576 (run .old) (recs run (run .all))
   run-ends [] out count st i = finished out count st
   run-ends (r ∷ rest) out count st i =
       let a = offered (run .s) (run .terms) r count out in
@@ -167,7 +167,7 @@ module _ (run : Run) where
 
 -- what the code offers gives what the definition says
 pub run-all : (e : Enzyme) (missed : ℕ) (t : Terms) (s old : List ℕ) → length s ≤ 65536
-    → ended (offers s t (way e missed (t .minimum) (t .maximum) s) 0 old) ≡ listed old (digestRecords e missed (t .minimum) (t .maximum) (t .protein) s)
+    → ended (offers s t (way e missed (t .minimum) (t .maximum) s) 0 old) ≡ counted 16 1048576 old (digestRecords e missed (t .minimum) (t .maximum) (t .protein) s)
 run-all e missed t s old small =
     let run : Run = record { s = s; terms = t; old = old; all = digests e missed (t .minimum) (t .maximum) s; small = small } in
     let cs = way e missed (t .minimum) (t .maximum) s in

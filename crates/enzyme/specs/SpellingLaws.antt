@@ -1,26 +1,26 @@
 -- Laws of the letters of a digest record. Assumes nothing.
 use Prim.Native.Nat.{ℕ, suc, _+_, _-_, _≤_, _<_}
-use mathlib.Core.Path.{_≡_, refl, sym, ap, _∙_}
+use mathlib.Core.Path.{_≡_, refl, ap}
 use mathlib.Core.Bool.{Bool, true, false, cond, _&&_}
 use mathlib.Core.List.{List, [], _∷_}
 use native.Mathlib.Omega.{arith}
 use native.Mathlib.Nat.{one-mul}
 use native.Mathlib.Numerals.{add-one}
-use lib.ListN.{length, drop, getD, set, drop-of-length-le, length-map}
+use lib.ListN.{length, drop, getD, set, drop-of-length-le}
 use lib.Seq.{drop-cons}
 use lib.Dec.{ltb, leb, eqb}
 use borrow.Author.Tests.{ltb-true, ltb-false, leb-true}
+use Rattle.lists.specs.Tests.{both}
 use Rattle.records.specs.declared.refusal.Refusal.the-variants.{Size, Letter, Length, Field, Room}
 use Rattle.records.specs.declared.refusal.Tested.the-variants.{Passed, Refused as RefusedBy}
 use Rattle.records.specs.Le.{numberAt}
 use Rattle.records.specs.Outcome.{outcome}
-use Rattle.records.specs.Room.{roomOf, singly}
+use Rattle.records.specs.Room.{roomOf, singly, counted}
 use Rattle.records.specs.RoomLaws.{Sized, Standing, standing-none, standing-more, standing-done, standing-full, standing-length}
-use Rattle.records.specs.Tests.{both}
 use Rattle.letters.specs.Letters.{firstBad}
 use Rattle.records.specs.declared.refusal.Counted.the-variants.{Count, Refused}
 use Rattle.enzyme_keep.specs.Digests.{goodRecord}
-use Rattle.enzyme.specs.Reversal.{spellingTested, spelled}
+use Rattle.enzyme.specs.Reversal.{spellingTested}
 
 -- ---- the letters written one after the other
 
@@ -47,16 +47,15 @@ module _ (old text : List ℕ) where
       let x = standing-more 1 65536 old (singly text) (sized text) (getD text i 0 ∷ []) (singly (drop (suc i) text)) out i (rw (ahead i h) at s) g in
       rw (add-one i) (rw (one-mul i, add-one i) at x)
 
-  pub spelling-full : (i : ℕ) (out : List ℕ) → Spelling i out → i < length text → roomOf 1 65536 old ≤ i → outcome (Refused Room) (out ∷ []) ≡ spelled old text
+  pub spelling-full : (i : ℕ) (out : List ℕ) → Spelling i out → i < length text → roomOf 1 65536 old ≤ i → outcome (Refused Room) (out ∷ []) ≡ counted 1 65536 old (singly text)
   spelling-full i out s h g =
       let x = standing-full 1 65536 old (singly text) (sized text) (getD text i 0 ∷ []) (singly (drop (suc i) text)) out i (rw (ahead i h) at s) g in
       rw (x .1) (rw (← x .0))
 
-  pub spelling-done : (i : ℕ) (out : List ℕ) → Spelling i out → length text ≤ i → outcome (Count i) (out ∷ []) ≡ spelled old text
+  pub spelling-done : (i : ℕ) (out : List ℕ) → Spelling i out → length text ≤ i → outcome (Count i) (out ∷ []) ≡ counted 1 65536 old (singly text)
   spelling-done i out s h =
       let x = standing-done 1 65536 old (singly text) (sized text) out i (rw (drop-of-length-le text h) at s) in
-      let n : length text ≡ i = sym (x .2 ∙ length-map text (λ (b : ℕ). b ∷ [])) in
-      rw (x .1, n) (rw (← x .0))
+      rw (x .1, ← x .2) (rw (← x .0))
 
 -- ---- what is known where the tests passed
 

@@ -7,10 +7,10 @@ use native.Mathlib.Omega.{arith}
 use lib.ListN.{length}
 use lib.Dec.{ltb}
 use borrow.Author.Tests.{ltb-false}
+use Rattle.lists.specs.Tests.{neither}
 use Rattle.records.specs.declared.refusal.Refusal.the-variants.{Size}
 use Rattle.records.specs.declared.refusal.Tested.{Tested}
 use Rattle.records.specs.declared.refusal.Tested.the-variants.{Passed, Refused}
-use Rattle.records.specs.Tests.{neither}
 use Rattle.letters.specs.declared.letter_set.LetterSet.{LetterSet}
 use Rattle.enzyme_cuts.specs.declared.kinds.Enzyme.{Enzyme}
 use Rattle.enzyme.specs.declared.settings.Settings.{Settings}

@@ -13,7 +13,8 @@ ghost use mathlib.Core.List.{[], _∷_};
 ghost use Prim.Native.Nat.{_≤_};
 ghost use lib.ListN.{length};
 ghost use Rattle.records.specs.Outcome.{outcome};
-ghost use Rattle.enzyme.specs.Digestion.{listed, digestRecords, digestOutcome};
+ghost use Rattle.records.specs.Room.{counted};
+ghost use Rattle.enzyme.specs.Digestion.{digestRecords, digestOutcome};
 
 // The digests of letters that are in order.
 fn digest_passed(
@@ -24,7 +25,7 @@ fn digest_passed(
     out: &mut [u8],
 ) -> Counted
     requires { ⌜ (length (now letters) ≤ 65536) × (missed ≤ 16) × (terms .maximum ≤ 65536) ⌝ }
-    ensures { λ r. ⌜ outcome r (now (out .exit) ∷ []) ≡ listed (now (out .entry)) (digestRecords enzyme missed (terms .minimum) (terms .maximum) (terms .protein) (now (letters .entry))) ⌝ }
+    ensures { λ r. ⌜ outcome r (now (out .exit) ∷ []) ≡ counted 16 1048576 (now (out .entry)) (digestRecords enzyme missed (terms .minimum) (terms .maximum) (terms .protein) (now (letters .entry))) ⌝ }
 {
     let Step::Kept(k) = enzyme_ways::offer_all(letters, enzyme, missed, terms, out) else {
         return Counted::Refused(Refusal::Room);

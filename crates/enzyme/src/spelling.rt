@@ -9,12 +9,13 @@ ghost use Prim.Native.Nat.{_≤_, _<_};
 ghost use lib.ListN.{length};
 ghost use Rattle.records.specs.Outcome.{outcome};
 ghost use Rattle.letters.specs.Reversal.{lettersOf};
-ghost use Rattle.enzyme.specs.Reversal.{spellingTested, spelled, lettersOutcome};
+ghost use Rattle.records.specs.Room.{counted, singly};
+ghost use Rattle.enzyme.specs.Reversal.{spellingTested, lettersOutcome};
 
 // Writes a range's letters, a decoy's reversed, as far as there is room.
 fn spell(part: &[u8], decoy: bool, out: &mut [u8]) -> Counted
     requires { ⌜ length (now part) ≤ 65536 ⌝ }
-    ensures { λ r. ⌜ outcome r (now (out .exit) ∷ []) ≡ spelled (now (out .entry)) (lettersOf decoy (now (part .entry))) ⌝ }
+    ensures { λ r. ⌜ outcome r (now (out .exit) ∷ []) ≡ counted 1 65536 (now (out .entry)) (singly (lettersOf decoy (now (part .entry)))) ⌝ }
 {
     let room = records::room_for(out.len(), 1, 65536);
     let mut i = 0;

@@ -1,9 +1,10 @@
 -- Document 01, "Cutting": base sites, windows, semi sites, and the digests that are kept of them.
 use Prim.Native.Nat.{ℕ, zero, suc, _+_, _-_}
-use mathlib.Core.Bool.{Bool, true, false, cond, not, _&&_, _||_}
+use mathlib.Core.Bool.{Bool, false, cond, not, _&&_, _||_}
 use mathlib.Core.List.{List, [], _∷_, _++_, foldl}
 use lib.ListN.{length, take, drop}
 use lib.Dec.{leb, eqb}
+use Rattle.lists.specs.Lists.{same}
 use Rattle.letters.specs.declared.letter_set.LetterSet.{LetterSet}
 use Rattle.letters.specs.Letters.{has}
 use Rattle.enzyme_cuts.specs.declared.kinds.Side.{Side}
@@ -134,13 +135,6 @@ sitesOf (Set cleave) e missed minimum maximum s =
 abbrev pub candidates : Enzyme → ℕ → ℕ → ℕ → List ℕ → List Range
 candidates e missed minimum maximum s = sitesOf (meant (e .kind)) e missed minimum maximum s
 
--- two lists of bytes are equal
-abbrev pub same : List ℕ → List ℕ → Bool
-same [] [] = true
-same [] (y ∷ ys) = false
-same (x ∷ xs) [] = false
-same (x ∷ xs) (y ∷ ys) = eqb x y && same xs ys
-
 -- the letters of a range
 abbrev pub part : List ℕ → Range → List ℕ
 part s r = take (r .to - r .from) (drop (r .from) s)
@@ -158,9 +152,10 @@ within minimum maximum len = leb 1 len && leb minimum len && leb len maximum
 abbrev pub wanted : List ℕ → ℕ → ℕ → List Range → Range → Bool
 wanted s minimum maximum ks r = within minimum maximum (r .to - r .from) && not (seenIn s ks (part s r))
 
-abbrev pub keep : List ℕ → ℕ → ℕ → List Range → Range → List Range
-keep s minimum maximum ks r = cond (wanted s minimum maximum ks r) (ks ++ (r ∷ [])) ks
+-- the kept, with r where it is wanted
+abbrev pub kept : List ℕ → ℕ → ℕ → List Range → Range → List Range
+kept s minimum maximum ks r = cond (wanted s minimum maximum ks r) (ks ++ (r ∷ [])) ks
 
 -- the digests of the letters s
 abbrev pub digests : Enzyme → ℕ → ℕ → ℕ → List ℕ → List Range
-digests e missed minimum maximum s = foldl (keep s minimum maximum) [] (candidates e missed minimum maximum s)
+digests e missed minimum maximum s = foldl (kept s minimum maximum) [] (candidates e missed minimum maximum s)

@@ -1,38 +1,17 @@
 -- Laws of comparison. Assumes nothing.
-use Prim.Native.Nat.{ℕ, suc, _+_, _*_, _/_, _%_, _≤_, _<_}
-use mathlib.Core.Path.{_≡_, refl, sym, ap, ap₂, _∙_}
-use mathlib.Core.Bool.{Bool, true, false, and-false, true≢false}
+use Prim.Native.Nat.{ℕ, _+_, _*_, _/_, _%_, _≤_, _<_}
+use mathlib.Core.Path.{_≡_, refl, sym, ap, _∙_}
+use mathlib.Core.Bool.{Bool, true, false}
 use mathlib.Core.Logic.{_⊎_, inl, inr, ⊎-elim}
-use mathlib.Core.List.{List, [], _∷_}
+use mathlib.Core.List.{List}
 use native.Mathlib.Omega.{arith}
 use lib.ListN.{length, getD}
 use lib.Seq.{ext-getD}
-use lib.Dec.{eqb}
-use borrow.Author.Tests.{eq-eqb, eqb-true}
+use Rattle.lists.specs.SameLaws.{same-refl, same-eq}
+use Rattle.lists.specs.Tests.{below?, same?}
+use Rattle.lists.specs.Lists.{same}
 use Rattle.records.specs.Le.{numberAt}
 use Rattle.records.specs.LeLaws.{Bytes, number-four}
-use Rattle.records.specs.Tests.{both, below?, same?}
-use Rattle.enzyme_cuts.specs.Cutting.{same}
-
--- a list is the same as itself
-pub same-self : (a : List ℕ) → same a a ≡ true
-same-self [] = refl
-same-self (x ∷ xs) = rw (eq-eqb x x refl, same-self xs)
-
--- and lists that are the same are equal
-pub same-eq : (a b : List ℕ) → same a b ≡ true → a ≡ b
-same-eq [] [] e = refl
-same-eq [] (y ∷ ys) e = absurd (true≢false (sym e))
-same-eq (x ∷ xs) [] e = absurd (true≢false (sym e))
-same-eq (x ∷ xs) (y ∷ ys) e =
-    let p = both (eqb x y) (same xs ys) e in
-    ap₂ (λ (h : ℕ) (t : List ℕ). h ∷ t) (eqb-true _ _ (p .0)) (same-eq xs ys (p .1))
-
-pub same-short : (a b : List ℕ) → (length a ≡ length b → ⊥) → same a b ≡ false
-same-short [] [] h = absurd (h refl)
-same-short [] (y ∷ ys) h = refl
-same-short (x ∷ xs) [] h = refl
-same-short (x ∷ xs) (y ∷ ys) h = rw (same-short xs ys (λ e. h (ap suc e))) (and-false (eqb x y))
 
 -- ---- a comparison four bytes at a time: it stops, goes on, ends
 
@@ -78,4 +57,4 @@ alike-on a b i p q h agree j l =
 pub alike-all : (a b : List ℕ) (i : ℕ) → length a ≡ length b → length a ≤ i → Alike a b i → same a b ≡ true
 alike-all a b i l h agree =
     let e : a ≡ b = ext-getD 0 a b l (λ j g. agree j (omega arith)) in
-    rw e (same-self b)
+    rw e (same-refl b)

@@ -1,6 +1,6 @@
 // Comparison of stretches.
 ghost use mathlib.Core.Path.{_≡_};
-ghost use Rattle.enzyme_cuts.specs.Cutting.{same};
+ghost use Rattle.lists.specs.Lists.{same};
 
 // Whether two slices hold the same bytes, four at a time: what lies past the end counts as 0 in both.
 pub fn equal(a: &[u8], b: &[u8]) -> bool

@@ -6,7 +6,7 @@ use mathlib.Core.List.{List, [], _∷_, foldl, Sublistᴰ, Sublistᴰ·refl, Sub
 use native.Mathlib.Omega.{arith}
 use lib.ListN.{length}
 use Rattle.enzyme_cuts.specs.declared.kinds.Knife.{Knife}
-use Rattle.enzyme_cuts.specs.Cutting.{Range, setSites, windowsFrom, keep}
+use Rattle.enzyme_cuts.specs.Cutting.{Range, setSites, windowsFrom, kept}
 use Rattle.enzyme_cuts.specs.Work.{Inside}
 use Rattle.enzyme_keep.specs.declared.offering.Terms.{Terms}
 use Rattle.enzyme_keep.specs.Steps.{offers}
@@ -69,7 +69,7 @@ module _ (f : ℕ → ℕ) (k : Knife) (missed : ℕ) (s : List ℕ) (rep : Repe
       let a = once-inside k true missed s in
       rw e (fresh-same s mn mx (pieces k s) (joined-pieces k s) f rep (suc missed) (rw e at a) [])
 
-  pub fresh-keeps : (mn mx : ℕ) → foldl (keep s mn mx) [] (fresh f k missed s) ≡ foldl (keep s mn mx) [] (once k true missed s)
+  pub fresh-keeps : (mn mx : ℕ) → foldl (kept s mn mx) [] (fresh f k missed s) ≡ foldl (kept s mn mx) [] (once k true missed s)
   fresh-keeps mn mx =
       kept-firsts s mn mx (fresh f k missed s) (fresh-inside f k missed s) ∙ sym (fresh-firsts mn mx) ∙ sym (kept-firsts s mn mx (once k true missed s) (once-inside k true missed s))
 

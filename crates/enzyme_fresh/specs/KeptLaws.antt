@@ -9,7 +9,7 @@ use lib.ListN.{length, take, drop, drop-of-length-le}
 use lib.Seq.{drop-cons}
 use lib.Dec.{ltb}
 use borrow.Author.Tests.{ltb-true}
-use Rattle.records.specs.Tests.{below?}
+use Rattle.lists.specs.Tests.{below?}
 use Rattle.enzyme_cuts.specs.Cutting.{Range, part, windowsFrom}
 use Rattle.enzyme_cuts.specs.Work.{Inside}
 use Rattle.enzyme_windows.specs.Pieces.{joined, placed}

@@ -4,8 +4,9 @@ use mathlib.Core.Path.{_≡_, refl, _∙_}
 use mathlib.Core.Bool.{true, false, and-false, or-true}
 use mathlib.Core.List.{List, [], _∷_, _++_, map}
 use lib.ListN.{length}
-use Rattle.enzyme_cuts.specs.Cutting.{Range, same, part, seenIn, within, wanted}
-use Rattle.enzyme_cuts.specs.SameLaws.{same-self}
+use Rattle.lists.specs.Lists.{same}
+use Rattle.lists.specs.SameLaws.{same-refl}
+use Rattle.enzyme_cuts.specs.Cutting.{Range, part, seenIn, within, wanted}
 use Rattle.enzyme_cuts.specs.Work.{Inside}
 use Rattle.enzyme_windows.specs.LookedLaws.{looked, firsts, part-length, agree-more, firsts-agree}
 
@@ -26,7 +27,7 @@ module _ (s : List ℕ) where
 
   pub told-new : (ls rs : List Range) → Told (looked ls rs) (map (part s) rs)
   told-new ls [] = tt
-  told-new ls (r ∷ rs) = (told-old (r ∷ ls) rs (part s r ∷ []) (rw (same-self (part s r)) refl, tt) .0, told-new (r ∷ ls) rs)
+  told-new ls (r ∷ rs) = (told-old (r ∷ ls) rs (part s r ∷ []) (rw (same-refl (part s r)) refl, tt) .0, told-new (r ∷ ls) rs)
 
   pub leave-out : (mn mx : ℕ) (ls ys zs : List Range) → Inside (length s) (ys ++ zs) → Told ls (map (part s) ys) → firsts s mn mx ls (ys ++ zs) ≡ firsts s mn mx ls zs
   leave-out mn mx ls [] zs i h = refl

@@ -7,9 +7,9 @@ use native.Mathlib.Omega.{arith}
 use native.Mathlib.Numerals.{add-one}
 use lib.ListN.{length, take, drop, getD, set, length-append}
 use lib.Seq.{sets, sets-eq, getD-at, length-sets, set-set, set-comm, drop-at, drop-drop, getD-drop, length-take-le}
+use Rattle.lists.specs.Tests.{below?}
 use Rattle.records.specs.Le.{le, value, numberAt}
 use Rattle.records.specs.LeLaws.{value-le, length-le, Apart, getD-sets-other, number-apart}
-use Rattle.records.specs.Tests.{below?}
 use Rattle.enzyme_cuts.specs.Cutting.{Range, range}
 use Rattle.enzyme_cuts.specs.Work.{Inside}
 use Rattle.enzyme_keep.specs.Digests.{positionOf, recordOf}

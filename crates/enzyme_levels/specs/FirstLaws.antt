@@ -10,8 +10,7 @@ use native.Mathlib.Numerals.{add-one}
 use borrow.Author.Tests.{lt-ltb, ltb-true}
 use lib.Dec.{ltb}
 use lib.ListN.{length, getD, take, drop, length-append, take-append-drop}
-use Rattle.records.specs.Tests.{same?, below?, both}
-use Rattle.sorting_merge.specs.SortLaws.{clash}
+use Rattle.lists.specs.Tests.{same?, below?, both, clash}
 use Rattle.enzyme_cuts.specs.declared.kinds.Knife.{Knife}
 use Rattle.enzyme_windows.specs.Pieces.{joined, pieces}
 use Rattle.enzyme_windows.specs.Shared.{SameWindow, Named, sharedSites}

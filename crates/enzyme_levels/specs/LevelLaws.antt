@@ -6,7 +6,7 @@ use mathlib.Core.List.{List, [], _∷_}
 use native.Mathlib.Omega.{arith}
 use native.Mathlib.Numerals.{add-one}
 use lib.ListN.{length, getD}
-use Rattle.records.specs.Tests.{same?, below?}
+use Rattle.lists.specs.Tests.{same?, below?}
 use Rattle.enzyme_windows.specs.Shared.{SameWindow, Named, sharedSites}
 use Rattle.enzyme_windows.specs.NameLaws.{window-on, window-back}
 use Rattle.enzyme_windows.specs.TableLaws.{Counted, counted-more, counted-same}

@@ -6,7 +6,8 @@ use mathlib.Core.List.{List, [], _∷_, _++_, append-assoc}
 use native.Mathlib.Omega.{arith}
 use lib.ListN.{length, getD, List·getD-append}
 use lib.Seq.{getD-at}
-use Rattle.enzyme_cuts.specs.Cutting.{Range, site, same, part, seenIn}
+use Rattle.lists.specs.Lists.{same}
+use Rattle.enzyme_cuts.specs.Cutting.{Range, site, part, seenIn}
 use Rattle.enzyme_cuts.specs.KeepLaws.{seenIn-append}
 use Rattle.enzyme_list.specs.declared.walk.Place.{Place}
 use Rattle.enzyme_list.specs.declared.walk.Place.the-variants.{Same, Behind}

@@ -9,9 +9,10 @@ use lib.ListN.{length, getD, length-append, List·getD-append}
 use lib.Seq.{getD-at}
 use lib.Dec.{eqb}
 use borrow.Author.Tests.{eq-eqb, ne-eqb}
-use Rattle.records.specs.Tests.{below?, truth?}
-use Rattle.enzyme_cuts.specs.Cutting.{Range, site, same, seenIn}
-use Rattle.enzyme_cuts.specs.SameLaws.{same-self, same-eq}
+use Rattle.lists.specs.Tests.{below?, truth?}
+use Rattle.lists.specs.Lists.{same}
+use Rattle.lists.specs.SameLaws.{same-refl, same-eq}
+use Rattle.enzyme_cuts.specs.Cutting.{Range, site, seenIn}
 use Rattle.enzyme_cuts.specs.KeepLaws.{seenIn-append}
 use Rattle.enzyme_keep.specs.Buffer.{rangeAt, rangesIn}
 use Rattle.enzyme_keep.specs.BufferLaws.{length-ranges}
@@ -106,7 +107,7 @@ module _ (s : List ℕ) (ks : List Range) where
 
   seen-at : (new : List ℕ) (xs ys : List ℕ) (t : ℕ) → textOf s ks t ≡ new → seenIn s (rangesOf ks (xs ++ (t ∷ ys))) new ≡ true
   seen-at new xs ys t e =
-      let z : same (textOf s ks t) new ≡ true = rw e (same-self new) in
+      let z : same (textOf s ks t) new ≡ true = rw e (same-refl new) in
       rw (ranges-append xs (t ∷ ys), seenIn-append s (rangesOf ks xs) (rangesOf ks (t ∷ ys)) new, z) (or-true (seenIn s (rangesOf ks xs) new))
 
   module _ (ls new : List ℕ) where

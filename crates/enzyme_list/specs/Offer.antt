@@ -5,7 +5,8 @@ use mathlib.Core.Bool.{false}
 use mathlib.Core.Logic.{_⊎_}
 use mathlib.Core.List.{List, [], _∷_, _++_}
 use lib.ListN.{length}
-use Rattle.enzyme_cuts.specs.Cutting.{Range, same, part}
+use Rattle.lists.specs.Lists.{same}
+use Rattle.enzyme_cuts.specs.Cutting.{Range, part}
 use Rattle.enzyme_cuts.specs.Work.{Inside}
 use Rattle.enzyme_keep.specs.declared.offering.Step.{Step}
 use Rattle.enzyme_keep.specs.declared.offering.Step.the-variants.{Kept, Full}

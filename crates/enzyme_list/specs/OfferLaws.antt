@@ -11,19 +11,18 @@ use lib.ListN.{length}
 use lib.Seq.{sets, length-sets}
 use lib.Dec.{ltb, eqb}
 use borrow.Author.Tests.{lt-ltb, le-ltb}
+use Rattle.lists.specs.Tests.{same?, below?}
 use Rattle.records.specs.Le.{le}
 use Rattle.records.specs.LeLaws.{length-le}
-use Rattle.records.specs.Tests.{same?, below?}
 use Rattle.enzyme_cuts.specs.Cutting.{Range, part, seenIn, within, wanted}
 use Rattle.enzyme_cuts.specs.InsideLaws.{inside-append}
-use Rattle.enzyme_keep.specs.declared.offering.Step.{Step}
-use Rattle.enzyme_keep.specs.declared.offering.Step.the-variants.{Kept, Full}
+use Rattle.enzyme_keep.specs.declared.offering.Step.the-variants.{Kept}
 use Rattle.enzyme_keep.specs.declared.offering.Terms.{Terms}
 use Rattle.enzyme_keep.specs.Digests.{recordOf}
 use Rattle.enzyme_keep.specs.Buffer.{rangesIn, linksIn, sealed}
 use Rattle.enzyme_keep.specs.BufferLaws.{sets-over, length-ranges, length-links, length-sealed, ranges-sealed, sealed-past, sealed-more}
 use Rattle.enzyme_keep.specs.StepLaws.{offers-one}
-use Rattle.enzyme_keep.specs.Steps.{room, after, decided, offered, andThen, offers}
+use Rattle.enzyme_keep.specs.Steps.{room, after, decided, offered, offers}
 use Rattle.enzyme_list.specs.declared.walk.Place.{Place}
 use Rattle.enzyme_list.specs.declared.walk.Place.the-variants.{Same, Behind}
 use Rattle.enzyme_list.specs.declared.offering.Offered.the-variants.{Left, NoRoom}

@@ -10,9 +10,9 @@ use lib.ListN.{length, getD, set, length-set}
 use lib.Seq.{sets, length-sets, ext-getD, getD-set-same, getD-set-other}
 use lib.Dec.{eqb}
 use borrow.Author.Tests.{eq-eqb, ne-eqb}
+use Rattle.lists.specs.Tests.{below?, same?}
 use Rattle.records.specs.Le.{le}
 use Rattle.records.specs.LeLaws.{length-le, Apart, number-stored, number-apart, getD-sets-other}
-use Rattle.records.specs.Tests.{below?, same?}
 use Rattle.enzyme_cuts.specs.Cutting.{Range, range}
 use Rattle.enzyme_keep.specs.Digests.{recordOf}
 use Rattle.enzyme_keep.specs.Buffer.{rangeAt, rangesIn, linksIn}

@@ -11,7 +11,8 @@ use lib.ListN.{length, length-append}
 use lib.Seq.{sets, length-sets}
 use lib.Dec.{ltb}
 use borrow.Author.Tests.{lt-ltb, le-ltb}
-use Rattle.enzyme_cuts.specs.Cutting.{Range, same, part, seenIn, within, wanted}
+use Rattle.lists.specs.Lists.{same}
+use Rattle.enzyme_cuts.specs.Cutting.{Range, part, seenIn, within, wanted}
 use Rattle.enzyme_cuts.specs.InsideLaws.{inside-append}
 use Rattle.enzyme_keep.specs.declared.offering.Step.the-variants.{Kept}
 use Rattle.enzyme_keep.specs.declared.offering.Terms.{Terms}

@@ -7,7 +7,7 @@ use native.Mathlib.Omega.{arith}
 use lib.ListN.{length, getD, set, length-set}
 use lib.Seq.{getD-set-same, getD-set-other}
 use borrow.Author.Tests.{eq-eqb, ne-eqb}
-use Rattle.records.specs.Tests.{same?, below?}
+use Rattle.lists.specs.Tests.{same?, below?}
 use Rattle.enzyme_cuts.specs.Cutting.{Range}
 use Rattle.enzyme_keep.specs.Buffer.{rangesIn, linksIn}
 use Rattle.enzyme_order.specs.Order.{orderOf}

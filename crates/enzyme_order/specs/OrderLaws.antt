@@ -7,8 +7,9 @@ use native.Mathlib.Omega.{arith}
 use lib.ListN.{length, drop, getD, drop-of-length-le}
 use lib.Seq.{drop-cons}
 use borrow.Author.Tests.{lt-ltb, le-ltb}
-use Rattle.records.specs.Tests.{below?}
-use Rattle.enzyme_cuts.specs.SameLaws.{same-eq, Alike, alike-all}
+use Rattle.lists.specs.Tests.{below?}
+use Rattle.lists.specs.SameLaws.{same-eq}
+use Rattle.enzyme_cuts.specs.SameLaws.{Alike, alike-all}
 use Rattle.enzyme_order.specs.Order.{first, letterwise, orderOf}
 
 pub first-below : (x y r : ℕ) → x < y → first x y r ≡ 0

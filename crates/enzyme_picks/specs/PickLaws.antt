@@ -9,7 +9,7 @@ use lib.ListN.{length, take, drop, getD, length-append, take-append-drop}
 use lib.Seq.{take-add}
 use lib.Dec.{ltb}
 use Rattle.enzyme_cuts.specs.declared.kinds.Knife.{Knife}
-use Rattle.enzyme_cuts.specs.Cutting.{Range, range, windows, within, keep}
+use Rattle.enzyme_cuts.specs.Cutting.{Range, range, windows, within, kept}
 use Rattle.enzyme_cuts.specs.Work.{Inside, setWindows, setWork}
 use Rattle.enzyme_cuts.specs.InsideLaws.{inside-sizes}
 use Rattle.enzyme_cuts.specs.KeepLaws.{spread-plain}
@@ -117,7 +117,7 @@ module _ (k : Knife) (s : List ℕ) (starts share : List ℕ) (m missed : ℕ) (
       let f : ℕ → ℕ = λ (i : ℕ). getD share i 0 in
       let w : setWork k false missed s ≡ setWindows k missed s = append-nil _ ∙ spread-plain (setWindows k missed s) in
       let i : Inside (length s) (setWindows k missed s) = rw (spread-plain (setWindows k missed s)) at (inside-sizes k s false missed) in
-      let a : newOf starts share (t .minimum) (t .maximum) m 0 (suc missed) ≡ foldl (keep s (t .minimum) (t .maximum)) [] (setWindows k missed s) =
+      let a : newOf starts share (t .minimum) (t .maximum) m 0 (suc missed) ≡ foldl (kept s (t .minimum) (t .maximum)) [] (setWindows k missed s) =
       ap (λ (n : ℕ). newOf starts share (t .minimum) (t .maximum) n 0 (suc missed)) sites
       ∙ new-from P starts share (λ j h. at j (omega arith)) (t .minimum) (t .maximum) 0 (suc missed)
       ∙ counted-picked P f (t .minimum) (t .maximum) (suc missed) (placed 0 P) (length-placed 0 P) (rw (add-one missed) at c)

@@ -1,4 +1,4 @@
--- Offers write the ranges that are kept, one after the other. Assumes nothing.
+-- Offers write the ranges that are newly, one after the other. Assumes nothing.
 use Prim.Native.Nat.{ℕ, _+_, _*_, _/_, _≤_, _<_}
 use mathlib.Core.Path.{_≡_, refl, sym, _∙_}
 use mathlib.Core.Bool.{Bool, true, false, cond}
@@ -10,7 +10,7 @@ use lib.ListN.{length}
 use lib.Seq.{sets}
 use lib.Dec.{ltb}
 use borrow.Author.Tests.{ltb-true}
-use Rattle.enzyme_cuts.specs.Cutting.{Range, wanted, keep}
+use Rattle.enzyme_cuts.specs.Cutting.{Range, wanted, kept}
 use Rattle.enzyme_cuts.specs.Work.{Inside}
 use Rattle.enzyme_keep.specs.declared.offering.Step.{Step}
 use Rattle.enzyme_keep.specs.declared.offering.Step.the-variants.{Kept, Full}
@@ -57,34 +57,34 @@ module _ (n p : ℕ) (w : Bool) (r : Range) (rest : List Range) (count : ℕ) (o
 
 -- ---- what offers write
 
--- of the ranges rs those that are kept behind ks
-abbrev kept : List ℕ → ℕ → ℕ → List Range → List Range → List Range
-kept s mn mx ks [] = []
-kept s mn mx ks (r ∷ rs) =
-    let with = kept s mn mx (ks ++ (r ∷ [])) rs in
-    let without = kept s mn mx ks rs in
+-- of the ranges rs those that are newly behind ks
+abbrev newly : List ℕ → ℕ → ℕ → List Range → List Range → List Range
+newly s mn mx ks [] = []
+newly s mn mx ks (r ∷ rs) =
+    let with = newly s mn mx (ks ++ (r ∷ [])) rs in
+    let without = newly s mn mx ks rs in
     cond (wanted s mn mx ks r) (r ∷ with) without
 
-keeps : (s : List ℕ) (mn mx : ℕ) (ks rs : List Range) → foldl (keep s mn mx) ks rs ≡ ks ++ kept s mn mx ks rs
+keeps : (s : List ℕ) (mn mx : ℕ) (ks rs : List Range) → foldl (kept s mn mx) ks rs ≡ ks ++ newly s mn mx ks rs
 keeps s mn mx ks [] = sym (append-nil ks)
 keeps s mn mx ks (r ∷ rs) = go (wanted s mn mx ks r) (keeps s mn mx (ks ++ (r ∷ [])) rs) (keeps s mn mx ks rs)
   where
-    go : (w : Bool) → foldl (keep s mn mx) (ks ++ (r ∷ [])) rs ≡ (ks ++ (r ∷ [])) ++ kept s mn mx (ks ++ (r ∷ [])) rs → foldl (keep s mn mx) ks rs ≡ ks ++ kept s mn mx ks rs
-        → foldl (keep s mn mx) (cond w (ks ++ (r ∷ [])) ks) rs ≡ ks ++ cond w (r ∷ kept s mn mx (ks ++ (r ∷ [])) rs) (kept s mn mx ks rs)
-    go true e f = e ∙ append-assoc ks (r ∷ []) (kept s mn mx (ks ++ (r ∷ [])) rs)
+    go : (w : Bool) → foldl (kept s mn mx) (ks ++ (r ∷ [])) rs ≡ (ks ++ (r ∷ [])) ++ newly s mn mx (ks ++ (r ∷ [])) rs → foldl (kept s mn mx) ks rs ≡ ks ++ newly s mn mx ks rs
+        → foldl (kept s mn mx) (cond w (ks ++ (r ∷ [])) ks) rs ≡ ks ++ cond w (r ∷ newly s mn mx (ks ++ (r ∷ [])) rs) (newly s mn mx ks rs)
+    go true e f = e ∙ append-assoc ks (r ∷ []) (newly s mn mx (ks ++ (r ∷ [])) rs)
     go false e f = f
 
 module _ (s : List ℕ) (t : Terms) (small : length s ≤ 65536) where
   offers-kept : (rs : List Range) → Inside (length s) rs → (count : ℕ) (out : List ℕ)
-      → offers s t rs count out ≡ puts (length s) (t .protein) (kept s (t .minimum) (t .maximum) (rangesIn count out) rs) count out
+      → offers s t rs count out ≡ puts (length s) (t .protein) (newly s (t .minimum) (t .maximum) (rangesIn count out) rs) count out
   unfolding offered
   offers-kept [] i count out = refl
   offers-kept (r ∷ rs) i count out = go (wanted s (t .minimum) (t .maximum) (rangesIn count out) r) (ltb count (room out)) refl (offers-kept rs (i .2))
     where
       go : (w b : Bool) → ltb count (room out) ≡ b
-          → ((count : ℕ) (out : List ℕ) → offers s t rs count out ≡ puts (length s) (t .protein) (kept s (t .minimum) (t .maximum) (rangesIn count out) rs) count out)
+          → ((count : ℕ) (out : List ℕ) → offers s t rs count out ≡ puts (length s) (t .protein) (newly s (t .minimum) (t .maximum) (rangesIn count out) rs) count out)
           → andThen (decided w b count out (recordOf (length s) (t .protein) r)) (offers s t rs)
-          ≡ puts (length s) (t .protein) (cond w (r ∷ kept s (t .minimum) (t .maximum) (rangesIn count out ++ (r ∷ [])) rs) (kept s (t .minimum) (t .maximum) (rangesIn count out) rs)) count out
+          ≡ puts (length s) (t .protein) (cond w (r ∷ newly s (t .minimum) (t .maximum) (rangesIn count out ++ (r ∷ [])) rs) (newly s (t .minimum) (t .maximum) (rangesIn count out) rs)) count out
       go true true f ih =
           let l : count < room out = ltb-true _ _ f in
           let m = min-le-left (length out / 16) 1048576 in
@@ -95,5 +95,5 @@ module _ (s : List ℕ) (t : Terms) (small : length s ≤ 65536) where
       go false b f ih = ih count out
 
   pub offers-puts : (rs : List Range) → Inside (length s) rs → (out : List ℕ)
-      → offers s t rs 0 out ≡ puts (length s) (t .protein) (foldl (keep s (t .minimum) (t .maximum)) [] rs) 0 out
+      → offers s t rs 0 out ≡ puts (length s) (t .protein) (foldl (kept s (t .minimum) (t .maximum)) [] rs) 0 out
   offers-puts rs i out = rw (keeps s (t .minimum) (t .maximum) [] rs) (offers-kept rs i 0 out)

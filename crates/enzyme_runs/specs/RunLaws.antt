@@ -6,10 +6,9 @@ use mathlib.Core.Logic.{_⊎_, inl, inr}
 use mathlib.Core.List.{List}
 use native.Mathlib.Omega.{arith}
 use lib.ListN.{getD}
-use Rattle.records.specs.Tests.{below?, truth?}
-use Rattle.sorting_merge.specs.SortLaws.{clash}
-use Rattle.enzyme_cuts.specs.Cutting.{same}
-use Rattle.enzyme_cuts.specs.SameLaws.{same-self, same-eq}
+use Rattle.lists.specs.Tests.{below?, truth?, clash}
+use Rattle.lists.specs.Lists.{same}
+use Rattle.lists.specs.SameLaws.{same-refl, same-eq}
 use Rattle.enzyme_runs.specs.Steps.{Lined, Runs}
 
 pub alike? : (t u : List ℕ) → (t ≡ u) ⊎ (t ≡ u → ⊥)
@@ -17,7 +16,7 @@ alike? t u = go (truth? (same t u))
   where
     go : (same t u ≡ true) ⊎ (same t u ≡ false) → (t ≡ u) ⊎ (t ≡ u → ⊥)
     go (inl e) = inl (same-eq t u e)
-    go (inr e) = inr (λ (q : t ≡ u). clash (rw q (same-self u)) e)
+    go (inr e) = inr (λ (q : t ≡ u). clash (rw q (same-refl u)) e)
 
 module _ (text : ℕ → List ℕ) (w r : List ℕ) (g : ℕ) (ln : Lined text w g) (rn : Runs text w r g) where
   -- a run starts no later than any of its places, with the same text

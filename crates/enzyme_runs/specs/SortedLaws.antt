@@ -5,7 +5,7 @@ use mathlib.Core.List.{List}
 use native.Mathlib.Omega.{arith}
 use lib.ListN.{length, getD, take}
 use lib.Seq.{getD-take, length-take-le}
-use Rattle.sorting_merge.specs.Sort.{sorted}
+use Rattle.sorting_spec.specs.Sort.{sorted}
 use Rattle.enzyme_order.specs.declared.keys.Key.{Key}
 use Rattle.enzyme_order.specs.Keys.{Sites, keyOf, leOf}
 use Rattle.enzyme_order.specs.KeyLaws.{leOf-orders, leOf-rises, leOf-between}

@@ -9,10 +9,9 @@ use borrow.Author.Tests.{eqb-true, eqb-false}
 use lib.Dec.{eqb}
 use lib.ListN.{length, getD, set, length-set}
 use lib.Seq.{getD-set-same, getD-set-other}
-use Rattle.records.specs.Tests.{below?}
-use Rattle.sorting_merge.specs.SortLaws.{clash}
-use Rattle.enzyme_cuts.specs.Cutting.{same}
-use Rattle.enzyme_cuts.specs.SameLaws.{same-self, same-eq}
+use Rattle.lists.specs.Tests.{below?, clash}
+use Rattle.lists.specs.Lists.{same}
+use Rattle.lists.specs.SameLaws.{same-refl, same-eq}
 use Rattle.enzyme_runs.specs.Steps.{Has, Apart, Runs, Written, Marked, Kept}
 
 -- an index below i + 1 is below i, or it is i
@@ -66,7 +65,7 @@ module _ (text : ℕ → List ℕ) (w r : List ℕ) (i last run : ℕ) (c : Runs
             let z : q ≡ i = omega arith in
             let s = d .some p (omega arith) in
             let t : text last ≡ text (getD w i 0) = ap text (s .0) ∙ b ∙ ap (λ (n : ℕ). text (getD w n 0)) z in
-            let u : v ≡ run = e ∙ rw (t, same-self (text (getD w i 0))) in
+            let u : v ≡ run = e ∙ rw (t, same-refl (text (getD w i 0))) in
             ap (λ (n : ℕ). getD (set r i v) n 0) z ∙ new ∙ u ∙ s .1 ∙ sym (old p (omega arith))
 
         other : (t : Bool) → same (text last) (text (getD w i 0)) ≡ t → (text last ≡ text (getD w i 0) → ⊥) → cond t run i ≡ i

@@ -5,7 +5,7 @@ ghost use mathlib.Core.Path.{_≡_};
 ghost use mathlib.Core.Bool.{cond};
 ghost use Prim.Native.Nat.{_≤_};
 ghost use lib.ListN.{length};
-ghost use Rattle.enzyme_cuts.specs.Cutting.{same};
+ghost use Rattle.lists.specs.Lists.{same};
 ghost use Rattle.enzyme_order.specs.Keys.{Site, lettersAt, namesAt, keyOf};
 ghost use Rattle.enzyme_runs.specs.Steps.{Apart, Sited, Arranged, Runs};
 

@@ -6,7 +6,8 @@ use mathlib.Core.Logic.{_⊎_, inl, inr}
 use mathlib.Core.List.{List, [], _∷_, _++_, append-assoc}
 use native.Mathlib.Omega.{arith}
 use lib.ListN.{length, getD}
-use Rattle.enzyme_cuts.specs.Cutting.{Range, site, same, part, seenIn, within}
+use Rattle.lists.specs.Lists.{same}
+use Rattle.enzyme_cuts.specs.Cutting.{Range, site, part, seenIn, within}
 use Rattle.enzyme_keep.specs.declared.offering.Terms.{Terms}
 use Rattle.enzyme_keep.specs.Buffer.{rangesIn}
 use Rattle.enzyme_once.specs.DistinctLaws.{Distinct}

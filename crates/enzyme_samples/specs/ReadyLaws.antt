@@ -6,15 +6,14 @@ use mathlib.Core.Logic.{_⊎_, inl, inr, ⊎-elim}
 use mathlib.Core.List.{List, [], _∷_, _++_, append-assoc}
 use native.Mathlib.Omega.{arith}
 use lib.ListN.{length, drop, getD, length-take, length-drop}
-use Rattle.records.specs.Tests.{same?, truth?}
-use Rattle.enzyme_cuts.specs.Cutting.{Range, site, same, part, seenIn}
-use Rattle.enzyme_cuts.specs.SameLaws.{same-self, same-eq, same-short}
+use Rattle.lists.specs.Tests.{same?, truth?}
+use Rattle.lists.specs.Lists.{same}
+use Rattle.lists.specs.SameLaws.{same-refl, same-eq, same-short}
+use Rattle.enzyme_cuts.specs.Cutting.{Range, site, part, seenIn}
 use Rattle.enzyme_cuts.specs.Work.{Inside}
-use Rattle.enzyme_keep.specs.declared.offering.Step.{Step}
-use Rattle.enzyme_keep.specs.declared.offering.Step.the-variants.{Kept, Full}
 use Rattle.enzyme_keep.specs.declared.offering.Terms.{Terms}
-use Rattle.enzyme_keep.specs.Buffer.{rangesIn, sealed}
-use Rattle.enzyme_keep.specs.Steps.{room, After, after, offered, andThen, offers, View}
+use Rattle.enzyme_keep.specs.Buffer.{rangesIn}
+use Rattle.enzyme_keep.specs.Steps.{room, after, offered}
 use Rattle.enzyme_keep.specs.StepLaws.{view-then, view-full}
 use Rattle.enzyme_once.specs.ThinLaws.{Hit, hit-left, hit-right, hit-either}
 use Rattle.enzyme_once.specs.DistinctLaws.{Distinct}
@@ -74,7 +73,7 @@ same-back a b h = ⊎-elim (λ (e : same b a ≡ true). absurd (no e)) (λ (e : 
     no : same b a ≡ true → ⊥
     no e =
         let g : b ≡ a = same-eq b a e in
-        let k : same a b ≡ true = rw g (same-self a) in
+        let k : same a b ≡ true = rw g (same-refl a) in
         let z : true ≡ false = sym k ∙ h in
         let y : _≡_ {A = ℕ} 0 1 = cc in
         omega arith

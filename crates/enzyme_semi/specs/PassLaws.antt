@@ -7,7 +7,7 @@ use mathlib.Core.List.{List, [], _∷_}
 use native.Mathlib.Omega.{arith}
 use lib.Dec.{leb}
 use borrow.Author.Tests.{lt-leb}
-use Rattle.records.specs.Tests.{below?}
+use Rattle.lists.specs.Tests.{below?}
 use Rattle.enzyme_cuts.specs.Cutting.{Range, halves, within}
 use Rattle.enzyme_keep.specs.declared.offering.Terms.{Terms}
 use Rattle.enzyme_once.specs.Once.{endings, openings}

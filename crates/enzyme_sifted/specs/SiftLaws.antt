@@ -8,7 +8,7 @@ use native.Mathlib.Omega.{arith}
 use borrow.Author.Tests.{lt-ltb, le-ltb, le-leb}
 use lib.ListN.{length, getD, set, List·getD-eq-default}
 use lib.Seq.{getD-set-same, getD-set-other, set-getD, set-out}
-use Rattle.records.specs.Tests.{same?, below?}
+use Rattle.lists.specs.Tests.{same?, below?}
 use Rattle.enzyme_runs.specs.Steps.{Has}
 use Rattle.enzyme_runs.specs.TurnLaws.{filled-more}
 use Rattle.enzyme_sifted.specs.Codes.{codeOf, codeAt}

@@ -9,7 +9,7 @@ use native.Mathlib.Nat.{add-zero}
 use native.Mathlib.Numerals.{add-one}
 use lib.ListN.{length, getD, set, drop, length-append, length-drop, drop-of-length-le}
 use lib.Seq.{drop-cons, drop-drop, getD-drop, getD-set-same, getD-set-other}
-use Rattle.records.specs.Tests.{below?}
+use Rattle.lists.specs.Tests.{below?}
 use Rattle.enzyme_cuts.specs.declared.kinds.Knife.{Knife}
 use Rattle.enzyme_windows.specs.Pieces.{between, onFirst, pieces}
 use Rattle.enzyme_windows.specs.StartLaws.{startOf, start-next}

@@ -4,7 +4,7 @@ use mathlib.Core.Path.{_≡_}
 use mathlib.Core.Logic.{⊎-elim}
 use native.Mathlib.Omega.{arith}
 use lib.ListN.{length, getD, replicate, length-replicate, getD-replicate, List·getD-eq-default}
-use Rattle.records.specs.Tests.{below?}
+use Rattle.lists.specs.Tests.{below?}
 
 module _ (k n : ℕ) where
   pub as-long : n ≤ k → n ≤ length (replicate {0} {A = ℕ} k 0)

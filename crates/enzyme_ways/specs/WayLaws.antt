@@ -10,8 +10,8 @@ use Rattle.letters.specs.declared.letter_set.LetterSet.{LetterSet}
 use Rattle.enzyme_cuts.specs.declared.kinds.Kind.{Kind}
 use Rattle.enzyme_cuts.specs.declared.kinds.Kind.the-variants.{None, End, Set}
 use Rattle.enzyme_cuts.specs.declared.kinds.Enzyme.{Enzyme}
-use Rattle.enzyme_cuts.specs.Cutting.{Range, site, knife, meant, keep, digests, within}
-use Rattle.enzyme_cuts.specs.Work.{Inside, setWork, workOf, work}
+use Rattle.enzyme_cuts.specs.Cutting.{Range, site, knife, meant, digests, within, kept}
+use Rattle.enzyme_cuts.specs.Work.{Inside, workOf, work}
 use Rattle.enzyme_cuts.specs.KeepLaws.{work-keeps}
 use Rattle.enzyme_cuts.specs.InsideLaws.{inside-work}
 use Rattle.enzyme_keep.specs.declared.offering.Terms.{Terms}
@@ -36,9 +36,9 @@ module _ (e : Enzyme) (missed mn mx : ℕ) (s : List ℕ) where
       go (Set cleave) f false g w = rw g (rw g at w)
 
   -- THE LAW: the digests are what is kept of the way
-  pub way-keeps : foldl (keep s mn mx) [] (way e missed mn mx s) ≡ digests e missed mn mx s
-  way-keeps = either (λ rs. foldl (keep s mn mx) [] rs ≡ digests e missed mn mx s) (work-keeps s mn mx e missed)
-      (λ cleave f g. ap (λ (x : Bool). foldl (keep s mn mx) [] (once (knife cleave (e .skip) (e .side)) x missed s)) (sym g) ∙ once-keeps e cleave f missed s mn mx)
+  pub way-keeps : foldl (kept s mn mx) [] (way e missed mn mx s) ≡ digests e missed mn mx s
+  way-keeps = either (λ rs. foldl (kept s mn mx) [] rs ≡ digests e missed mn mx s) (work-keeps s mn mx e missed)
+      (λ cleave f g. ap (λ (x : Bool). foldl (kept s mn mx) [] (once (knife cleave (e .skip) (e .side)) x missed s)) (sym g) ∙ once-keeps e cleave f missed s mn mx)
 
   pub way-inside : Inside (length s) (way e missed mn mx s)
   way-inside = either (Inside (length s)) (inside-work e missed mn mx s) (λ cleave f g. once-inside (knife cleave (e .skip) (e .side)) true missed s)

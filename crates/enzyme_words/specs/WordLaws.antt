@@ -10,10 +10,11 @@ use lib.ListN.{length, drop, getD, set}
 use lib.Seq.{getD-set-same, getD-set-other, getD-take, getD-drop}
 use lib.Dec.{eqb}
 use borrow.Author.Tests.{eqb-true}
-use Rattle.records.specs.Tests.{below?, same?}
-use Rattle.enzyme_cuts.specs.Cutting.{site, same, part}
-use Rattle.enzyme_cuts.specs.SameLaws.{same-eq}
-use Rattle.enzyme_words.specs.Words.{digitOf, wordAt, codeAt, Coded, Twice, Tallied, Picked, Unlike, Far, Reach, Swept}
+use Rattle.lists.specs.Tests.{below?, same?}
+use Rattle.lists.specs.Lists.{same}
+use Rattle.lists.specs.SameLaws.{same-eq}
+use Rattle.enzyme_cuts.specs.Cutting.{site, part}
+use Rattle.enzyme_words.specs.Words.{digitOf, wordAt, codeAt, Coded, Twice, Tallied, Picked, Far, Reach, Swept}
 
 -- ---- the number of a word
 

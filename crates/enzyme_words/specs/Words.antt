@@ -5,7 +5,8 @@ use mathlib.Core.Bool.{false}
 use mathlib.Core.Logic.{_⊎_}
 use mathlib.Core.List.{List}
 use lib.ListN.{length, getD}
-use Rattle.enzyme_cuts.specs.Cutting.{site, same, part}
+use Rattle.lists.specs.Lists.{same}
+use Rattle.enzyme_cuts.specs.Cutting.{site, part}
 
 -- A is 0, Z is 25
 abbrev pub digitOf : ℕ → ℕ

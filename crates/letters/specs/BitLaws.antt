@@ -10,7 +10,7 @@ use lib.Dec.{eqb}
 use lib.Pow.{pow-pos, pow-lt, pow-add, shr-shr, field, mod-mod-pow}
 use lib.Bits.{bitOr, bitAnd, or-shr, or-mod, and-shr, and-mod}
 use borrow.Author.Tests.{eqb-true, eqb-false}
-use Rattle.records.specs.Tests.{below?}
+use Rattle.lists.specs.Tests.{below?}
 use Rattle.letters.specs.Letters.{bit}
 
 -- bit k of m as a digit

@@ -9,7 +9,7 @@ use lib.Dec.{leb, ltb, eqb}
 use lib.Pow.{pow-pos, pow-lt}
 use lib.Bits.{bitOr, bitAnd, or-lt}
 use borrow.Author.Tests.{le-leb, eq-eqb, ne-eqb, leb-true, eqb-true, eqb-false, ltb-true, lt-ltb, not-false}
-use Rattle.records.specs.Tests.{below?, both, truth?}
+use Rattle.lists.specs.Tests.{below?, both, truth?}
 use Rattle.records.specs.Search.{seek}
 use Rattle.records.specs.SearchLaws.{seek-to, seek-passes, seek-before}
 use Rattle.letters.specs.declared.letter_set.LetterSet.{LetterSet}

@@ -2,34 +2,15 @@
 use Prim.Native.Nat.{ℕ, zero, suc, _+_, _-_, _≤_, _<_}
 use mathlib.Core.Path.{_≡_, refl, sym, ap, _∙_, subst}
 use mathlib.Core.Bool.{Bool, true, false, _&&_, true≢false}
-use mathlib.Core.Logic.{⊎-elim}
-use mathlib.Core.List.{List, [], _∷_, _++_, reverse, reverse-cons}
+use mathlib.Core.List.{List, [], _∷_, _++_, reverse}
 use native.Mathlib.Omega.{arith}
-use lib.ListN.{length, take, drop, getD, length-append, length-drop, length-reverse, List·getD-eq-default}
-use lib.Seq.{getD-at, getD-take, getD-drop, getD-append-add, length-take-le}
+use lib.ListN.{length, take, drop, getD, length-append, length-drop, length-reverse, List·getD-append, List·getD-eq-default}
+use lib.Seq.{getD-take, getD-drop, getD-append-add, length-take-le}
 use lib.Dec.{ltb}
 use borrow.Author.Tests.{ltb-true, ltb-false}
-use Rattle.records.specs.Tests.{below?, both}
+use Rattle.lists.specs.Tests.{both}
+use Rattle.lists.specs.ReverseLaws.{getD-reverse}
 use Rattle.letters.specs.Reversal.{reversed, lettersOf}
-
-get-front : (xs ys : List ℕ) (i : ℕ) → i < length xs → getD (xs ++ ys) i 0 ≡ getD xs i 0
-get-front [] ys i h = absurd (omega arith)
-get-front (x ∷ xs) ys zero h = refl
-get-front (x ∷ xs) ys (suc i) h = get-front xs ys i (omega arith)
-
-get-reverse : (l : List ℕ) (i : ℕ) → i < length l → getD (reverse l) i 0 ≡ getD l (length l - 1 - i) 0
-get-reverse [] i h = absurd (omega arith)
-get-reverse (x ∷ l) i h = ⊎-elim (λ (g : i < length l). inner g (get-reverse l i g)) last (below? i (length l))
-  where
-    inner : i < length l → getD (reverse l) i 0 ≡ getD l (length l - 1 - i) 0 → getD (reverse (x ∷ l)) i 0 ≡ getD (x ∷ l) (suc (length l) - 1 - i) 0
-    inner g ih =
-        let e : suc (length l) - 1 - i ≡ suc (length l - 1 - i) = omega arith in
-        ap (λ (q : List ℕ). getD q i 0) (reverse-cons x l) ∙ get-front (reverse l) (x ∷ []) i (omega (arith, length-reverse l)) ∙ ih ∙ sym (ap (λ (k : ℕ). getD (x ∷ l) k 0) e)
-
-    last : length l ≤ i → getD (reverse (x ∷ l)) i 0 ≡ getD (x ∷ l) (suc (length l) - 1 - i) 0
-    last g =
-        let e : suc (length l) - 1 - i ≡ 0 = omega arith in
-        ap (λ (q : List ℕ). getD q i 0) (reverse-cons x l) ∙ getD-at (reverse l) x [] 0 i (omega (arith, length-reverse l)) ∙ sym (ap (λ (k : ℕ). getD (x ∷ l) k 0) e)
 
 -- ---- the letters of a reversed list
 
@@ -52,8 +33,8 @@ module _ (b : ℕ) (bs : List ℕ) where
   unfolding k
   inner-at y h =
       let t : length (take k bs) ≡ k = length-take-le k bs (omega arith) in
-      get-front (reverse (take k bs)) (drop k bs) y (omega (arith, front))
-      ∙ get-reverse (take k bs) y (omega (arith, t))
+      List·getD-append (reverse (take k bs)) (drop k bs) 0 y (omega (arith, front))
+      ∙ getD-reverse (take k bs) y (omega (arith, t))
       ∙ ap (λ (n : ℕ). getD (take k bs) (n - 1 - y) 0) t
       ∙ getD-take k bs (k - 1 - y) 0 (omega arith)
 

@@ -8,12 +8,12 @@ use lib.ListN.{length}
 use lib.Seq.{sets}
 use lib.Dec.{ltb, eqb}
 use borrow.Author.Tests.{lt-ltb, le-ltb, eq-eqb, ne-eqb}
+use Rattle.lists.specs.Tests.{both}
 use Rattle.records.specs.declared.refusal.Refusal.{Refusal}
 use Rattle.records.specs.declared.refusal.Refusal.the-variants.{Size, Length, Field, Room}
 use Rattle.records.specs.declared.refusal.Tested.{Tested}
 use Rattle.records.specs.Tested.{fieldTested}
 use Rattle.records.specs.TestedLaws.{first-refuses}
-use Rattle.records.specs.Tests.{both}
 use Rattle.records.specs.Le.{le, numberAt}
 use Rattle.records.specs.LeLaws.{value-le}
 use Rattle.records.specs.Outcome.{outcome, only}

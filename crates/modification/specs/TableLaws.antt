@@ -11,7 +11,7 @@ use lib.Ieee.{Float, nan, inf, fin, binary32, ofBits, nanBits, isNan, eq}
 use lib.Ieee.Bits.{nanBits-is}
 use borrow.Author.Tests.{lt-ltb, le-ltb, le-leb, lt-leb, eq-eqb, ne-eqb}
 use mathlib.Core.Logic.{⊎-elim}
-use Rattle.records.specs.Tests.{below?}
+use Rattle.lists.specs.Tests.{below?}
 use Rattle.records.specs.declared.refusal.Refusal.{Refusal}
 use Rattle.records.specs.declared.refusal.Refusal.the-variants.{Size, TableFull, Length, Room}
 use Rattle.records.specs.declared.refusal.Tested.{Tested}

@@ -5,16 +5,17 @@ use mathlib.Core.Bool.{Bool, true, false, cond, not, true≢false}
 use mathlib.Core.Logic.{_⊎_, inl, inr}
 use mathlib.Core.List.{List, [], _∷_}
 use native.Mathlib.Omega.{arith}
-use lib.ListN.{length, getD}
+use lib.ListN.{length, getD, length-map}
 use lib.Seq.{sets}
 use lib.Dec.{ltb, eqb, eqb·suc-zero}
 use borrow.Author.Tests.{lt-leb, le-leb, lt-ltb, le-ltb, eq-eqb, ne-eqb, ltb-false}
+use Rattle.records.specs.Room.{counted, singly}
+use Rattle.lists.specs.Tests.{same?}
 use Rattle.letters.specs.declared.letter_set.LetterSet.{LetterSet}
 use Rattle.letters.specs.Letters.{isLetter, has}
 use Rattle.letters.specs.LetterLaws.{letter-from, letter-to, has-letter}
 use Rattle.records.specs.declared.refusal.Refusal.{Refusal}
 use Rattle.records.specs.declared.refusal.Refusal.the-variants.{Letter, EmptyText, Outside, LongText, Field, Room}
-use Rattle.records.specs.Tests.{same?}
 use Rattle.records.specs.Search.{seek}
 use Rattle.records.specs.Outcome.{outcome, only}
 use Rattle.records.specs.RoomLaws.{stored-text, fits-text}
@@ -23,16 +24,16 @@ use Rattle.modification.specs.declared.specificity.Specificity.the-varia
 use Rattle.modification.specs.declared.text.Parsed.{Parsed}
 use Rattle.records.specs.declared.refusal.Counted.{Counted}
 use Rattle.modification.specs.Specificities.{kindOf, letterOf, specificity, sound}
-use Rattle.modification.specs.Texts.{firstWide, markOf, markByte, letterPlace, parsedLetter, parsed, textOf, textOutcome, writeOutcome}
+use Rattle.modification.specs.Texts.{firstWide, markOf, markByte, letterPlace, parsedLetter, parsed, textOf, writeOutcome}
 
 -- ---- a text of at most two bytes in a buffer
 
 module _ (t old out : List ℕ) (h : length t ≤ 2) (e : out ≡ sets old 0 t) where
-  pub text-short : length old < length t → outcome (Counted.Refused Room) (out ∷ []) ≡ textOutcome t old
+  pub text-short : length old < length t → outcome (Counted.Refused Room) (out ∷ []) ≡ counted 1 2 old (singly t)
   text-short g = rw (e, stored-text 2 t old h, fits-text 2 t old h, lt-leb (length t) (length old) g)
 
-  pub text-long : length t ≤ length old → outcome (Counted.Count (length t)) (out ∷ []) ≡ textOutcome t old
-  text-long g = rw (e, stored-text 2 t old h, fits-text 2 t old h, le-leb (length t) (length old) g)
+  pub text-long : length t ≤ length old → outcome (Counted.Count (length t)) (out ∷ []) ≡ counted 1 2 old (singly t)
+  text-long g = rw (e, stored-text 2 t old h, fits-text 2 t old h, le-leb (length t) (length old) g, length-map t (λ (b : ℕ). b ∷ []))
 
 -- ---- the text of a sound rule
 
@@ -254,18 +255,18 @@ module _ (s : Specificity) (old : List ℕ) (k l : ℕ) (ek : k ≡ kindOf s) (e
   write-bad h = rw (is-sound false h)
 
   module _ (h : sound k l ≡ true) where
-    to-text : (t : List ℕ) → textOf s ≡ t → textOutcome t old ≡ writeOutcome s old
+    to-text : (t : List ℕ) → textOf s ≡ t → counted 1 2 old (singly t) ≡ writeOutcome s old
     unfolding writeOutcome
-    to-text t e = ap (λ (x : List ℕ). textOutcome x old) (sym e) ∙ rw (is-sound true h)
+    to-text t e = ap (λ (x : List ℕ). counted 1 2 old (singly x)) (sym e) ∙ rw (is-sound true h)
 
-    pub write-letter : k ≡ 0 → textOutcome (l ∷ []) old ≡ writeOutcome s old
+    pub write-letter : k ≡ 0 → counted 1 2 old (singly (l ∷ [])) ≡ writeOutcome s old
     write-letter z = to-text (l ∷ []) (text-letter s (sym ek ∙ z) ∙ ap (λ (x : ℕ). x ∷ []) (sym el))
 
     module _ (n : k ≡ 0 → ⊥) (m : ℕ) (mark : m ≡ markByte k) where
-      pub write-mark : l ≡ 0 → textOutcome (m ∷ []) old ≡ writeOutcome s old
+      pub write-mark : l ≡ 0 → counted 1 2 old (singly (m ∷ [])) ≡ writeOutcome s old
       write-mark z = to-text (m ∷ []) (text-mark s (λ e. n (ek ∙ e)) (sym el ∙ z) ∙ ap (λ (x : ℕ). x ∷ []) (sym (mark ∙ ap markByte ek)))
 
-      pub write-both : (l ≡ 0 → ⊥) → textOutcome (m ∷ l ∷ []) old ≡ writeOutcome s old
+      pub write-both : (l ≡ 0 → ⊥) → counted 1 2 old (singly (m ∷ l ∷ [])) ≡ writeOutcome s old
       write-both p = to-text (m ∷ l ∷ []) (text-both s (λ e. n (ek ∙ e)) (λ e. p (el ∙ e)) ∙ ap₂ (λ (x y : ℕ). x ∷ y ∷ []) (sym (mark ∙ ap markByte ek)) (sym el))
 
 -- no second answer, and no second contents, meets what `write` ensures

@@ -7,10 +7,10 @@ use lib.ListN.{length, getD}
 use lib.Dec.{ltb, eqb}
 use Rattle.letters.specs.declared.letter_set.LetterSet.{LetterSet}
 use Rattle.letters.specs.Letters.{has}
-use Rattle.records.specs.declared.refusal.Refusal.the-variants.{Letter, EmptyText, Outside, LongText, Field, Room}
+use Rattle.records.specs.declared.refusal.Refusal.the-variants.{Letter, EmptyText, Outside, LongText, Field}
 use Rattle.records.specs.Search.{seek}
 use Rattle.records.specs.Outcome.{Outcome, outcome}
-use Rattle.records.specs.Room.{fits, fitted, singly}
+use Rattle.records.specs.Room.{singly, counted}
 use Rattle.modification.specs.declared.specificity.Specificity.{Specificity}
 use Rattle.modification.specs.declared.text.Parsed.{Parsed}
 use Rattle.records.specs.declared.refusal.Counted.{Counted}
@@ -63,11 +63,6 @@ textOf s =
     (cond (eqb (letterOf s) 0) (markByte (kindOf s) ∷ [])
     (markByte (kindOf s) ∷ letterOf s ∷ []))
 
--- a text, whose record is a byte, in a lent buffer: how many bytes, or 11
-abbrev pub textOutcome : List ℕ → List ℕ → Outcome Counted
-textOutcome text old =
-    outcome (cond (fits 1 2 old (singly text)) (Counted.Count (length text)) (Counted.Refused Room)) (fitted 1 2 old (singly text) ∷ [])
-
--- 9: a kind with a letter that no rule has
+-- 9: a kind with a letter that no rule has; 11: a text's record is a byte
 unfoldable pub writeOutcome : Specificity → List ℕ → Outcome Counted
-writeOutcome s old = cond (sound (kindOf s) (letterOf s)) (textOutcome (textOf s) old) (outcome (Counted.Refused (Field 0)) (old ∷ []))
+writeOutcome s old = cond (sound (kindOf s) (letterOf s)) (counted 1 2 old (singly (textOf s))) (outcome (Counted.Refused (Field 0)) (old ∷ []))

@@ -9,7 +9,8 @@ ghost use mathlib.Core.List.{List, [], _∷_};
 ghost use Prim.Native.Nat.{_<_};
 ghost use lib.ListN.{length};
 ghost use Rattle.records.specs.Outcome.{outcome};
-ghost use Rattle.modification.specs.Texts.{firstWide, markOf, markByte, letterPlace, parsedLetter, parsed, textOutcome, writeOutcome};
+ghost use Rattle.records.specs.Room.{counted, singly};
+ghost use Rattle.modification.specs.Texts.{firstWide, markOf, markByte, letterPlace, parsedLetter, parsed, writeOutcome};
 
 pub enum Parsed {
     Rule(Specificity),
@@ -108,7 +109,7 @@ fn mark_byte(kind: u8) -> u8
 }
 
 fn put_one(out: &mut [u8], a: u8) -> Counted
-    ensures { λ r. ⌜ outcome r (now (out .exit) ∷ []) ≡ textOutcome (a ∷ []) (now (out .entry)) ⌝ }
+    ensures { λ r. ⌜ outcome r (now (out .exit) ∷ []) ≡ counted 1 2 (now (out .entry)) (singly (a ∷ [])) ⌝ }
 {
     let room = out.len();
     records::put_byte(out, 0, a);
@@ -119,7 +120,7 @@ fn put_one(out: &mut [u8], a: u8) -> Counted
 }
 
 fn put_two(out: &mut [u8], a: u8, b: u8) -> Counted
-    ensures { λ r. ⌜ outcome r (now (out .exit) ∷ []) ≡ textOutcome (a ∷ b ∷ []) (now (out .entry)) ⌝ }
+    ensures { λ r. ⌜ outcome r (now (out .exit) ∷ []) ≡ counted 1 2 (now (out .entry)) (singly (a ∷ b ∷ [])) ⌝ }
 {
     let room = out.len();
     records::put_byte(out, 0, a);

@@ -10,7 +10,7 @@ use lib.Count.{trailingZeros}
 use lib.IntN.{pos}
 use lib.Ieee.{Float, fin, span, climb, size, odd, units, round, sum, add, eq, toUnsigned}
 use Rattle.records.specs.Le.{le, numberAt}
-use Rattle.records.specs.Cases.{Case, Hold, counted, refused, told}
+use Rattle.records.specs.Cases.{Case, Hold, answered, refused, told}
 use Rattle.records.specs.CaseLaws.{joined}
 use Rattle.records.specs.Refusals.{numberOf, placeOf}
 use Rattle.records.specs.Room.{written}
@@ -28,7 +28,7 @@ use Rattle.peptide.specs.Peptides.{lettersOf, clear, testedContents, tes
 use Rattle.peptide.specs.Masses.{addAll, noMass}
 use Rattle.peptide.specs.Digested.{unfit, firstUnfit, testedDigest, digested, madeOfDigest, weighedDigest}
 use Rattle.peptide.specs.Sites.{sitesOf, passes, filled}
-use Rattle.peptide.specs.Forms.{testedLists, testedForms, choices, formOf, formsOf, listed, formsOutcome}
+use Rattle.peptide.specs.Forms.{testedLists, testedForms, choices, formOf, formsOf, formsOutcome}
 
 abbrev MAM : List ℕ
 MAM = 77 ∷ 65 ∷ 77 ∷ []
@@ -69,7 +69,7 @@ forming p variable fixed limit cap bytes answer forms =
 
 -- in room for more than four
 abbrev listing : ℕ → List ℕ → List ℕ → ℕ → ℕ → List (List ℕ) → Case
-listing position variable fixed limit cap forms = forming (mam position) variable fixed limit cap 300 (counted (length forms)) forms
+listing position variable fixed limit cap forms = forming (mam position) variable fixed limit cap 300 (answered (length forms)) forms
 
 -- a refusal, and nothing written
 abbrev refusing : Peptide → List ℕ → List ℕ → ℕ → ℕ → ℕ → Case
@@ -109,11 +109,11 @@ formCases =
     ∷ listing 0 (rule 3 0 7 ++ rule 4 77 8) [] 1 noCap (form 0 0 0 0 0 ∷ form 7 0 0 0 0 ∷ [])
     ∷ listing 3 (rule 3 0 7 ++ rule 4 0 8 ++ rule 2 0 9) [] 1 noCap (form 0 0 0 0 0 ∷ form 0 9 0 0 0 ∷ [])
     -- ids that the peptide has stay
-    ∷ forming (given MAM (slots 60 0) 2 false) (onM 3) (rule 0 65 4) 1 noCap 300 (counted 3) (form 7 8 1 4 2 ∷ form 7 8 1 4 2 ∷ form 7 8 1 4 2 ∷ [])
+    ∷ forming (given MAM (slots 60 0) 2 false) (onM 3) (rule 0 65 4) 1 noCap 300 (answered 3) (form 7 8 1 4 2 ∷ form 7 8 1 4 2 ∷ form 7 8 1 4 2 ∷ [])
     -- the greatest sizes
     ∷ listing 2 (idle 16) (idle 32) 8 noCap (form 0 0 0 0 0 ∷ [])
     -- room: exact, one byte short, for one form, for none
-    ∷ forming (mam 2) (onM 1) [] 2 noCap 264 (counted 4) (form 0 0 0 0 0 ∷ form 0 0 1 0 0 ∷ form 0 0 0 0 1 ∷ form 0 0 1 0 1 ∷ [])
+    ∷ forming (mam 2) (onM 1) [] 2 noCap 264 (answered 4) (form 0 0 0 0 0 ∷ form 0 0 1 0 0 ∷ form 0 0 0 0 1 ∷ form 0 0 1 0 1 ∷ [])
     ∷ forming (mam 2) (onM 1) [] 2 noCap 263 (refused 11 0) (form 0 0 0 0 0 ∷ form 0 0 1 0 0 ∷ form 0 0 0 0 1 ∷ [])
     ∷ forming (mam 2) (onM 1) [] 2 noCap 66 (refused 11 0) (form 0 0 0 0 0 ∷ [])
     ∷ forming (mam 2) (onM 1) [] 2 noCap 65 (refused 11 0) []
@@ -230,7 +230,7 @@ digestCases =
 -- ---- in one table
 
 formCases-hold : Hold formCases
-unfolding flatten numberAt written seek isLetter firstBad goodRule firstBadRule choicesOf bySize allZero accepted clear testedContents testedForm sitesOf passes filled testedLists testedForms choices formOf formsOf listed formsOutcome
+unfolding flatten numberAt written seek isLetter firstBad goodRule firstBadRule choicesOf bySize allZero accepted clear testedContents testedForm sitesOf passes filled testedLists testedForms choices formOf formsOf formsOutcome
 formCases-hold = refl
 
 digestCases-hold : Hold digestCases

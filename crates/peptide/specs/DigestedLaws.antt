@@ -10,12 +10,12 @@ use lib.Seq.{getD-take, getD-drop, getD-append-add, length-take-le}
 use lib.Dec.{leb, ltb, eqb}
 use lib.Ieee.{Float}
 use borrow.Author.Tests.{le-leb, leb-true, lt-ltb, le-ltb, ltb-true, ltb-false, eqb-true, ne-eqb, not-false}
+use Rattle.lists.specs.Tests.{below?, both, neither}
 use Rattle.records.specs.declared.refusal.Refusal.{Refusal}
 use Rattle.records.specs.declared.refusal.Refusal.the-variants.{Size, Letter, Length, Field}
 use Rattle.records.specs.declared.refusal.Tested.{Tested}
 use Rattle.records.specs.Search.{seek}
 use Rattle.records.specs.SearchLaws.{seek-before, seek-passes}
-use Rattle.records.specs.Tests.{below?, both, neither}
 use Rattle.records.specs.TestedLaws.{passed-first, passed-second}
 use Rattle.letters.specs.Letters.{isLetter, noLetter, firstBad}
 use Rattle.enzyme_keep.specs.Digests.{goodRecord}

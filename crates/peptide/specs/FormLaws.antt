@@ -10,16 +10,17 @@ use lib.Seq.{sets}
 use lib.Dec.{ltb, eqb}
 use native.Mathlib.Nat.{min-le-right}
 use borrow.Author.Tests.{leb-true, ltb-false, eqb-true, not-false}
+use Rattle.lists.specs.KeepLaws.{map-all}
+use Rattle.lists.specs.Tests.{both, neither}
+use Rattle.lists.specs.Lists.{keep}
 use Rattle.records.specs.declared.refusal.Refusal.{Refusal}
 use Rattle.records.specs.declared.refusal.Refusal.the-variants.{Size, Length, Room}
 use Rattle.records.specs.declared.refusal.Tested.{Tested}
 use Rattle.records.specs.Outcome.{outcome, only}
-use Rattle.records.specs.Room.{roomOf, fits}
+use Rattle.records.specs.Room.{roomOf, fits, counted}
 use Rattle.records.specs.RoomLaws.{Sized, Standing, standing-none, standing-more, standing-full}
-use Rattle.records.specs.Tests.{both, neither}
-use Rattle.sorting.specs.Distinct.{keep}
 use Rattle.modification.specs.Rules.{ruleAt, firstBadRule}
-use Rattle.peptide_choices.specs.Choices.{bySize, keep as keepChoices}
+use Rattle.peptide_choices.specs.Choices.{bySize}
 use Rattle.peptide_choices.specs.ListingLaws.{Complete, complete}
 use Rattle.peptide_slots.specs.Hits.{fillAt}
 use Rattle.peptide_slots.specs.Filling.{apply}
@@ -41,8 +42,8 @@ use Rattle.records.specs.TestedLaws.{first-refuses, first-passes, passed-both, 
 use Rattle.peptide.specs.Peptides.{wrongSize, testedContents}
 use Rattle.peptide.specs.PeptideLaws.{size-fits}
 use Rattle.peptide.specs.Sites.{Site, sitesOf, passes, filled}
-use Rattle.peptide.specs.Forms.{tooLarge, notWhole, testedLists, testedForms, bare, chosen, choices, formOf, listed, formsOutcome}
-use Rattle.peptide.specs.PackedLaws.{packedSites, packedForms, forms-packed, keep-same, map-same}
+use Rattle.peptide.specs.Forms.{tooLarge, notWhole, testedLists, testedForms, bare, chosen, choices, formOf, formsOutcome}
+use Rattle.peptide.specs.PackedLaws.{packedSites, packedForms, forms-packed, map-same}
 
 -- ---- the records of both lists
 
@@ -111,19 +112,15 @@ module _ (p : Peptide) (variable fixed : List ℕ) (limit : ℕ) where
     unfolding formsOutcome
     forms-refused why e = rw (← e)
 
-    pub forms-passed : Tested.Passed ≡ testedForms p variable fixed limit → listed old (packedForms p variable fixed limit cap) ≡ formsOutcome p variable fixed limit cap old
+    pub forms-passed : Tested.Passed ≡ testedForms p variable fixed limit → counted 66 mostForms old (packedForms p variable fixed limit cap) ≡ formsOutcome p variable fixed limit cap old
     unfolding formsOutcome
-    forms-passed e = ap (listed old) (sym (forms-packed p variable fixed limit cap (passed-fit (sym e) .0) (passed-apart (sym e) .2))) ∙ rw (← e)
+    forms-passed e = ap (counted 66 mostForms old) (sym (forms-packed p variable fixed limit cap (passed-fit (sym e) .0) (passed-apart (sym e) .2))) ∙ rw (← e)
 
     -- no second answer and no second contents fit
     pub forms-only : (a b : Counted) (k l : List (List ℕ)) → outcome a k ≡ formsOutcome p variable fixed limit cap old → outcome b l ≡ formsOutcome p variable fixed limit cap old → (a ≡ b) × (k ≡ l)
     forms-only a b k l = only a b k l (formsOutcome p variable fixed limit cap old)
 
 -- ---- the listing
-
-sized-map : (f : List ℕ → List ℕ) (xs : List (List ℕ)) → ((c : List ℕ) → length (f c) ≡ 66) → Sized 66 (map f xs)
-sized-map f [] h = tt
-sized-map f (x ∷ xs) h = (h x, sized-map f xs h)
 
 module _ (old form table sites rules : List ℕ) (limit cap : ℕ) (wide : length form ≡ 66) where
   abbrev made : List ℕ → List ℕ
@@ -136,15 +133,14 @@ module _ (old form table sites rules : List ℕ) (limit cap : ℕ) (wide : lengt
   all = made [] ∷ rest
 
   all-sized : Sized 66 all
-  all-sized = (length-quick form table sites rules [] ∙ wide, sized-map made (todo (packedPasses sites rules) cap 1 (bySize (length sites) 1 limit)) (λ c. length-quick form table sites rules c ∙ wide))
+  all-sized = (length-quick form table sites rules [] ∙ wide, map-all (λ (r : List ℕ). length r ≡ 66) made (λ c. length-quick form table sites rules c ∙ wide) (todo (packedPasses sites rules) cap 1 (bySize (length sites) 1 limit)))
 
   all-is : map made (packedChoices sites rules limit cap) ≡ all
   unfolding packedChoices
   all-is = refl
 
   -- not even one has room
-  pub list-full : roomOf 66 mostForms old ≡ 0 → outcome (Counted.Refused Room) (old ∷ []) ≡ listed old (map made (packedChoices sites rules limit cap))
-  unfolding listed
+  pub list-full : roomOf 66 mostForms old ≡ 0 → outcome (Counted.Refused Room) (old ∷ []) ≡ counted 66 mostForms old (map made (packedChoices sites rules limit cap))
   list-full e =
       let d = standing-full 66 mostForms old all all-sized (made []) rest old 0 (standing-none 66 mostForms old all all-sized) (omega arith) in
       rw (all-is, d .1) (ap (λ (z : List ℕ). outcome (Counted.Refused Room) (z ∷ [])) (d .0))
@@ -158,8 +154,7 @@ module _ (old form table sites rules : List ℕ) (limit cap : ℕ) (wide : lengt
     begun = subst (λ (z : List ℕ). Standing 66 mostForms old all rest z 1) (sym (stored ∙ ap (sets old 0) first-is)) (standing-more 66 mostForms old all all-sized (made []) rest old 0 (standing-none 66 mostForms old all all-sized) (omega arith))
 
     -- the first form stands, and the run has written what fits of the others
-    pub list-done : (b : Bool) → r .fits ≡ b → outcome (cond b (Counted.Count (r .count)) (Counted.Refused Room)) (new ∷ []) ≡ listed old (map made (packedChoices sites rules limit cap))
-    unfolding listed
+    pub list-done : (b : Bool) → r .fits ≡ b → outcome (cond b (Counted.Count (r .count)) (Counted.Refused Room)) (new ∷ []) ≡ counted 66 mostForms old (map made (packedChoices sites rules limit cap))
     list-done b e =
         let d = done .ends old all is all-sized begun in
         rw (all-is, ← d .1, e) (go b e ∙ ap (λ (z : List ℕ). outcome (cond b (Counted.Count (length all)) (Counted.Refused Room)) (z ∷ [])) (d .0))
@@ -223,5 +218,5 @@ unfolding choices
 forms-complete p variable limit =
     let sites : List Site = sitesOf p variable in
     let ok : List ℕ → Bool = λ (c : List ℕ). passes variable (chosen sites c) in
-    let list : List (List ℕ) = keepChoices ok (bySize (length sites) 1 limit) in
-    (list, ap (λ (z : List (List ℕ)). [] ∷ z) (accepted-all 1 (keep ok (bySize (length sites) 1 limit)) ∙ keep-same ok (bySize (length sites) 1 limit)), complete ok (length sites) limit)
+    let list : List (List ℕ) = keep ok (bySize (length sites) 1 limit) in
+    (list, ap (λ (z : List (List ℕ)). [] ∷ z) (accepted-all 1 (keep ok (bySize (length sites) 1 limit))), complete ok (length sites) limit)

@@ -7,12 +7,12 @@ use mathlib.Core.Bool.{Bool, true, false, cond, not, _&&_, _||_}
 use mathlib.Core.List.{List, [], _∷_, map}
 use lib.ListN.{length, getD}
 use lib.Dec.{ltb, eqb}
-use Rattle.records.specs.declared.refusal.Refusal.the-variants.{Size, Length, Room}
+use Rattle.lists.specs.Lists.{keep}
+use Rattle.records.specs.declared.refusal.Refusal.the-variants.{Size, Length}
 use Rattle.records.specs.declared.refusal.Tested.{Tested}
-use Rattle.records.specs.Outcome.{Outcome, outcome, unlessRefused}
-use Rattle.records.specs.Room.{fits, fitted}
+use Rattle.records.specs.Outcome.{Outcome, unlessRefused}
+use Rattle.records.specs.Room.{counted}
 use Rattle.modification.specs.Rules.{firstBadRule, mostRules}
-use Rattle.sorting.specs.Distinct.{keep}
 use Rattle.peptide_choices.specs.Choices.{bySize}
 use Rattle.peptide_forms.specs.Enumeration.{mostForms, accepted}
 use Rattle.peptide.specs.declared.making.Peptide.{Peptide}
@@ -70,9 +70,6 @@ formsOf p variable fixed limit cap = map (formOf p variable fixed) (choices (sit
 -- ---- the answer
 
 -- at most 1,048,576 forms of 66 bytes; 11: no room for all, and the first that fit stand there
-unfoldable pub listed : List ℕ → List (List ℕ) → Outcome Counted
-listed old forms = outcome (cond (fits 66 mostForms old forms) (Counted.Count (length forms)) (Counted.Refused Room)) (fitted 66 mostForms old forms ∷ [])
-
 unfoldable pub formsOutcome : Peptide → List ℕ → List ℕ → ℕ → ℕ → List ℕ → Outcome Counted
-unfolding testedForms formsOf listed
-formsOutcome p variable fixed limit cap old = unlessRefused (testedForms p variable fixed limit) Counted.Refused (old ∷ []) (listed old (formsOf p variable fixed limit cap))
+unfolding testedForms formsOf
+formsOutcome p variable fixed limit cap old = unlessRefused (testedForms p variable fixed limit) Counted.Refused (old ∷ []) (counted 66 mostForms old (formsOf p variable fixed limit cap))

@@ -11,11 +11,11 @@ use lib.Dec.{leb, ltb, eqb}
 use lib.IntN.{pos}
 use lib.Ieee.{Float, fin, binary32, add, eq}
 use borrow.Author.Tests.{le-leb, lt-leb, lt-ltb, le-ltb, ltb-false, eqb-true, eq-eqb, ne-eqb, not-false}
+use Rattle.lists.specs.Tests.{neither}
 use Rattle.records.specs.declared.refusal.Refusal.{Refusal}
 use Rattle.records.specs.declared.refusal.Refusal.the-variants.{Size, Letter, Length, Field}
 use Rattle.records.specs.declared.refusal.Tested.{Tested}
 use Rattle.records.specs.SearchLaws.{seek-before}
-use Rattle.records.specs.Tests.{neither}
 use Rattle.records.specs.TestedLaws.{passed-both}
 use Rattle.letters.specs.Letters.{isLetter}
 use Rattle.letters.specs.LetterLaws.{letter-from, letter-to}

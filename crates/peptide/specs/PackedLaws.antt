@@ -1,35 +1,35 @@
--- The code goes by sites that are one number each (peptide_slots, peptide_forms): they make the same forms. Assumes nothing.
+-- The code goes by sites that are bit number each (peptide_slots, peptide_forms): they make the same forms. Assumes nothing.
 use Prim.Native.Nat.{ℕ, zero, suc, _+_, _*_, _/_, _≤_, _<_}
 use mathlib.Core.Path.{_≡_, refl, sym, ap, ap₂, _∙_}
 use mathlib.Core.Bool.{Bool, true, false, cond, not, _&&_, _||_}
 use mathlib.Core.List.{List, [], _∷_, _++_, map, map-append, flatten}
 use native.Mathlib.Omega.{arith}
 use lib.ListN.{length, getD, length-map, List·getD-map}
-use lib.Dec.{leb, eqb, eqb·suc-zero}
+use lib.Dec.{leb, eqb}
 use native.Mathlib.Nat.{zero-add}
 use borrow.Author.Tests.{leb-true, le-leb, lt-leb, ltb-false, eqb-true, eqb-false, eq-eqb, ne-eqb, not-false, not-true}
+use Rattle.lists.specs.InLaws.{keep-alike}
+use Rattle.lists.specs.Tests.{both}
+use Rattle.lists.specs.Lists.{upFrom, keep, bit, count}
 use Rattle.records.specs.declared.refusal.Tested.{Tested}
 use Rattle.records.specs.Le.{numberAt}
 use Rattle.records.specs.SearchLaws.{seek-before}
 use Rattle.records.specs.Tested.{fieldTested}
 use Rattle.records.specs.TestedLaws.{passed-both, passed-field}
-use Rattle.records.specs.Tests.{both}
-use Rattle.sorting.specs.Counting.{upFrom}
-use Rattle.sorting.specs.Distinct.{keep}
 use Rattle.modification.specs.declared.specificity.Specificity.the-variants.{Residue, PeptideN, PeptideC, ProteinN, ProteinC}
 use Rattle.modification.specs.Specificities.{kindOf, letterOf, specificity, sound}
 use Rattle.modification.specs.Rules.{goodRule, noRule, noLimit, ruleAt, firstBadRule}
-use Rattle.peptide_choices.specs.Choices.{bySize, keep as keepChoices}
+use Rattle.peptide_choices.specs.Choices.{bySize}
 use Rattle.peptide_slots.specs.Sites.{kindAt, letterAt, limitAt, slotOf, ruleOf, ifHit, hitFrom, placesOf, slotsOf as slotNumbers, sitesFrom, allSites}
 use Rattle.peptide_slots.specs.SiteLaws.{slot-back, rule-back}
 use Rattle.peptide_slots.specs.Filling.{apply}
-use Rattle.peptide_forms.specs.Passing.{one, passes as packedPasses}
+use Rattle.peptide_forms.specs.Passing.{passes as packedPasses}
 use Rattle.peptide_forms.specs.PassingLaws.{swap}
 use Rattle.peptide_forms.specs.Enumeration.{accepted}
 use Rattle.peptide_forms.specs.Packed.{choices as packedChoices, chosen as packedChosen, formOf as packedForm}
-use Rattle.peptide_forms.specs.UsedLaws.{freeIn, usesIn, onceIn, limitsIn, fine, passes-chosen, keep-as}
+use Rattle.peptide_forms.specs.UsedLaws.{freeIn, usesIn, onceIn, limitsIn, fine, passes-chosen}
 use Rattle.peptide.specs.declared.making.Peptide.{Peptide}
-use Rattle.peptide.specs.Sites.{Site, site, hits, slotsOf, sitesOf, each, count, passes, filled}
+use Rattle.peptide.specs.Sites.{Site, site, hits, slotsOf, sitesOf, each, passes, filled}
 use Rattle.peptide.specs.Forms.{testedLists, bare, chosen, choices, formOf, formsOf}
 
 -- ---- the forms by numbers
@@ -100,7 +100,7 @@ residues r hit j (suc c) h = go (hit (suc (suc j))) (residues r hit (suc j) c (o
     go true e = ap₂ {C = List Site} (λ (x : Site) (xs : List Site). x ∷ xs) here e
     go false e = e
 
--- of one rule: the slots of both ends, then those of the residues
+-- of bit rule: the slots of both ends, then those of the residues
 rule-sites : (p : Peptide) (r kind letter : ℕ) → p .len ≤ 64 → map (site r) (keep (hits p kind letter) (upFrom 0 (p .len + 2))) ≡ map unpack (slotNumbers (p .letters) (p .len) kind (p .position) letter (r * 128))
 unfolding slotNumbers placesOf ifHit
 rule-sites p r kind letter h =
@@ -153,18 +153,10 @@ onSlot slot t = eqb (t .slot) slot
 abbrev ofRule : ℕ → Site → Bool
 ofRule rule t = eqb (t .rule) rule
 
--- one more, where it passes the test
-count-one : (test : Site → Bool) (s : Site) (ss : List Site) → count test (s ∷ ss) ≡ one (test s) + count test ss
-count-one test s ss = go (test s)
-  where
-    go : (b : Bool) → length (cond b (s ∷ keep test ss) (keep test ss)) ≡ one b + length (keep test ss)
-    go true = omega arith
-    go false = omega arith
-
 count-rule : (rule : ℕ) (xs : List ℕ) → count (ofRule rule) (map unpack xs) ≡ usesIn rule xs
 unfolding usesIn
 count-rule rule [] = refl
-count-rule rule (x ∷ xs) = count-one (ofRule rule) (unpack x) (map unpack xs) ∙ ap (λ (n : ℕ). one (eqb (ruleOf x) rule) + n) (count-rule rule xs)
+count-rule rule (x ∷ xs) = ap (λ (n : ℕ). bit (eqb (ruleOf x) rule) + n) (count-rule rule xs)
 
 count-slot : (slot : ℕ) (xs : List ℕ) → freeIn slot xs ≡ eqb (count (onSlot slot) (map unpack xs)) 0
 unfolding freeIn
@@ -172,9 +164,9 @@ count-slot slot [] = refl
 count-slot slot (x ∷ xs) = go (eqb (slotOf x) slot) (count-slot slot xs)
   where
     go : (b : Bool) → freeIn slot xs ≡ eqb (count (onSlot slot) (map unpack xs)) 0
-        → not b && freeIn slot xs ≡ eqb (length (cond b (unpack x ∷ keep (onSlot slot) (map unpack xs)) (keep (onSlot slot) (map unpack xs)))) 0
-    go true e = sym (eqb·suc-zero (count (onSlot slot) (map unpack xs)))
-    go false e = e
+        → not b && freeIn slot xs ≡ eqb (bit b + count (onSlot slot) (map unpack xs)) 0
+    go true e = sym (ne-eqb (1 + count (onSlot slot) (map unpack xs)) 0 (λ z. omega arith))
+    go false e = e ∙ ap (λ (n : ℕ). eqb n 0) (sym (zero-add (count (onSlot slot) (map unpack xs))))
 
 -- the slot of s is used once among some sites
 abbrev alone : List ℕ → Site → Bool
@@ -188,7 +180,7 @@ apart x whole (y ∷ xs) h =
     let b = both (not (eqb (slotOf y) (slotOf x))) (freeIn (slotOf x) xs) h in
     let n : slotOf y ≡ slotOf x → ⊥ = eqb-false (slotOf y) (slotOf x) (not-true (eqb (slotOf y) (slotOf x)) (b .0)) in
     let e : eqb (slotOf x) (slotOf y) ≡ false = ne-eqb (slotOf x) (slotOf y) (λ (q : slotOf x ≡ slotOf y). n (sym q)) in
-    let same : count (onSlot (slotOf y)) (map unpack (x ∷ whole)) ≡ count (onSlot (slotOf y)) (map unpack whole) = count-one (onSlot (slotOf y)) (unpack x) (map unpack whole) ∙ ap (λ (t : Bool). one t + count (onSlot (slotOf y)) (map unpack whole)) e ∙ zero-add (count (onSlot (slotOf y)) (map unpack whole)) in
+    let same : count (onSlot (slotOf y)) (map unpack (x ∷ whole)) ≡ count (onSlot (slotOf y)) (map unpack whole) = ap (λ (t : Bool). bit t + count (onSlot (slotOf y)) (map unpack whole)) e ∙ zero-add (count (onSlot (slotOf y)) (map unpack whole)) in
     ap₂ _&&_ (ap (λ (k : ℕ). leb k 1) same) (apart x whole xs (b .1))
 
 once-each : (xs : List ℕ) → onceIn xs ≡ each (alone xs) (map unpack xs)
@@ -200,7 +192,7 @@ once-each (x ∷ xs) = go (freeIn (slotOf x) xs) refl (once-each xs)
     k = count (onSlot (slotOf x)) (map unpack xs)
 
     more : count (onSlot (slotOf x)) (map unpack (x ∷ xs)) ≡ 1 + k
-    more = count-one (onSlot (slotOf x)) (unpack x) (map unpack xs) ∙ ap (λ (t : Bool). one t + k) (eq-eqb (slotOf x) (slotOf x) refl)
+    more = ap (λ (t : Bool). bit t + k) (eq-eqb (slotOf x) (slotOf x) refl)
 
     go : (b : Bool) → freeIn (slotOf x) xs ≡ b → onceIn xs ≡ each (alone xs) (map unpack xs) → b && onceIn xs ≡ alone (x ∷ xs) (unpack x) && each (alone (x ∷ xs)) (map unpack xs)
     go true e rest =
@@ -231,11 +223,6 @@ passes-packed rules xs = ap₂ _&&_ (once-each xs) (limits-each rules xs xs) ∙
 
 -- ---- the forms
 
-pub keep-same : (ok : List ℕ → Bool) (cs : List (List ℕ)) → keep ok cs ≡ keepChoices ok cs
-unfolding keepChoices
-keep-same ok [] = refl
-keep-same ok (c ∷ cs) = ap (λ (z : List (List ℕ)). cond (ok c) (c ∷ z) z) (keep-same ok cs)
-
 chosen-packed : (ps c : List ℕ) → chosen (map unpack ps) c ≡ map unpack (packedChosen ps c)
 unfolding packedChosen
 chosen-packed ps [] = refl
@@ -251,9 +238,8 @@ unfolding choices packedChoices
 choices-packed ps rules limit cap =
     ap (λ (z : List (List ℕ)). [] ∷ accepted cap 1 z)
     (ap (λ (n : ℕ). keep (λ (c : List ℕ). passes rules (chosen (map unpack ps) c)) (bySize n 1 limit)) (length-map ps unpack)
-    ∙ keep-same (λ (c : List ℕ). passes rules (chosen (map unpack ps) c)) (bySize (length ps) 1 limit)
-    ∙ keep-as (λ (c : List ℕ). passes rules (chosen (map unpack ps) c)) (packedPasses ps rules) (bySize (length ps) 1 limit)
-    (λ c. ap (passes rules) (chosen-packed ps c) ∙ sym (passes-packed rules (packedChosen ps c)) ∙ sym (passes-chosen ps rules c)))
+    ∙ keep-alike (λ (c : List ℕ). passes rules (chosen (map unpack ps) c)) (packedPasses ps rules) (bySize (length ps) 1 limit)
+    (λ c i. ap (passes rules) (chosen-packed ps c) ∙ sym (passes-packed rules (packedChosen ps c)) ∙ sym (passes-chosen ps rules c)))
 
 pub map-same : (f g : List ℕ → List ℕ) (xs : List (List ℕ)) → ((c : List ℕ) → f c ≡ g c) → map f xs ≡ map g xs
 map-same f g [] h = refl

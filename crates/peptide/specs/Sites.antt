@@ -6,8 +6,7 @@ use mathlib.Core.Bool.{Bool, true, _&&_}
 use mathlib.Core.List.{List, [], _∷_, map, flatten}
 use lib.ListN.{length, getD}
 use lib.Dec.{leb, eqb}
-use Rattle.sorting.specs.Counting.{upFrom}
-use Rattle.sorting.specs.Distinct.{keep}
+use Rattle.lists.specs.Lists.{count, upFrom, keep}
 use Rattle.modification.specs.declared.rule.Rule.{Rule}
 use Rattle.modification.specs.Specificities.{kindOf, letterOf}
 use Rattle.modification.specs.Rules.{ruleAt}
@@ -43,10 +42,6 @@ sitesOf p rules = flatten (map (λ (r : ℕ). map (site r) (slotsOf p (ruleAt ru
 abbrev pub each : (Site → Bool) → List Site → Bool
 each test [] = true
 each test (s ∷ ss) = test s && each test ss
-
--- how many pass it
-abbrev pub count : (Site → Bool) → List Site → ℕ
-count test sites = length (keep test sites)
 
 -- no slot is used twice, and no rule more often than its own limit
 unfoldable pub passes : List ℕ → List Site → Bool

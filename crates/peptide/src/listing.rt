@@ -14,7 +14,9 @@ ghost use Rattle.peptide_slots.specs.Sites.{allSites};
 ghost use Rattle.peptide_slots.specs.Filling.{apply};
 ghost use Rattle.peptide_forms.specs.Packed.{choices};
 ghost use Rattle.peptide_forms.specs.RunLaws.{quick};
-ghost use Rattle.peptide.specs.Forms.{listed, formsOutcome};
+ghost use Rattle.records.specs.Room.{counted};
+ghost use Rattle.peptide_forms.specs.Enumeration.{mostForms};
+ghost use Rattle.peptide.specs.Forms.{formsOutcome};
 ghost use Rattle.peptide.specs.PackedLaws.{packedForms};
 
 // What the fixed rules put into an empty form.
@@ -39,7 +41,7 @@ fn list_all(
     out: &mut [u8],
 ) -> Counted
     requires { ⌜ limit ≤ 8 ⌝ }
-    ensures { λ r. ⌜ outcome r (now (out .exit) ∷ []) ≡ listed (now (out .entry)) (map (quick (bare .slots) (table .slots) (now (sites .entry)) (now (rules .entry))) (choices (now (sites .entry)) (now (rules .entry)) limit cap)) ⌝ }
+    ensures { λ r. ⌜ outcome r (now (out .exit) ∷ []) ≡ counted 66 mostForms (now (out .entry)) (map (quick (bare .slots) (table .slots) (now (sites .entry)) (now (rules .entry))) (choices (now (sites .entry)) (now (rules .entry)) limit cap)) ⌝ }
 {
     let most = cap as usize;
     let room = records::room_for(out.len(), 66, 1048576);
@@ -59,7 +61,7 @@ fn list_all(
 // The forms of a peptide whose tests passed.
 fn run(p: Peptide, variable: &[u8], fixed: &[u8], limit: u32, cap: u32, out: &mut [u8]) -> Counted
     requires { ⌜ (p .len ≤ 64) × (length (now variable) ≤ 256) × (length (now fixed) ≤ 256) × (limit ≤ 8) ⌝ }
-    ensures { λ r. ⌜ outcome r (now (out .exit) ∷ []) ≡ listed (now (out .entry)) (packedForms p (now (variable .entry)) (now (fixed .entry)) limit cap) ⌝ }
+    ensures { λ r. ⌜ outcome r (now (out .exit) ∷ []) ≡ counted 66 mostForms (now (out .entry)) (packedForms p (now (variable .entry)) (now (fixed .entry)) limit cap) ⌝ }
 {
     let n = p.len as usize;
     let letters = p.letters;

@@ -15,8 +15,3 @@ unfoldable pub bySize : ℕ → ℕ → ℕ → List (List ℕ)
 unfolding choicesOf
 bySize m n zero = []
 bySize m n (suc k) = choicesOf n m 0 ++ bySize m (suc n) k
-
--- those that pass, in order
-unfoldable pub keep : (List ℕ → Bool) → List (List ℕ) → List (List ℕ)
-keep ok [] = []
-keep ok (c ∷ cs) = let rest = keep ok cs in cond (ok c) (c ∷ rest) rest

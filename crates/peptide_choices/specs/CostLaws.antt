@@ -7,8 +7,9 @@ use mathlib.Core.Bool.{Bool, true, false, cond}
 use native.Mathlib.Omega.{arith}
 use native.Mathlib.Nat.{add-zero, add-suc, suc-add, mul-add}
 use lib.ListN.{length, length-append}
+use Rattle.lists.specs.Lists.{keep}
 use Rattle.peptide_choices.specs.BoundLaws.{few-visits, goods, tot, visited}
-use Rattle.peptide_choices.specs.Choices.{bySize, choicesOf, keep}
+use Rattle.peptide_choices.specs.Choices.{bySize, choicesOf}
 use Rattle.peptide_choices.specs.KeepLaws.{keep-append}
 
 module _ (ok : List ℕ → Bool) (inherit : (p q : List ℕ) → ok p ≡ false → ok (p ++ q) ≡ false) where
@@ -47,7 +48,7 @@ module _ (ok : List ℕ → Bool) (inherit : (p q : List ℕ) → ok p ≡ false
       go i j false e = omega (arith, split, pass-bad (p ++ (lo ∷ [])) (choicesOf k l (suc lo)) e)
 
   pass-keep : (xs : List (List ℕ)) → pass [] xs ≡ length (keep ok xs)
-  unfolding pass keep
+  unfolding pass
   pass-keep [] = refl
   pass-keep (c ∷ xs) = go (pass-keep xs) (ok c)
     where
@@ -63,7 +64,7 @@ module _ (ok : List ℕ → Bool) (inherit : (p q : List ℕ) → ok p ≡ false
       ∙ sym (append-assoc (choicesOf n m 0) (bySize m (suc n) k) (choicesOf (n + suc k) m 0))
 
   tot-is : (m k : ℕ) → ok [] ≡ true → tot ok [] k m 0 ≡ length (keep ok (bySize m 1 k))
-  unfolding tot keep bySize
+  unfolding tot bySize
   tot-is m zero h = refl
   tot-is m (suc k) h =
       let a : tot ok [] k m 0 ≡ length (keep ok (bySize m 1 k)) = tot-is m k h in

@@ -8,8 +8,8 @@ use mathlib.Core.Bool.{Bool, true, false, cond, true≢false}
 use native.Mathlib.Omega.{arith}
 use native.Mathlib.Nat.{not-suc-le-zero}
 use lib.ListN.{length, take, length-append}
-use Rattle.peptide_choices.specs.Choices.{choicesOf, keep}
-use Rattle.peptide_choices.specs.ListingLaws.{In}
+use Rattle.lists.specs.Lists.{keep, In}
+use Rattle.peptide_choices.specs.Choices.{choicesOf}
 use Rattle.peptide_choices.specs.OrderLaws.{AllLen, Chain, chain-first, go-on, stop}
 use Rattle.peptide_choices.specs.PruneLaws.{AllBegin, Cut, cut, past-all}
 use Rattle.peptide_choices.specs.Steps.{after, firstOf, past}
@@ -22,7 +22,6 @@ pub record Sound (ok : List ℕ → Bool) (c : List ℕ) (kept : ℕ) : Type 0 w
 
 module _ (ok : List ℕ → Bool) where
   pub keep-append : (xs ys : List (List ℕ)) → keep ok (xs ++ ys) ≡ keep ok xs ++ keep ok ys
-  unfolding keep
   keep-append [] ys = refl
   keep-append (c ∷ xs) ys = go (keep-append xs ys) (ok c)
     where
@@ -31,11 +30,9 @@ module _ (ok : List ℕ → Bool) where
       go ih false = ih
 
   pub keep-yes : (c : List ℕ) (cs : List (List ℕ)) → ok c ≡ true → keep ok (c ∷ cs) ≡ c ∷ keep ok cs
-  unfolding keep
   keep-yes c cs h = rw h
 
   pub keep-no : (c : List ℕ) (cs : List (List ℕ)) → ok c ≡ false → keep ok (c ∷ cs) ≡ keep ok cs
-  unfolding keep
   keep-no c cs h = rw h
 
   -- being bad is inherited: all that begin with p are left out at once
@@ -107,12 +104,12 @@ pub skipped-never : (ok : List ℕ → Bool) {m : ℕ} (kept : ℕ) {c : List �
 skipped-never ok kept {c} xs s e k d i = skipped-in ok (suc kept) (take (suc kept) c) (c ∷ k .out) (s .bad e) (k .begin) d i
 
 -- ---- the theorem: the pruned walk yields exactly the choices that pass, in order
-chain-end : {m : ℕ} {xs : List (List ℕ)} → Chain m none xs none → xs ≡ []
+pub chain-end : {m : ℕ} {xs : List (List ℕ)} → Chain m none xs none → xs ≡ []
 chain-end stop = refl
 
 module _ (ok : List ℕ → Bool) (reach : List ℕ → ℕ) (sound : (c : List ℕ) → Sound ok c (reach c)) (m : ℕ) where
   pruned-keep : (fuel : ℕ) (o : Option (List ℕ)) (xs : List (List ℕ)) → Chain m o xs none → length xs ≤ fuel → pruned ok reach m fuel o ≡ keep ok xs
-  unfolding pruned keep
+  unfolding pruned
   pruned-keep zero o [] d h = refl
   pruned-keep zero o (c ∷ xs) d h = absurd (not-suc-le-zero h)
   pruned-keep (suc fuel) none xs d h = ap (keep ok) (sym (chain-end d))

@@ -6,17 +6,14 @@ use mathlib.Core.List.{List, [], _∷_, _++_, map}
 use mathlib.Core.Logic.{_⊎_, inl, inr, ⊎-elim}
 use native.Mathlib.Omega.{arith}
 use lib.ListN.{length}
-use Rattle.records.specs.Tests.{same?, below?}
-use Rattle.peptide_choices.specs.Choices.{choicesOf, bySize, keep}
+use Rattle.lists.specs.Tests.{same?, below?}
+use Rattle.lists.specs.Lists.{keep, In}
+use Rattle.peptide_choices.specs.Choices.{choicesOf, bySize}
 
 -- ascending places from lo on, below hi
 abbrev pub Ascending : ℕ → ℕ → List ℕ → Type 0
 Ascending lo hi [] = Unit {0}
 Ascending lo hi (a ∷ c) = (lo ≤ a) × (a < hi) × Ascending (suc a) hi c
-
-abbrev pub In : List ℕ → List (List ℕ) → Type 0
-In c [] = ⊥
-In c (x ∷ xs) = (c ≡ x) ⊎ In c xs
 
 -- the order of the listing: fewer places first, those of one size in lexicographic order
 abbrev pub Lex : List ℕ → List ℕ → Type 0
@@ -203,7 +200,6 @@ sizes-ordered m n (suc k) = ordered-append (choicesOf n m 0) (bySize m (suc n) k
 
 module _ (ok : List ℕ → Bool) where
   keep-in : (c : List ℕ) (xs : List (List ℕ)) → ok c ≡ true → In c xs → In c (keep ok xs)
-  unfolding keep
   keep-in c [] e h = absurd h
   keep-in c (x ∷ xs) e h = ⊎-elim here (λ i. skip (ok x) (keep-in c xs e i)) h
     where
@@ -215,7 +211,6 @@ module _ (ok : List ℕ → Bool) where
       skip false i = i
 
   in-keep : (c : List ℕ) (xs : List (List ℕ)) → In c (keep ok xs) → In c xs × (ok c ≡ true)
-  unfolding keep
   in-keep c [] h = absurd h
   in-keep c (x ∷ xs) h = go (λ i. in-keep c xs i) (ok x) refl h
     where
@@ -224,7 +219,6 @@ module _ (ok : List ℕ → Bool) where
       go r false e i = (inr (r i .0), r i .1)
 
   keep-ordered : (xs : List (List ℕ)) → Ordered xs → Ordered (keep ok xs)
-  unfolding keep
   keep-ordered [] o = tt
   keep-ordered (x ∷ xs) o = go (ok x) (keep-ordered xs (o .1))
     where

@@ -7,8 +7,9 @@ use mathlib.Core.Bool.{Bool, true, false, cond}
 use native.Mathlib.Omega.{arith}
 use lib.ListN.{length, take, drop, replicate}
 use lib.Seq.{take-at}
-use Rattle.peptide_choices.specs.Choices.{choicesOf, keep}
-use Rattle.peptide_choices.specs.KeepLaws.{Sound, Stepped-on, step-on}
+use Rattle.lists.specs.Lists.{keep}
+use Rattle.peptide_choices.specs.Choices.{choicesOf}
+use Rattle.peptide_choices.specs.KeepLaws.{Sound, Stepped-on, step-on, chain-end}
 use Rattle.peptide_choices.specs.OrderLaws.{AllLen, Chain, all-long, chain-first, chain-walk, go-on, stop, walk}
 use Rattle.peptide_choices.specs.Steps.{begun, past, stepped, steppedTo, word}
 use Rattle.peptide_choices.specs.declared.choice.Choice.{Choice}
@@ -62,9 +63,6 @@ moved ok m n kept s xs l e g = go (step-on ok kept xs g (rw e at (l .chain)))
       yes = t .yes;
       no = t .no;
     }
-
-chain-end : {m : ℕ} {xs : List (List ℕ)} → Chain m none xs none → xs ≡ []
-chain-end stop = refl
 
 pub ended : (m n : ℕ) (s : Stepped) (xs : List (List ℕ)) → Left m n s xs → s .more ≡ false → xs ≡ []
 ended m n s xs l e = chain-end {m = m} (rw e at (l .chain))

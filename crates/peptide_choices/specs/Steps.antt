@@ -5,7 +5,7 @@ use mathlib.Core.List.{List, [], _∷_, _++_}
 use mathlib.Core.Option.{Option, none, some}
 use lib.ListN.{length, take, drop, replicate}
 use lib.Dec.{ltb, leb}
-use Rattle.sorting.specs.Distinct.{same}
+use Rattle.lists.specs.Lists.{same}
 use Rattle.peptide_choices.specs.Choices.{choicesOf}
 use Rattle.peptide_choices.specs.declared.choice.Choice.{Choice}
 use Rattle.peptide_choices.specs.declared.choice.Stepped.{Stepped}

@@ -13,11 +13,11 @@ use lib.ListN.{length, getD, take, drop, drop-of-length-le, length-take}
 use lib.Seq.{drop-cons, getD-take, length-take-le}
 use lib.Dec.{leb, ltb}
 use borrow.Author.Tests.{le-leb, lt-ltb, leb-true, ltb-true}
-use Rattle.records.specs.Tests.{both}
-use Rattle.sorting.specs.Distinct.{same}
-use Rattle.sorting.specs.DistinctLaws.{same-refl, same-eq}
+use Rattle.lists.specs.Tests.{both}
+use Rattle.lists.specs.Lists.{same, In}
+use Rattle.lists.specs.SameLaws.{same-refl, same-eq}
 use Rattle.peptide_choices.specs.Choices.{choicesOf}
-use Rattle.peptide_choices.specs.ListingLaws.{Ascending, Before, In, Ordered, before-in, choices-all, choices-only, choices-ordered}
+use Rattle.peptide_choices.specs.ListingLaws.{Ascending, Before, Ordered, before-in, choices-all, choices-only, choices-ordered}
 use Rattle.peptide_choices.specs.OrderLaws.{Chain, chain-first, go-on, stop}
 use Rattle.peptide_choices.specs.PruneLaws.{found, past-all}
 use Rattle.peptide_choices.specs.Steps.{after, follower, head, stepped, steppedTo, successor, word}

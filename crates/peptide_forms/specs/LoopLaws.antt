@@ -8,9 +8,10 @@ use native.Mathlib.Omega.{arith}
 use native.Mathlib.Numerals.{add-one}
 use lib.ListN.{length}
 use lib.Seq.{sets}
+use Rattle.lists.specs.Lists.{keep}
 use Rattle.records.specs.RoomLaws.{Standing, standing-more}
 use Rattle.peptide_choices.specs.declared.choice.Stepped.{Stepped}
-use Rattle.peptide_choices.specs.Choices.{choicesOf, bySize, keep}
+use Rattle.peptide_choices.specs.Choices.{choicesOf, bySize}
 use Rattle.peptide_choices.specs.KeepLaws.{Sound}
 use Rattle.peptide_choices.specs.LoopLaws.{Left, Moved, wordOf, moved, ended, left-first, count-left, fewer}
 use Rattle.peptide_choices.specs.Steps.{begun, stepped}
@@ -121,7 +122,6 @@ module _ (ok : List ℕ → Bool) (form : List ℕ → List ℕ) (m limit cap ro
 
     -- a size of which none was taken has none that passes
     pub none-of-size : s .more ≡ false → k ≡ k₀ → keep ok (choicesOf n m 0) ≡ []
-    unfolding keep
     none-of-size e q = h .none q ∙ ap (keep ok) (ended m n s (h .xs) (h .left) e)
 
     pub all-of-size : s .more ≡ false → Runs room start old k₀ (map form (todo ok cap k (bySize m (n + 1) (limit + 1 - (n + 1))))) out k

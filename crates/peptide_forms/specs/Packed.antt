@@ -3,14 +3,15 @@
 use Prim.Native.Nat.{ℕ}
 use mathlib.Core.List.{List, [], _∷_}
 use lib.ListN.{length, getD}
-use Rattle.peptide_choices.specs.Choices.{bySize, keep}
+use Rattle.lists.specs.Lists.{keep}
+use Rattle.peptide_choices.specs.Choices.{bySize}
 use Rattle.peptide_slots.specs.Filling.{apply}
 use Rattle.peptide_forms.specs.Passing.{passes}
 use Rattle.peptide_forms.specs.Enumeration.{accepted}
 
 -- the choices that make forms, the empty one first
 unfoldable pub choices : List ℕ → List ℕ → ℕ → ℕ → List (List ℕ)
-unfolding accepted keep bySize passes
+unfolding accepted bySize passes
 choices sites rules limit cap = [] ∷ accepted cap 1 (keep (passes sites rules) (bySize (length sites) 1 limit))
 
 -- the sites at the chosen places

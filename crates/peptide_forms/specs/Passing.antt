@@ -1,10 +1,11 @@
--- Which choices pass, each site one number as in peptide_slots' Sites: how the code says it. A choice is the list of its
+-- Which choices pass, each site bit number as in peptide_slots' Sites: how the code says it. A choice is the list of its
 -- places in the list of sites. The public statement does not cite this.
 use Prim.Native.Nat.{ℕ, _+_}
-use mathlib.Core.Bool.{Bool, true, cond, not, _&&_}
+use mathlib.Core.Bool.{Bool, true, not, _&&_}
 use mathlib.Core.List.{List, [], _∷_}
 use lib.ListN.{getD}
 use lib.Dec.{leb, eqb}
+use Rattle.lists.specs.Lists.{bit}
 use Rattle.peptide_slots.specs.Sites.{slotOf, ruleOf, limitAt}
 
 abbrev pub siteSlot : List ℕ → ℕ → ℕ
@@ -12,9 +13,6 @@ siteSlot sites k = slotOf (getD sites k 0)
 
 abbrev pub siteRule : List ℕ → ℕ → ℕ
 siteRule sites k = ruleOf (getD sites k 0)
-
-abbrev pub one : Bool → ℕ
-one b = cond b 1 0
 
 -- none of the places has the slot
 unfoldable pub free : List ℕ → ℕ → List ℕ → Bool
@@ -24,7 +22,7 @@ free sites slot (k ∷ ks) = not (eqb (siteSlot sites k) slot) && free sites slo
 -- how many of the places are the rule's
 unfoldable pub uses : List ℕ → ℕ → List ℕ → ℕ
 uses sites rule [] = 0
-uses sites rule (k ∷ ks) = one (eqb (siteRule sites k) rule) + uses sites rule ks
+uses sites rule (k ∷ ks) = bit (eqb (siteRule sites k) rule) + uses sites rule ks
 
 -- no slot is used twice
 unfoldable pub slotsOnce : List ℕ → List ℕ → Bool

@@ -8,21 +8,16 @@ use native.Mathlib.Nat.{add-zero, zero-add}
 use lib.ListN.{length, getD, take, drop, take-append-drop}
 use lib.Seq.{take-suc}
 use lib.Dec.{leb, ltb, eqb}
-use borrow.Author.Tests.{le-leb, lt-leb, ltb-true, ltb-false, eqb-true, eqb-false, eq-eqb, ne-eqb}
-use Rattle.peptide_forms.specs.Passing.{free, inLimits, one, passes, siteRule, siteSlot, slotsOnce, uses}
+use borrow.Author.Tests.{le-leb, lt-leb, ltb-true, ltb-false, eqb-true, eq-eqb}
+use Rattle.lists.specs.Tests.{eqb-sym}
+use Rattle.lists.specs.Lists.{bit}
+use Rattle.peptide_forms.specs.Passing.{free, inLimits, passes, siteRule, siteSlot, slotsOnce, uses}
 use Rattle.peptide_slots.specs.Sites.{limitAt}
 
 -- place k may join places that pass: its slot is free among them, and its rule has a use left
 unfoldable pub joined : List ℕ → List ℕ → List ℕ → ℕ → Bool
 unfolding free uses
 joined sites rules p k = free sites (siteSlot sites k) p && ltb (uses sites (siteRule sites k) p) (limitAt rules (siteRule sites k))
-
-eqb-sym : (a b : ℕ) → eqb a b ≡ eqb b a
-eqb-sym a b = go (eqb a b) refl
-  where
-    go : (t : Bool) → eqb a b ≡ t → t ≡ eqb b a
-    go true h = sym (eq-eqb b a (sym (eqb-true a b h)))
-    go false h = sym (ne-eqb b a (λ (e : b ≡ a). eqb-false a b h (sym e)))
 
 -- the middle two of four tests change places
 pub swap : (a b c d : Bool) → (a && b) && (c && d) ≡ (a && c) && (b && d)
@@ -37,10 +32,10 @@ module _ (sites rules : List ℕ) where
   free-snoc slot [] k = and-true (not (eqb (siteSlot sites k) slot))
   free-snoc slot (x ∷ p) k = ap (λ (t : Bool). not (eqb (siteSlot sites x) slot) && t) (free-snoc slot p k) ∙ sym (and-assoc (not (eqb (siteSlot sites x) slot)) (free sites slot p) (not (eqb (siteSlot sites k) slot)))
 
-  uses-snoc : (rule : ℕ) (p : List ℕ) (k : ℕ) → uses sites rule (p ++ (k ∷ [])) ≡ uses sites rule p + one (eqb (siteRule sites k) rule)
+  uses-snoc : (rule : ℕ) (p : List ℕ) (k : ℕ) → uses sites rule (p ++ (k ∷ [])) ≡ uses sites rule p + bit (eqb (siteRule sites k) rule)
   unfolding uses
-  uses-snoc rule [] k = add-zero (one (eqb (siteRule sites k) rule)) ∙ sym (zero-add (one (eqb (siteRule sites k) rule)))
-  uses-snoc rule (x ∷ p) k = let ih : uses sites rule (p ++ (k ∷ [])) ≡ uses sites rule p + one (eqb (siteRule sites k) rule) = uses-snoc rule p k in omega arith
+  uses-snoc rule [] k = add-zero (bit (eqb (siteRule sites k) rule)) ∙ sym (zero-add (bit (eqb (siteRule sites k) rule)))
+  uses-snoc rule (x ∷ p) k = let ih : uses sites rule (p ++ (k ∷ [])) ≡ uses sites rule p + bit (eqb (siteRule sites k) rule) = uses-snoc rule p k in omega arith
 
   once-snoc : (p : List ℕ) (k : ℕ) → slotsOnce sites (p ++ (k ∷ [])) ≡ slotsOnce sites p && free sites (siteSlot sites k) p
   unfolding slotsOnce free
@@ -59,17 +54,17 @@ module _ (sites rules : List ℕ) where
   in-snoc whole [] k = and-true (leb (uses sites (siteRule sites k) whole) (limitAt rules (siteRule sites k)))
   in-snoc whole (x ∷ q) k = ap (λ (t : Bool). leb (uses sites (siteRule sites x) whole) (limitAt rules (siteRule sites x)) && t) (in-snoc whole q k) ∙ sym (and-assoc (leb (uses sites (siteRule sites x) whole) (limitAt rules (siteRule sites x))) (inLimits sites rules whole q) (leb (uses sites (siteRule sites k) whole) (limitAt rules (siteRule sites k))))
 
-  -- one place more leaves the test on another place as it is, if its rule has room
+  -- bit place more leaves the test on another place as it is, if its rule has room
   leb-same : (p : List ℕ) (k x : ℕ) → room p k ≡ true → leb (uses sites (siteRule sites x) (p ++ (k ∷ []))) (limitAt rules (siteRule sites x)) ≡ leb (uses sites (siteRule sites x) p) (limitAt rules (siteRule sites x))
   unfolding room
   leb-same p k x h = go (eqb (siteRule sites k) (siteRule sites x)) refl
     where
       go : (b : Bool) → eqb (siteRule sites k) (siteRule sites x) ≡ b → leb (uses sites (siteRule sites x) (p ++ (k ∷ []))) (limitAt rules (siteRule sites x)) ≡ leb (uses sites (siteRule sites x) p) (limitAt rules (siteRule sites x))
-      go false e = ap (λ (z : ℕ). leb z (limitAt rules (siteRule sites x))) (uses-snoc (siteRule sites x) p k ∙ ap (λ (t : Bool). uses sites (siteRule sites x) p + one t) e ∙ add-zero (uses sites (siteRule sites x) p))
+      go false e = ap (λ (z : ℕ). leb z (limitAt rules (siteRule sites x))) (uses-snoc (siteRule sites x) p k ∙ ap (λ (t : Bool). uses sites (siteRule sites x) p + bit t) e ∙ add-zero (uses sites (siteRule sites x) p))
       go true e =
           let f : siteRule sites k ≡ siteRule sites x = eqb-true (siteRule sites k) (siteRule sites x) e in
           let l : uses sites (siteRule sites x) p < limitAt rules (siteRule sites x) = ltb-true (uses sites (siteRule sites x) p) (limitAt rules (siteRule sites x)) (subst (λ (z : ℕ). ltb (uses sites z p) (limitAt rules z) ≡ true) f h) in
-          let u : uses sites (siteRule sites x) (p ++ (k ∷ [])) ≡ uses sites (siteRule sites x) p + 1 = uses-snoc (siteRule sites x) p k ∙ ap (λ (t : Bool). uses sites (siteRule sites x) p + one t) e in
+          let u : uses sites (siteRule sites x) (p ++ (k ∷ [])) ≡ uses sites (siteRule sites x) p + 1 = uses-snoc (siteRule sites x) p k ∙ ap (λ (t : Bool). uses sites (siteRule sites x) p + bit t) e in
           le-leb (uses sites (siteRule sites x) (p ++ (k ∷ []))) (limitAt rules (siteRule sites x)) (omega arith) ∙ sym (le-leb (uses sites (siteRule sites x) p) (limitAt rules (siteRule sites x)) (omega arith))
 
   in-same : (p q : List ℕ) (k : ℕ) → room p k ≡ true → inLimits sites rules (p ++ (k ∷ [])) q ≡ inLimits sites rules p q
@@ -85,7 +80,7 @@ module _ (sites rules : List ℕ) where
       r = siteRule sites k
 
       u : uses sites r (p ++ (k ∷ [])) ≡ uses sites r p + 1
-      u = uses-snoc r p k ∙ ap (λ (t : Bool). uses sites r p + one t) (eq-eqb r r refl)
+      u = uses-snoc r p k ∙ ap (λ (t : Bool). uses sites r p + bit t) (eq-eqb r r refl)
 
       go : (b : Bool) → room p k ≡ b → inLimits sites rules (p ++ (k ∷ [])) p && leb (uses sites r (p ++ (k ∷ []))) (limitAt rules r) ≡ inLimits sites rules p p && b
       go true h =

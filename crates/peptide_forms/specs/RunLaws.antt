@@ -10,9 +10,9 @@ use lib.ListN.{length, getD, take, drop}
 use lib.Seq.{getD-take, length-take-le}
 use lib.Dec.{eqb}
 use borrow.Author.Tests.{le-leb, lt-leb, ne-eqb}
+use Rattle.lists.specs.Lists.{keep}
 use Rattle.records.specs.Room.{roomOf, fits, fitted}
 use Rattle.records.specs.RoomLaws.{Sized, Standing, standing-done, standing-full}
-use Rattle.peptide_choices.specs.Choices.{keep}
 use Rattle.peptide_choices.specs.KeepLaws.{keep-yes}
 use Rattle.peptide_slots.specs.Filling.{fillSite, apply}
 use Rattle.peptide_slots.specs.FillLaws.{apply-on, apply-end, length-apply}
@@ -51,7 +51,7 @@ module _ (ok : List ℕ → Bool) (cap k : ℕ) where
   todo-take c cs e h = ap (accepted cap k) (keep-yes ok c cs e) ∙ rw (h, add-one)
 
   pub todo-none : todo ok cap k [] ≡ []
-  unfolding accepted keep
+  unfolding accepted
   todo-none = refl
 
 -- ---- the form of a choice, the fixed rules by their table

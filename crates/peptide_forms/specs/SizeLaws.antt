@@ -7,9 +7,10 @@ use mathlib.Core.Logic.{inl, inr, ⊎-elim}
 use native.Mathlib.Omega.{arith}
 use lib.ListN.{length, take, drop, take-append-drop}
 use lib.Seq.{length-take-le}
-use Rattle.peptide_choices.specs.Choices.{choicesOf, bySize, keep}
+use Rattle.lists.specs.Lists.{keep, In}
+use Rattle.peptide_choices.specs.Choices.{choicesOf, bySize}
 use Rattle.peptide_choices.specs.KeepLaws.{keep-append, keep-no}
-use Rattle.peptide_choices.specs.ListingLaws.{Ascending, In, choices-all, choices-only}
+use Rattle.peptide_choices.specs.ListingLaws.{Ascending, choices-all, choices-only}
 use Rattle.peptide_forms.specs.Enumeration.{accepted}
 use Rattle.peptide_forms.specs.Packed.{choices}
 use Rattle.peptide_forms.specs.Passing.{passes}
@@ -23,7 +24,7 @@ andOn [] more = []
 andOn (c ∷ cs) more = (c ∷ cs) ++ more
 
 unfoldable pub untilNone : (List ℕ → Bool) → ℕ → ℕ → ℕ → List (List ℕ)
-unfolding choicesOf keep
+unfolding choicesOf
 untilNone ok m n zero = []
 untilNone ok m n (suc k) = andOn (keep ok (choicesOf n m 0)) (untilNone ok m (suc n) k)
 
@@ -36,12 +37,10 @@ ascending-take (suc n) lo hi (a ∷ c) h = (h .0, h .1, ascending-take n (suc a)
 
 module _ (ok : List ℕ → Bool) where
   keep-nothing : (xs : List (List ℕ)) → ((c : List ℕ) → In c xs → ok c ≡ false) → keep ok xs ≡ []
-  unfolding keep
   keep-nothing [] h = refl
   keep-nothing (x ∷ xs) h = keep-no ok x xs (h x (inl refl)) ∙ keep-nothing xs (λ c i. h c (inr i))
 
   nothing-kept : (xs : List (List ℕ)) → keep ok xs ≡ [] → (c : List ℕ) → In c xs → ok c ≡ false
-  unfolding keep
   nothing-kept [] e c i = absurd i
   nothing-kept (x ∷ xs) e c i = go (nothing-kept xs) (ok x) refl e
     where
@@ -62,7 +61,7 @@ module _ (ok : List ℕ → Bool) where
             ap ok (sym (take-append-drop n c)) ∙ bad (take n c) (drop n c) (nothing-kept (choicesOf n m 0) e (take n c) j)
 
     pub sizes-none : (n k : ℕ) → keep ok (choicesOf n m 0) ≡ [] → keep ok (bySize m n k) ≡ []
-    unfolding bySize keep
+    unfolding bySize
     sizes-none n zero e = refl
     sizes-none n (suc k) e =
         keep-append ok (choicesOf n m 0) (bySize m (suc n) k)
@@ -71,7 +70,7 @@ module _ (ok : List ℕ → Bool) where
 
     -- what a loop lists that ends at the first size of which no choice passes is what the definition lists
     pub until-none : (n k : ℕ) → untilNone ok m n k ≡ keep ok (bySize m n k)
-    unfolding untilNone bySize keep
+    unfolding untilNone bySize
     until-none n zero = refl
     until-none n (suc k) = go (keep ok (choicesOf n m 0)) refl (until-none (suc n) k) ∙ sym (keep-append ok (choicesOf n m 0) (bySize m (suc n) k))
       where

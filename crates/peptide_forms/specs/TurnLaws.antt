@@ -9,10 +9,10 @@ use native.Mathlib.Numerals.{add-one}
 use lib.ListN.{length, getD, take, drop, drop-of-length-le}
 use lib.Seq.{drop-cons, take-all, getD-take, take-take, length-take-le}
 use lib.Dec.{ltb, eqb}
+use Rattle.lists.specs.Lists.{In, bit}
 use Rattle.peptide_choices.specs.KeepLaws.{Sound, skipped-never}
-use Rattle.peptide_choices.specs.ListingLaws.{In}
 use Rattle.peptide_choices.specs.PruneLaws.{Cut}
-use Rattle.peptide_forms.specs.Passing.{free, one, passes, siteRule, siteSlot, uses}
+use Rattle.peptide_forms.specs.Passing.{free, passes, siteRule, siteSlot, uses}
 use Rattle.peptide_forms.specs.PassingLaws.{bad-begin, join-more, joined, passes-none}
 use Rattle.peptide_slots.specs.Sites.{limitAt}
 
@@ -25,7 +25,7 @@ pub record Seen (sites : List ℕ) (slot rule : ℕ) (xs : List ℕ) (i : ℕ) (
 pub seen-none : (sites : List ℕ) (slot rule : ℕ) (xs : List ℕ) → Seen sites slot rule xs 0 true 0
 seen-none sites slot rule xs = record { no = refl; many = zero-add (uses sites rule xs); few = omega arith }
 
-pub seen-more : (sites : List ℕ) (slot rule : ℕ) (xs : List ℕ) (i : ℕ) (f : Bool) (u v : ℕ) → i < length xs → v ≡ one (eqb (siteRule sites (getD xs i 0)) rule) → v ≤ 1 → Seen sites slot rule xs i f u
+pub seen-more : (sites : List ℕ) (slot rule : ℕ) (xs : List ℕ) (i : ℕ) (f : Bool) (u v : ℕ) → i < length xs → v ≡ bit (eqb (siteRule sites (getD xs i 0)) rule) → v ≤ 1 → Seen sites slot rule xs i f u
     → Seen sites slot rule xs (i + 1) (f && not (eqb (siteSlot sites (getD xs i 0)) slot)) (u + v)
 unfolding free uses
 seen-more sites slot rule xs i f u v h e l s =
@@ -38,13 +38,13 @@ seen-more sites slot rule xs i f u v h e l s =
       few = omega (arith, s .few);
     }
 
-pub seen-turn : (sites : List ℕ) (slot rule : ℕ) (xs : List ℕ) (j i : ℕ) (f : Bool) (u site v : ℕ) → j ≤ length xs → i < j → site ≡ getD sites (getD xs i 0) 0 → v ≡ one (eqb (site / 128) rule) → v ≤ 1 → Seen sites slot rule (take j xs) i f u
+pub seen-turn : (sites : List ℕ) (slot rule : ℕ) (xs : List ℕ) (j i : ℕ) (f : Bool) (u site v : ℕ) → j ≤ length xs → i < j → site ≡ getD sites (getD xs i 0) 0 → v ≡ bit (eqb (site / 128) rule) → v ≤ 1 → Seen sites slot rule (take j xs) i f u
     → Seen sites slot rule (take j xs) (i + 1) (f && not (eqb (site % 128) slot)) (u + v)
 seen-turn sites slot rule xs j i f u site v l h e w b s =
     let n : length (take j xs) ≡ j = length-take-le j xs l in
     let g : site ≡ getD sites (getD (take j xs) i 0) 0 = e ∙ ap (λ (z : ℕ). getD sites z 0) (sym (getD-take j xs i 0 h)) in
     subst (λ (z : ℕ). Seen sites slot rule (take j xs) (i + 1) (f && not (eqb (z % 128) slot)) (u + v)) (sym g)
-    (seen-more sites slot rule (take j xs) i f u v (omega arith) (w ∙ ap (λ (z : ℕ). one (eqb (z / 128) rule)) g) b s)
+    (seen-more sites slot rule (take j xs) i f u v (omega arith) (w ∙ ap (λ (z : ℕ). bit (eqb (z / 128) rule)) g) b s)
 
 -- all are looked at
 pub seen-all : (sites rules : List ℕ) (k : ℕ) (xs : List ℕ) (j : ℕ) (f : Bool) (u : ℕ) → length xs ≤ j → Seen sites (siteSlot sites k) (siteRule sites k) xs j f u → f && ltb u (limitAt rules (siteRule sites k)) ≡ joined sites rules xs k

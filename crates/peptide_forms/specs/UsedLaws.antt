@@ -3,18 +3,21 @@
 use Prim.Native.Nat.{ℕ, zero, suc, _+_, _≤_}
 use mathlib.Core.Path.{_≡_, refl, sym, ap, _∙_}
 use mathlib.Core.Bool.{Bool, true, false, cond, not, _&&_, _||_, and-false, or-true, true≢false}
-use mathlib.Core.List.{List, [], _∷_, _++_, map, append-assoc}
+use mathlib.Core.List.{List, [], _∷_, _++_, map, append-assoc, map-append}
 use native.Mathlib.Omega.{arith}
 use lib.ListN.{length, getD, drop}
 use lib.Dec.{leb, eqb}
 use borrow.Author.Tests.{lt-leb, eqb-true, eq-eqb}
-use Rattle.peptide_choices.specs.Choices.{choicesOf, bySize, keep}
+use Rattle.lists.specs.KeepLaws.{keep-map}
+use Rattle.lists.specs.InLaws.{keep-alike}
+use Rattle.lists.specs.Lists.{keep, bit}
+use Rattle.peptide_choices.specs.Choices.{choicesOf, bySize}
 use Rattle.peptide_choices.specs.KeepLaws.{keep-append, keep-no}
 use Rattle.peptide_slots.specs.Sites.{ifHit, limitAt, ruleOf, slotOf}
 use Rattle.peptide_slots.specs.Used.{idle, used}
 use Rattle.peptide_forms.specs.Enumeration.{accepted, reached}
 use Rattle.peptide_forms.specs.Packed.{choices, chosen}
-use Rattle.peptide_forms.specs.Passing.{free, inLimits, one, passes, slotsOnce, uses}
+use Rattle.peptide_forms.specs.Passing.{free, inLimits, passes, slotsOnce, uses}
 
 -- ---- the tests of a choice, on the list of its sites
 
@@ -24,7 +27,7 @@ freeIn slot (x ∷ xs) = not (eqb (slotOf x) slot) && freeIn slot xs
 
 unfoldable pub usesIn : ℕ → List ℕ → ℕ
 usesIn rule [] = 0
-usesIn rule (x ∷ xs) = one (eqb (ruleOf x) rule) + usesIn rule xs
+usesIn rule (x ∷ xs) = bit (eqb (ruleOf x) rule) + usesIn rule xs
 
 unfoldable pub onceIn : List ℕ → Bool
 unfolding freeIn
@@ -49,7 +52,7 @@ module _ (sites rules : List ℕ) where
   uses-chosen : (rule : ℕ) (c : List ℕ) → uses sites rule c ≡ usesIn rule (chosen sites c)
   unfolding uses usesIn chosen
   uses-chosen rule [] = refl
-  uses-chosen rule (k ∷ c) = ap (λ (t : ℕ). one (eqb (ruleOf (getD sites k 0)) rule) + t) (uses-chosen rule c)
+  uses-chosen rule (k ∷ c) = ap (λ (t : ℕ). bit (eqb (ruleOf (getD sites k 0)) rule) + t) (uses-chosen rule c)
 
   once-chosen : (c : List ℕ) → slotsOnce sites c ≡ onceIn (chosen sites c)
   unfolding slotsOnce onceIn chosen
@@ -80,7 +83,7 @@ hasIdle rules (x ∷ xs) = idle rules x || hasIdle rules xs
 
 uses-some : (p : List ℕ) (x : ℕ) (c : List ℕ) → 1 ≤ usesIn (ruleOf x) (p ++ (x ∷ c))
 unfolding usesIn
-uses-some [] x c = let e : one (eqb (ruleOf x) (ruleOf x)) ≡ 1 = ap one (eq-eqb (ruleOf x) (ruleOf x) refl) in omega arith
+uses-some [] x c = let e : bit (eqb (ruleOf x) (ruleOf x)) ≡ 1 = ap bit (eq-eqb (ruleOf x) (ruleOf x) refl) in omega arith
 uses-some (y ∷ p) x c = let r : 1 ≤ usesIn (ruleOf x) (p ++ (x ∷ c)) = uses-some p x c in omega arith
 
 limits-bad : (rules p c : List ℕ) → hasIdle rules c ≡ true → limitsIn rules (p ++ c) c ≡ false
@@ -103,27 +106,6 @@ unfolding fine
 fine-bad rules c h = ap (λ (t : Bool). onceIn c && t) (limits-bad rules [] c h) ∙ and-false (onceIn c)
 
 -- ---- lists
-
-map-join : (f : List ℕ → List ℕ) (xs ys : List (List ℕ)) → map f (xs ++ ys) ≡ map f xs ++ map f ys
-map-join f [] ys = refl
-map-join f (x ∷ xs) ys = ap (λ (z : List (List ℕ)). f x ∷ z) (map-join f xs ys)
-
-keep-map : (f : List ℕ → List ℕ) (ok : List ℕ → Bool) (xs : List (List ℕ)) → keep ok (map f xs) ≡ map f (keep (λ (c : List ℕ). ok (f c)) xs)
-unfolding keep
-keep-map f ok [] = refl
-keep-map f ok (x ∷ xs) = go (ok (f x)) (keep-map f ok xs)
-  where
-    go : (b : Bool) → keep ok (map f xs) ≡ map f (keep (λ (c : List ℕ). ok (f c)) xs)
-        → cond b (f x ∷ keep ok (map f xs)) (keep ok (map f xs)) ≡ map f (cond b (x ∷ keep (λ (c : List ℕ). ok (f c)) xs) (keep (λ (c : List ℕ). ok (f c)) xs))
-    go true r = ap (λ (z : List (List ℕ)). f x ∷ z) r
-    go false r = r
-
-pub keep-as : (ok test : List ℕ → Bool) (xs : List (List ℕ)) → ((c : List ℕ) → ok c ≡ test c) → keep ok xs ≡ keep test xs
-unfolding keep
-keep-as ok test [] h = refl
-keep-as ok test (x ∷ xs) h =
-    ap (λ (b : Bool). cond b (x ∷ keep ok xs) (keep ok xs)) (h x)
-    ∙ ap (λ (z : List (List ℕ)). cond (test x) (x ∷ z) z) (keep-as ok test xs h)
 
 accepted-map : (f : List ℕ → List ℕ) (cap k : ℕ) (xs : List (List ℕ)) → map f (accepted cap k xs) ≡ accepted cap k (map f xs)
 unfolding accepted
@@ -165,7 +147,7 @@ chosen-picks s zero t lo e = refl
 chosen-picks s (suc n) [] lo e = refl
 chosen-picks s (suc n) (x ∷ t) lo e =
     let d = drop-first s lo x t e in
-    map-join (chosen s) (map (λ (c : List ℕ). lo ∷ c) (choicesOf n (length t) (suc lo))) (choicesOf (suc n) (length t) (suc lo))
+    map-append (chosen s) (map (λ (c : List ℕ). lo ∷ c) (choicesOf n (length t) (suc lo))) (choicesOf (suc n) (length t) (suc lo))
     ∙ ap (λ (z : List (List ℕ)). z ++ map (chosen s) (choicesOf (suc n) (length t) (suc lo))) (under s lo x (d .0) (choicesOf n (length t) (suc lo)))
     ∙ ap (λ (z : List (List ℕ)). map (λ (c : List ℕ). x ∷ c) z ++ map (chosen s) (choicesOf (suc n) (length t) (suc lo))) (chosen-picks s n t (suc lo) (d .1))
     ∙ ap (λ (z : List (List ℕ)). map (λ (c : List ℕ). x ∷ c) (picks n t) ++ z) (chosen-picks s (suc n) t (suc lo) (d .1))
@@ -174,21 +156,20 @@ chosen-sizes : (s : List ℕ) (n k : ℕ) → map (chosen s) (bySize (length s) 
 unfolding bySize picksBy
 chosen-sizes s n zero = refl
 chosen-sizes s n (suc k) =
-    map-join (chosen s) (choicesOf n (length s) 0) (bySize (length s) (suc n) k)
+    map-append (chosen s) (choicesOf n (length s) 0) (bySize (length s) (suc n) k)
     ∙ ap (λ (z : List (List ℕ)). z ++ map (chosen s) (bySize (length s) (suc n) k)) (chosen-picks s n s 0 refl)
     ∙ ap (λ (z : List (List ℕ)). picks n s ++ z) (chosen-sizes s (suc n) k)
 
 -- the sites of the choices that pass are the lists of sites that are fine
 passed-picks : (sites rules : List ℕ) (n k : ℕ) → map (chosen sites) (keep (passes sites rules) (bySize (length sites) n k)) ≡ keep (fine rules) (picksBy sites n k)
 passed-picks sites rules n k =
-    ap (map (chosen sites)) (keep-as (passes sites rules) (λ (c : List ℕ). fine rules (chosen sites c)) (bySize (length sites) n k) (passes-chosen sites rules))
+    ap (map (chosen sites)) (keep-alike (passes sites rules) (λ (c : List ℕ). fine rules (chosen sites c)) (bySize (length sites) n k) (λ c i. passes-chosen sites rules c))
     ∙ sym (keep-map (chosen sites) (fine rules) (bySize (length sites) n k))
     ∙ ap (keep (fine rules)) (chosen-sizes sites n k)
 
 -- ---- those sites left out
 
 all-out : (ok : List ℕ → Bool) (x : ℕ) (cs : List (List ℕ)) → ((c : List ℕ) → ok (x ∷ c) ≡ false) → keep ok (map (λ (c : List ℕ). x ∷ c) cs) ≡ []
-unfolding keep
 all-out ok x [] h = refl
 all-out ok x (c ∷ cs) h = keep-no ok (x ∷ c) (map (λ (d : List ℕ). x ∷ d) cs) (h c) ∙ all-out ok x cs h
 

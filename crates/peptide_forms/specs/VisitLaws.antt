@@ -8,8 +8,9 @@ use native.Mathlib.Omega.{arith}
 use native.Mathlib.Decide.{decLt}
 use lib.ListN.{length, take, drop, length-append, take-append-drop}
 use lib.Seq.{take-append-le, take-take, take-append-add}
+use Rattle.lists.specs.Lists.{keep}
 use Rattle.peptide_choices.specs.BoundLaws.{visited}
-use Rattle.peptide_choices.specs.Choices.{bySize, choicesOf, keep}
+use Rattle.peptide_choices.specs.Choices.{bySize, choicesOf}
 use Rattle.peptide_choices.specs.CostLaws.{cost}
 use Rattle.peptide_choices.specs.Steps.{firstOf}
 use Rattle.peptide_choices.specs.VisitLaws.{Visits, walk-visits}

@@ -3,7 +3,7 @@ use peptide_choices::Choice;
 ghost use mathlib.Core.Path.{_≡_};
 ghost use Prim.Native.Nat.{_≤_, _<_};
 ghost use lib.ListN.{take, getD};
-ghost use Rattle.peptide_forms.specs.Passing.{one};
+ghost use Rattle.lists.specs.Lists.{bit};
 ghost use Rattle.peptide_forms.specs.PassingLaws.{joined};
 ghost use Rattle.peptide_forms.specs.TurnLaws.{Seen, Reached};
 
@@ -14,7 +14,7 @@ struct Taken {
 }
 
 fn one_if(b: bool) -> u32
-    ensures { λ r. ⌜ (r ≡ one b) × (r ≤ 1) ⌝ }
+    ensures { λ r. ⌜ (r ≡ bit b) × (r ≤ 1) ⌝ }
 {
     if b { 1 } else { 0 }
 }

@@ -8,7 +8,7 @@ use native.Mathlib.Numerals.{add-one}
 use lib.ListN.{length, getD, drop, set, length-set, drop-of-length-le, replicate}
 use lib.Seq.{sets, sets-eq, drop-cons, getD-set-same, getD-set-other, set-out}
 use borrow.Author.Tests.{ne-eqb}
-use Rattle.records.specs.Tests.{same?, below?}
+use Rattle.lists.specs.Tests.{same?, below?}
 use Rattle.peptide_slots.specs.Hits.{fill, fillAt}
 use Rattle.peptide_slots.specs.Sites.{slotOf}
 use Rattle.peptide_slots.specs.Filling.{fillSite, apply}

@@ -1,16 +1,17 @@
 -- What stands where in a mirrored list; mirroring twice gives the list back. Assumes nothing.
-use Prim.Native.Nat.{ℕ, suc, _+_, _-_, _≤_, _<_, max}
+use Prim.Native.Nat.{ℕ, _+_, _-_, _≤_, _<_, max}
 use mathlib.Core.Path.{_≡_, refl, sym, ap, _∙_}
-use mathlib.Core.List.{List, [], _∷_, _++_, reverse, reverse-cons}
+use mathlib.Core.List.{List, _∷_, _++_, reverse}
 use mathlib.Core.Bool.{Bool, true, false, cond, _&&_, and-true, and-assoc}
 use mathlib.Core.Logic.{_⊎_, inl, inr}
 use native.Mathlib.Omega.{arith}
 use native.Mathlib.Decide.{decLt}
 use lib.ListN.{length, getD, take, drop, length-append, length-take, length-drop, length-reverse, List·getD-append, drop-of-length-le}
 use native.Mathlib.Numerals.{add-one}
-use lib.Seq.{drop-cons, getD-append-add, getD-at, getD-take, getD-drop, ext-getD, length-take-le}
+use lib.Seq.{drop-cons, getD-append-add, getD-take, getD-drop, ext-getD, length-take-le}
 use lib.Dec.{leb, eqb}
 use borrow.Author.Tests.{leb-true, leb-false}
+use Rattle.lists.specs.ReverseLaws.{getD-reverse}
 use Rattle.peptide_slots.specs.Mirror.{mirror, allZero}
 
 -- out is xs with the places from 1 up to i turned round within the first n
@@ -22,21 +23,6 @@ pub record Turned (n i : ℕ) (xs out : List ℕ) : Type 0 where
 -- where turning ends
 abbrev pub until : ℕ → ℕ
 until n = max 1 (n - 1)
-
--- ---- an element of a reversed list
-pub getD-reverse : (l : List ℕ) (k : ℕ) → k < length l → getD (reverse l) k 0 ≡ getD l (length l - 1 - k) 0
-getD-reverse [] k h = refl
-getD-reverse (x ∷ l) k h = ap (λ (z : List ℕ). getD z k 0) (reverse-cons x l) ∙ go (decLt k (length l)) (getD-reverse l k)
-  where
-    go : Dec (k < length l) → (k < length l → getD (reverse l) k 0 ≡ getD l (length l - 1 - k) 0) → getD (reverse l ++ (x ∷ [])) k 0 ≡ getD (x ∷ l) (suc (length l) - 1 - k) 0
-    go (yes g) ih =
-        let e : suc (length l) - 1 - k ≡ suc (length l - 1 - k) = omega arith in
-        List·getD-append (reverse l) (x ∷ []) 0 k (rw length-reverse g) ∙ ih g ∙ sym (ap (λ (z : ℕ). getD (x ∷ l) z 0) e)
-    go (no g) ih =
-        let n : k < length l → ⊥ = g in
-        let e : suc (length l) - 1 - k ≡ 0 = omega arith in
-        let f : length (reverse l) ≡ k = length-reverse l ∙ omega arith in
-        getD-at (reverse l) x [] 0 k f ∙ sym (ap (λ (z : ℕ). getD (x ∷ l) z 0) e)
 
 -- ---- the definition, place by place
 module _ (n : ℕ) (xs : List ℕ) (fits : n ≤ length xs) (long : 2 < n) where

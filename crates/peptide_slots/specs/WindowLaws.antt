@@ -6,7 +6,7 @@ use mathlib.Core.List.{List, _++_}
 use native.Mathlib.Omega.{arith}
 use lib.ListN.{length, getD, take, drop, replicate, length-replicate, getD-replicate, length-append, length-drop, List·getD-append, List·getD-eq-default}
 use lib.Seq.{ext-getD, getD-take, getD-drop, getD-append-add, length-take-le}
-use Rattle.records.specs.Tests.{below?}
+use Rattle.lists.specs.Tests.{below?}
 use Rattle.peptide_slots.specs.Windows.{window}
 
 pub window-is : (n from : ℕ) (xs out : List ℕ) → length out ≡ n → ((j : ℕ) → j < n → getD out j 0 ≡ getD xs (from + j) 0) → out ≡ window n from xs

@@ -7,10 +7,10 @@ use mathlib.Core.List.{List, [], _∷_}
 use native.Mathlib.Omega.{arith}
 use lib.ListN.{length, getD, replicate, length-map, getD-replicate}
 use lib.Dec.{leb}
+use Rattle.lists.specs.Lists.{upFrom}
+use Rattle.lists.specs.RowLaws.{length-up}
 use Rattle.records.specs.declared.refusal.Refusal.the-variants.{Room}
 use Rattle.records.specs.Outcome.{outcome}
-use Rattle.sorting.specs.Counting.{upFrom}
-use Rattle.sorting.specs.CountingLaws.{length-up}
 use Rattle.protein_groups_copy.specs.Placing.{Laid, standingEdge, standingEdges, standingMember, standingMembers}
 use Rattle.protein_groups_spec.specs.ProteinGroups.{pairsIn, grouping}
 use Rattle.protein_groups_spec.specs.PackedGroups.{packedGrouping}

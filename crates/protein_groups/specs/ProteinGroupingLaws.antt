@@ -9,15 +9,14 @@ use lib.ListN.{length, getD, replicate, length-map, List·getD-eq-default}
 use lib.Seq.{take-nil}
 use lib.Dec.{ltb, leb}
 use borrow.Author.Tests.{ltb-false, le-leb}
+use Rattle.lists.specs.Tests.{below?, neither}
+use Rattle.lists.specs.Lists.{upFrom, keep}
 use Rattle.records.specs.declared.refusal.Refusal.the-variants.{Size, Length, Work, Room}
 use Rattle.records.specs.declared.refusal.Tested.the-variants.{Passed}
 use Rattle.records.specs.Outcome.{outcome}
 use Rattle.records.specs.Room.{roomOf, fitted}
 use Rattle.records.specs.RoomLaws.{written-none}
 use Rattle.records.specs.TestedLaws.{passed-both, passed-first, passed-field}
-use Rattle.records.specs.Tests.{below?, neither}
-use Rattle.sorting.specs.Counting.{upFrom}
-use Rattle.sorting.specs.Distinct.{keep}
 use Rattle.cover_spec.specs.Cover.{Edge}
 use Rattle.cover_edges.specs.Edges.{edgeBytes, firstBadEdge, firstBadMark}
 use Rattle.cover_edges.specs.RangeLaws.{in-range, all-bits}

@@ -5,11 +5,11 @@ use mathlib.Core.Logic.{_↔_}
 use mathlib.Core.List.{List, flatten, map}
 use native.Mathlib.Omega.{arith}
 use lib.ListN.{length, length-map}
+use Rattle.lists.specs.Lists.{In, upFrom, bit}
+use Rattle.lists.specs.RowLaws.{length-up, up-in}
+use Rattle.lists.specs.InLaws.{map-in}
 use Rattle.records.specs.declared.refusal.Tested.the-variants.{Passed}
-use Rattle.sorting_merge.specs.SortLaws.{In}
-use Rattle.sorting.specs.Counting.{upFrom}
-use Rattle.sorting.specs.CountingLaws.{length-up, up-in}
-use Rattle.cover_spec.specs.Cover.{Edge, group, meta, bit, ofGroup, ofMeta}
+use Rattle.cover_spec.specs.Cover.{Edge, group, meta, ofGroup, ofMeta}
 use Rattle.cover_edges.specs.Edges.{edgeBytes, firstBadEdge}
 use Rattle.cover_edges.specs.BackLaws.{edges-accepted}
 use Rattle.protein_groups_members.specs.Members.{Member, memberBytes, firstBadMember}
@@ -18,7 +18,7 @@ use Rattle.protein_groups_spec.specs.ProteinGroups.{Pair, pairAt, pairsIn, Grou
 use Rattle.protein_groups_spec.specs.Standing.{standing, membersOf, seenAs, showing, Reached}
 use Rattle.protein_groups_spec.specs.PackedGroups.{seen, packedGrouping}
 use Rattle.protein_groups_spec.specs.PackingLaws.{packed-grouping}
-use Rattle.protein_groups_spec.specs.TheoremLaws.{Fit, map-in, all-members}
+use Rattle.protein_groups_spec.specs.TheoremLaws.{Fit, all-members}
 use Rattle.protein_groups_spec.specs.GroupingLaws as laws
 use Rattle.protein_groups_spec.specs.SizeLaws.{few-groups, few-metas, few-edges, few-members}
 use Rattle.protein_groups.specs.ProteinGrouping.{tested}

@@ -6,8 +6,8 @@ use mathlib.Core.List.{List, _∷_, map}
 use native.Mathlib.Omega.{arith}
 use lib.ListN.{length, getD, set, length-set}
 use lib.Seq.{slice, slice-empty, slice-cons, getD-set-same, getD-set-other}
-use Rattle.records.specs.Tests.{same?, below?}
-use Rattle.sorting.specs.Counting.{upFrom}
+use Rattle.lists.specs.Tests.{same?, below?}
+use Rattle.lists.specs.Lists.{upFrom}
 use Rattle.cover_edges.specs.Chains.{Out}
 use Rattle.protein_groups_spec.specs.ProteinGroups.{Pair, pairAt}
 use Rattle.protein_groups_spec.specs.PackedGroups.{seen}

@@ -1,19 +1,18 @@
 -- Records written one after the other. Assumes nothing.
-use Prim.Native.Nat.{ℕ, suc, _+_, _-_, _*_, _/_, _%_, _≤_, _<_}
-use mathlib.Core.Path.{_≡_, refl, sym, ap, _∙_}
-use mathlib.Core.Bool.{Bool, true, false, cond}
+use Prim.Native.Nat.{ℕ, suc, _+_, _-_, _/_, _%_, _≤_, _<_}
+use mathlib.Core.Path.{_≡_, sym, ap, _∙_}
 use mathlib.Core.List.{List, [], _∷_, _++_, map}
 use native.Mathlib.Omega.{arith}
 use native.Mathlib.Numerals.{add-one}
 use lib.ListN.{length}
-use lib.Seq.{sets, length-sets}
-use lib.Dec.{ltb}
+use lib.Seq.{sets}
+use Rattle.protein_groups_members.specs.MemberLaws.{sized-members}
+use Rattle.cover_edges.specs.BackLaws.{sized-edges}
+use Rattle.lists.specs.Lists.{upFrom}
 use Rattle.records.specs.Le.{le}
 use Rattle.records.specs.LeLaws.{sets-append}
-use Rattle.records.specs.Room.{roomOf, fitted}
-use Rattle.records.specs.RoomLaws.{Sized}
+use Rattle.records.specs.Room.{fitted}
 use Rattle.records.specs.StoreLaws.{stored, storedFrom, stored-all}
-use Rattle.sorting.specs.Counting.{upFrom}
 use Rattle.cover_spec.specs.Cover.{Edge}
 use Rattle.cover_edges.specs.Edges.{edgeBytes}
 use Rattle.protein_groups_members.specs.Members.{Member, memberBytes}
@@ -24,14 +23,6 @@ use Rattle.protein_groups_copy.specs.Placing.{memberOf}
 pub edge-stored : (out : List ℕ) (k g m : ℕ) → sets (sets out k (le 4 g)) (k + 4) (le 4 m) ≡ sets out k (edgeBytes (g, m))
 unfolding edgeBytes
 edge-stored out k g m = sym (sets-append (le 4 g) (le 4 m) out k)
-
-pub length-edge : (e : Edge) → length (edgeBytes e) ≡ 8
-unfolding edgeBytes
-length-edge e = refl
-
-pub length-member : (m : Member) → length (memberBytes m) ≡ 12
-unfolding memberBytes
-length-member m = refl
 
 -- a flag as four bytes
 flag-bytes : (x : ℕ) → le 4 (x % 2) ≡ x % 2 ∷ 0 ∷ 0 ∷ 0 ∷ []
@@ -50,13 +41,6 @@ member-stored out k g x =
 
 -- ---- turns of a writer: record i is made by f of what g gives at i
 
-pub length-stored : (size limit : ℕ) (out : List ℕ) (i : ℕ) (r : List ℕ) → length (stored size limit out i r) ≡ length out
-length-stored size limit out i r = go (ltb i (roomOf size limit out))
-  where
-    go : (b : Bool) → length (cond b (sets out (size * i) r) out) ≡ length out
-    go true = length-sets out (size * i) r
-    go false = refl
-
 module _ {A : Type 0} (size limit : ℕ) (f : A → List ℕ) (g : ℕ → A) (n : ℕ) where
   pub writes-start : (out : List ℕ) → storedFrom size limit out 0 (map f (map g (upFrom 0 (n - 0)))) ≡ storedFrom size limit out 0 (map f (map g (upFrom 0 n)))
   writes-start out = let z : n - 0 ≡ n = omega arith in ap (λ (k : ℕ). storedFrom size limit out 0 (map f (map g (upFrom 0 k)))) z
@@ -72,12 +56,8 @@ module _ {A : Type 0} (size limit : ℕ) (f : A → List ℕ) (g : ℕ → A) (n
 
 -- ---- what a writer leaves
 
-sized-map : {A : Type 0} (size : ℕ) (f : A → List ℕ) → ((x : A) → length (f x) ≡ size) → (xs : List A) → Sized size (map f xs)
-sized-map size f h [] = tt
-sized-map size f h (x ∷ xs) = (h x, sized-map size f h xs)
-
 pub edges-fitted : (out : List ℕ) (es : List Edge) → storedFrom 8 1048576 out 0 (map edgeBytes es) ≡ fitted 8 1048576 out (map edgeBytes es)
-edges-fitted out es = stored-all 8 1048576 out (map edgeBytes es) (sized-map 8 edgeBytes length-edge es)
+edges-fitted out es = stored-all 8 1048576 out (map edgeBytes es) (sized-edges es)
 
 pub members-fitted : (out : List ℕ) (ms : List Member) → storedFrom 12 131072 out 0 (map memberBytes ms) ≡ fitted 12 131072 out (map memberBytes ms)
-members-fitted out ms = stored-all 12 131072 out (map memberBytes ms) (sized-map 12 memberBytes length-member ms)
+members-fitted out ms = stored-all 12 131072 out (map memberBytes ms) (sized-members ms)

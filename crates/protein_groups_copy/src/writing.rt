@@ -1,7 +1,7 @@
 // Edges and members written from work memory as records, those that fit.
 use records::put_u32;
 use records::room_for;
-use sorting_merge::number_at;
+use sorting_texts::number_at;
 ghost use mathlib.Core.Path.{_≡_};
 ghost use mathlib.Core.List.{map};
 ghost use Prim.Native.Nat.{_+_, _≤_, _<_};

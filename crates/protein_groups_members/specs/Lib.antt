@@ -1,4 +1,3 @@
 -- What a reader has to believe: Numbers, Members.
-pub mod Numbers
 pub mod Members
 pub mod MemberLaws

@@ -8,13 +8,14 @@ use native.Mathlib.Omega.{arith}
 use borrow.Author.Tests.{lt-ltb, le-leb}
 use lib.ListN.{length, getD, take, drop, length-map}
 use lib.Seq.{drop-append-add, getD-append-add}
+use Rattle.lists.specs.KeepLaws.{map-all}
+use Rattle.lists.specs.Tests.{below?}
+use Rattle.lists.specs.Lists.{upFrom}
 use Rattle.records.specs.Le.{le, value, numberAt}
 use Rattle.records.specs.LeLaws.{value-le}
 use Rattle.records.specs.RoomLaws.{Sized, length-flatten}
 use Rattle.records.specs.Search.{seek}
 use Rattle.records.specs.SearchLaws.{seek-passes, seek-to}
-use Rattle.records.specs.Tests.{below?}
-use Rattle.sorting.specs.Counting.{upFrom}
 use Rattle.protein_groups_members.specs.Members.{Member, memberAt, membersIn, memberBytes, goodMember, badMember, firstBadMember}
 
 -- the numbers of all members fit their fields
@@ -27,8 +28,7 @@ unfolding memberBytes
 length-member m = refl
 
 pub sized-members : (ms : List Member) → Sized 12 (map memberBytes ms)
-sized-members [] = tt
-sized-members (m ∷ ms) = (length-member m, sized-members ms)
+sized-members ms = map-all (λ (r : List ℕ). length r ≡ 12) memberBytes length-member ms
 
 -- a record in front, and those behind it
 first-member : (m : Member) (rest : List ℕ) → m .group < 4294967296 → m .protein < 4294967296 → memberAt (memberBytes m ++ rest) 0 ≡ m

@@ -4,9 +4,9 @@ use mathlib.Core.Bool.{Bool, not, _&&_}
 use mathlib.Core.List.{List, [], _∷_, _++_, map}
 use lib.Dec.{leb, ltb, eqb}
 use lib.ListN.{length, getD}
+use Rattle.lists.specs.Lists.{upFrom}
 use Rattle.records.specs.Le.{le, numberAt}
 use Rattle.records.specs.Search.{seek}
-use Rattle.sorting.specs.Counting.{upFrom}
 
 pub record Member : Type 0 where
   pub group : ℕ

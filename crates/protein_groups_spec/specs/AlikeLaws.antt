@@ -8,20 +8,22 @@ use native.Mathlib.Omega.{arith}
 use borrow.Author.Tests.{eqb-true, eq-eqb}
 use lib.Dec.{eqb}
 use lib.ListN.{length, getD, replicate}
-use Rattle.records.specs.Tests.{below?}
-use Rattle.sorting_merge.specs.Sort.{sorted}
-use Rattle.sorting_merge.specs.SortLaws.{In, Ordered, sorted-ordered, clash}
-use Rattle.sorting_merge.specs.Lex.{lexLe}
-use Rattle.sorting_merge.specs.LexLaws.{lex-trans, lex-antisym, lex-refl, by-list}
-use Rattle.sorting.specs.Distinct.{same, onceAfter, once, distinct}
-use Rattle.sorting.specs.DistinctLaws.{same-refl}
-use Rattle.cover_spec.specs.Cover.{bit}
-use Rattle.protein_groups_members.specs.Numbers.{times}
+use Rattle.lists.specs.Tests.{below?, clash, iff}
+use Rattle.lists.specs.Lists.{In, same, bit, times, count}
+use Rattle.lists.specs.SameLaws.{same-refl}
+use Rattle.lists.specs.FirstLaws.{place, times-append, getD-place}
+use Rattle.lists.specs.InLaws.{is-in, map-in, keep-in, in-getD, some-in, times-in}
+use Rattle.lists.specs.KeepLaws.{count-times}
+use Rattle.sorting_spec.specs.Sort.{sorted}
+use Rattle.sorting_spec.specs.SortLaws.{Ordered, sorted-ordered, count-sorted}
+use Rattle.sorting_spec.specs.Lex.{lexLe}
+use Rattle.sorting_spec.specs.LexLaws.{lex-trans, lex-antisym, lex-refl, by-list}
+use Rattle.sorting.specs.Distinct.{onceAfter, once, distinct}
 use Rattle.protein_groups_members.specs.Members.{Member}
 use Rattle.protein_groups_spec.specs.ProteinGroups.{Pair, pairsOf, up, listFrom}
-use Rattle.protein_groups_spec.specs.PackedGroups.{shown, seen, proteins, metas, evidence, place, member}
-use Rattle.protein_groups_spec.specs.Standing.{many, showing}
-use Rattle.protein_groups_spec.specs.TheoremLaws.{Fit, is-in, map-in, keep-in, in-getD, some-in, many-times, many-sorted, times-in, times-append, replicate-in, list-in, getD-place, place-found, in-found, in-shown, own-meta, meta-has, taking-has, pair-is, iff}
+use Rattle.protein_groups_spec.specs.PackedGroups.{shown, seen, proteins, metas, evidence, member}
+use Rattle.protein_groups_spec.specs.Standing.{showing}
+use Rattle.protein_groups_spec.specs.TheoremLaws.{Fit, replicate-in, list-in, place-found, in-found, in-shown, own-meta, meta-has, taking-has, pair-is}
 
 -- ---- distinct lists rise, so each stands at one place
 
@@ -81,7 +83,7 @@ times-replicate zero m = refl
 times-replicate (suc n) m = rw (eq-eqb m m refl) (ap suc (times-replicate n m))
 
 times-sorted : (k : ℕ) (l : List ℕ) → times k (sorted up l) ≡ times k l
-times-sorted k l = sym (many-times k (sorted up l)) ∙ many-sorted (λ x. eqb x k) up l ∙ many-times k l
+times-sorted k l = sym (count-times k (sorted up l)) ∙ count-sorted (λ x. eqb x k) up l ∙ count-times k l
 
 -- a protein's list has a meta-peptide as often as the protein stands in it
 list-times : (m i : ℕ) (es : List (List ℕ)) (k : ℕ) → i < length es → times (m + i) (listFrom m es k) ≡ times k (getD es i [])
@@ -99,16 +101,16 @@ lists-alike : (m : ℕ) (es : List (List ℕ)) (j k : ℕ) → ((i : ℕ) → i 
 lists-alike m [] j k h = refl
 lists-alike m (e ∷ es) j k h = rw (h 0 (omega arith), lists-alike (suc m) es j k (λ i l. h (suc i) (omega arith)))
 
-many-alike : {A : Type 0} (p q : A → Bool) → ((x : A) → p x ≡ q x) → (l : List A) → many p l ≡ many q l
-many-alike p q h [] = refl
-many-alike p q h (x ∷ xs) = rw (h x, many-alike p q h xs)
+count-alike : {A : Type 0} (p q : A → Bool) → ((x : A) → p x ≡ q x) → (l : List A) → count p l ≡ count q l
+count-alike p q h [] = refl
+count-alike p q h (x ∷ xs) = rw (h x, count-alike p q h xs)
 
-shown-times : (flags : List ℕ) (c p : ℕ) (qs : List Pair) → times c (shown flags qs p) ≡ many (λ (q : Pair). eqb (q .peptide) p && eqb (seen flags q) c) qs
+shown-times : (flags : List ℕ) (c p : ℕ) (qs : List Pair) → times c (shown flags qs p) ≡ count (λ (q : Pair). eqb (q .peptide) p && eqb (seen flags q) c) qs
 shown-times flags c p [] = refl
 shown-times flags c p (q ∷ qs) = go (eqb (q .peptide) p) (eqb (seen flags q) c) refl (shown-times flags c p qs)
   where
-    go : (t u : Bool) → eqb (seen flags q) c ≡ u → times c (shown flags qs p) ≡ many (λ (q : Pair). eqb (q .peptide) p && eqb (seen flags q) c) qs
-        → times c (map (seen flags) (cond t (q ∷ pairsOf qs p) (pairsOf qs p))) ≡ bit (t && u) + many (λ (q : Pair). eqb (q .peptide) p && eqb (seen flags q) c) qs
+    go : (t u : Bool) → eqb (seen flags q) c ≡ u → times c (shown flags qs p) ≡ count (λ (q : Pair). eqb (q .peptide) p && eqb (seen flags q) c) qs
+        → times c (map (seen flags) (cond t (q ∷ pairsOf qs p) (pairsOf qs p))) ≡ bit (t && u) + count (λ (q : Pair). eqb (q .peptide) p && eqb (seen flags q) c) qs
     go true true e r = rw e (omega arith)
     go true false e r = rw e (omega arith)
     go false u e r = omega arith
@@ -141,7 +143,7 @@ module _ (flags : List ℕ) (peptides : ℕ) (qs : List Pair) where
       let x : q .peptide ≡ p = eqb-true (q .peptide) p e in
       is-in {k = ps} (sym z) refl (in-found flags peptides qs (seen flags q) (in-shown flags qs q 0 peptides j (omega arith) (omega arith)))
 
-  evidence-times : (j p : ℕ) → j < length ps → p < peptides → times j (evidence ps flags qs p) ≡ many (λ (q : Pair). eqb (q .peptide) p && eqb (seen flags q) (getD ps j 0)) qs
+  evidence-times : (j p : ℕ) → j < length ps → p < peptides → times j (evidence ps flags qs p) ≡ count (λ (q : Pair). eqb (q .peptide) p && eqb (seen flags q) (getD ps j 0)) qs
   evidence-times j p h l =
       times-sorted j (map (λ (y : ℕ). place y ps) (shown flags qs p))
       ∙ places-times j h (shown flags qs p) (shown-found p l)
@@ -181,7 +183,7 @@ module _ (flags : List ℕ) (peptides : ℕ) (qs : List Pair) where
     showing-times : (m : Member) (g k p : ℕ) → m ≡ member ps g k → k < length ps → p < peptides → showing flags qs p m ≡ times k (evidence ps flags qs p)
     showing-times m g k p e h l =
         ap (showing flags qs p) e
-        ∙ many-alike (λ (q : Pair). eqb (q .peptide) p && (eqb (q .protein) (x / 2) && eqb (getD flags (q .peptide) 0) (x % 2))) (λ (q : Pair). eqb (q .peptide) p && eqb (seen flags q) x) one qs
+        ∙ count-alike (λ (q : Pair). eqb (q .peptide) p && (eqb (q .protein) (x / 2) && eqb (getD flags (q .peptide) 0) (x % 2))) (λ (q : Pair). eqb (q .peptide) p && eqb (seen flags q) x) one qs
         ∙ sym (evidence-times k p h l)
       where
         x : ℕ

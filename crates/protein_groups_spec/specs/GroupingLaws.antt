@@ -10,18 +10,19 @@ use native.Mathlib.Omega.{arith}
 use borrow.Author.Tests.{ltb-true, eqb-true, eq-eqb}
 use lib.Dec.{ltb, eqb}
 use lib.ListN.{length, getD}
-use Rattle.records.specs.Tests.{below?, both}
-use Rattle.sorting_merge.specs.SortLaws.{In}
+use Rattle.lists.specs.Tests.{below?, both}
+use Rattle.lists.specs.Lists.{In, bit, count, All}
+use Rattle.lists.specs.KeepLaws.{all-map}
+use Rattle.lists.specs.InLaws.{count-in, none-count, is-in}
 use Rattle.sorting.specs.Distinct.{distinct}
-use Rattle.cover_spec.specs.Cover.{Edge, group, meta, bit, count, ofGroup, ofMeta, cover}
-use Rattle.cover_spec.specs.CountLaws.{All, all-map}
+use Rattle.cover_spec.specs.Cover.{Edge, group, meta, ofGroup, ofMeta, cover}
 use Rattle.cover_spec.specs.ChoiceLaws.{Under}
 use Rattle.cover_spec.specs.CoverLaws.{neighbour}
 use Rattle.protein_groups_members.specs.Members.{Member}
 use Rattle.protein_groups_spec.specs.ProteinGroups.{Pair, Groups, edgesFrom}
 use Rattle.protein_groups_spec.specs.PackedGroups.{proteins, metas, lists, member, membersFrom, groupsOf, packedGrouping}
 use Rattle.protein_groups_spec.specs.Standing.{standing, membersOf, seenAs, showing, Reached}
-use Rattle.protein_groups_spec.specs.TheoremLaws.{Fit, many-in, many-none, flag-le, seen-is, edge-counts, edge-find, all-edges, list-in, edge-in, in-edge, member-in, in-member, is-in, some-meta, some-protein, list-group, group-list, standing-times, times-seen, protein-seen, own-meta, reached}
+use Rattle.protein_groups_spec.specs.TheoremLaws.{Fit, flag-le, seen-is, edge-counts, edge-find, all-edges, list-in, edge-in, in-edge, member-in, in-member, some-meta, some-protein, list-group, group-list, standing-times, times-seen, protein-seen, own-meta, reached}
 use Rattle.protein_groups_spec.specs.AlikeLaws.{distinct-at, list-showing, showing-list}
 
 module _ (flags : List ℕ) (peptides : ℕ) (qs : List Pair) where
@@ -50,10 +51,10 @@ module _ (flags : List ℕ) (peptides : ℕ) (qs : List Pair) where
   one-group fit p f =
       ⊎-elim (λ (h : f < 2). standing-times flags peptides qs p f (omega arith) ∙ times-seen flags peptides qs fit p f (omega arith))
       (λ (h : 2 ≤ f).
-      many-none (λ (m : Member). eqb (m .protein) p && eqb (m .decoy) f) (G .members)
+      none-count (λ (m : Member). eqb (m .protein) p && eqb (m .decoy) f) (G .members)
       (λ m i e. omega (arith, flag-low m i, eqb-true (m .decoy) f (both (eqb (m .protein) p) (eqb (m .decoy) f) e .1)))
       ∙ sym (ap (λ (n : ℕ). bit (ltb 0 n))
-      (many-none (λ (q : Pair). eqb (q .protein) p && eqb (getD flags (q .peptide) 0) f) qs
+      (none-count (λ (q : Pair). eqb (q .protein) p && eqb (getD flags (q .peptide) 0) f) qs
       (λ q i e. omega (arith, flag-le flags (fit .flag) (q .peptide), eqb-true (getD flags (q .peptide) 0) f (both (eqb (q .protein) p) (eqb (getD flags (q .peptide) 0) f) e .1))))))
       (below? f 2)
 
@@ -100,7 +101,7 @@ module _ (flags : List ℕ) (peptides : ℕ) (qs : List Pair) where
   no-empty-group g h =
       let (k, l, e) = group-list flags peptides qs g h in
       let (m, i) = some-meta flags peptides qs k l in (
-        many-in (λ (m : Member). eqb (m .group) g) (member ps (0 + g) k) (membersFrom ps ms 0 ls) (in-member ps ms k 0 g ls l h e) (eq-eqb (0 + g) g (zero-add g)),
+        count-in (λ (m : Member). eqb (m .group) g) (member ps (0 + g) k) (membersFrom ps ms 0 ls) (in-member ps ms k 0 g ls l h e) (eq-eqb (0 + g) g (zero-add g)),
         edge-counts (λ d. eqb (group d) g) (0 + g, m) (edgesFrom 0 ls) (in-edge m 0 g ls h (is-in refl e i)) (eq-eqb (0 + g) g (zero-add g)),
       )
 

@@ -10,16 +10,20 @@ use native.Mathlib.Omega.{arith}
 use borrow.Author.Tests.{eq-eqb, ne-eqb}
 use lib.Dec.{eqb}
 use lib.ListN.{length, take, drop, length-append}
-use Rattle.sorting_merge.specs.Sort.{insert, sorted}
-use Rattle.sorting_merge.specs.SortLaws.{In, sorted-in, clash}
-use Rattle.sorting_merge.specs.Lex.{lexLe}
+use Rattle.lists.specs.Lists.{In, keep, same}
+use Rattle.lists.specs.Tests.{clash}
+use Rattle.lists.specs.SameLaws.{same-refl, same-eq}
+use Rattle.lists.specs.KeyLaws.{Under}
+use Rattle.sorting_spec.specs.Sort.{insert, sorted}
+use Rattle.sorting_spec.specs.SortLaws.{sorted-in}
+use Rattle.sorting_spec.specs.Lex.{lexLe}
 use Rattle.sorting.specs.Runs.{equalsAfter, runsOf, joined, next, numbersFrom, runNumbers}
 use Rattle.sorting.specs.RunLaws.{run-behind}
-use Rattle.sorting.specs.Distinct.{keep, same, onceAfter, once, distinct}
-use Rattle.sorting.specs.DistinctLaws.{same-refl, same-eq, runs-distinct}
+use Rattle.sorting.specs.Distinct.{onceAfter, once, distinct}
+use Rattle.sorting.specs.DistinctLaws.{runs-distinct}
 use Rattle.cover_spec.specs.Cover.{Edge}
 use Rattle.protein_groups_spec.specs.ProteinGroups.{edgesFrom}
-use Rattle.protein_groups_spec.specs.CountingLaws.{along, metasIn, Under}
+use Rattle.protein_groups_spec.specs.CountingLaws.{along, metasIn}
 
 -- ---- a walk over things with numbers
 

@@ -10,7 +10,6 @@ pub mod SizeLaws
 pub mod TheoremLaws
 pub mod AlikeLaws
 pub mod CountingLaws
-pub mod NumberingLaws
 pub mod LeaderLaws
 pub mod WholeLaws
 pub mod ReadingLaws

@@ -1,26 +1,14 @@
 -- How the code says the grouping: a protein seen from a peptide of a flag is one number, twice the protein's and the flag. The public
 -- statement does not cite this; PackingLaws says that it is the grouping of ProteinGroups.
 use Prim.Native.Nat.{ℕ, suc, _+_, _*_, _/_, _%_}
-use mathlib.Core.Bool.{cond}
 use mathlib.Core.List.{List, [], _∷_, _++_, flatten, map}
-use lib.Dec.{eqb}
 use lib.ListN.{length, getD}
-use Rattle.sorting_merge.specs.Sort.{sorted}
-use Rattle.sorting.specs.Counting.{upFrom}
-use Rattle.sorting.specs.Distinct.{keep, same, distinct}
-use Rattle.protein_groups_members.specs.Numbers.{has}
+use Rattle.lists.specs.FirstLaws.{place, firsts}
+use Rattle.lists.specs.Lists.{upFrom, keep, same}
+use Rattle.sorting_spec.specs.Sort.{sorted}
+use Rattle.sorting.specs.Distinct.{distinct}
 use Rattle.protein_groups_members.specs.Members.{Member}
 use Rattle.protein_groups_spec.specs.ProteinGroups.{Pair, pairsOf, taking, up, listFrom, edgesFrom, Groups}
-
--- where k first stands in a list
-abbrev pub place : ℕ → List ℕ → ℕ
-place k [] = 0
-place k (x ∷ xs) = cond (eqb x k) 0 (suc (place k xs))
-
--- each number once, in the order of first appearance, behind those found before
-abbrev pub firsts : List ℕ → List ℕ → List ℕ
-firsts found [] = found
-firsts found (k ∷ ks) = firsts (cond (has k found) found (found ++ (k ∷ []))) ks
 
 -- a protein's number twice, and one more from a decoy
 abbrev pub seen : List ℕ → Pair → ℕ

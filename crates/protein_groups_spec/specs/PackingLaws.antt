@@ -7,11 +7,12 @@ use native.Mathlib.Nat.{zero-add}
 use native.Mathlib.Omega.{arith}
 use lib.Dec.{eqb}
 use lib.ListN.{length, getD}
-use Rattle.sorting_merge.specs.Sort.{sorted}
-use Rattle.sorting.specs.Counting.{upFrom}
-use Rattle.sorting.specs.Distinct.{keep, same, distinct}
-use Rattle.protein_groups_members.specs.Numbers.{has}
+use Rattle.lists.specs.KeepLaws.{keep-map}
+use Rattle.lists.specs.Lists.{upFrom, keep, same, has}
+use Rattle.sorting_spec.specs.Sort.{sorted}
+use Rattle.sorting.specs.Distinct.{distinct}
 use Rattle.protein_groups_spec.specs.ProteinGroups.{Pair, Seen, seen, alike, among, place, firsts, pairsOf, shown, proteins, taking, up, evidence, metas, listFrom, listOf, edgesFrom, member, membersFrom, groupsOf, grouping}
+use Rattle.lists.specs.FirstLaws as first
 use Rattle.protein_groups_spec.specs.PackedGroups as packed
 use Rattle.protein_groups_spec.specs.PackedGroups.{packedGrouping}
 use Rattle.protein_groups_spec.specs.TheoremLaws.{halves, place-found}
@@ -35,18 +36,18 @@ among-is k (x ∷ xs) = rw (alike-is x k, among-is k xs) (go (eqb x k))
     go true = refl
     go false = refl
 
-place-is : (k : ℕ) (l : List ℕ) → place (unpack k) (map unpack l) ≡ packed.place k l
+place-is : (k : ℕ) (l : List ℕ) → place (unpack k) (map unpack l) ≡ first.place k l
 place-is k [] = refl
 place-is k (x ∷ xs) = rw (alike-is x k, place-is k xs)
 
-firsts-are : (f l : List ℕ) → firsts (map unpack f) (map unpack l) ≡ map unpack (packed.firsts f l)
+firsts-are : (f l : List ℕ) → firsts (map unpack f) (map unpack l) ≡ map unpack (first.firsts f l)
 firsts-are f [] = refl
 firsts-are f (k ∷ ks) =
     ap (λ (t : Bool). firsts (cond t (map unpack f) (map unpack f ++ (unpack k ∷ []))) (map unpack ks)) (among-is k f)
     ∙ go (has k f) (λ g. firsts-are g ks)
   where
-    go : (t : Bool) → ((g : List ℕ) → firsts (map unpack g) (map unpack ks) ≡ map unpack (packed.firsts g ks))
-        → firsts (cond t (map unpack f) (map unpack f ++ (unpack k ∷ []))) (map unpack ks) ≡ map unpack (packed.firsts (cond t f (f ++ (k ∷ []))) ks)
+    go : (t : Bool) → ((g : List ℕ) → firsts (map unpack g) (map unpack ks) ≡ map unpack (first.firsts g ks))
+        → firsts (cond t (map unpack f) (map unpack f ++ (unpack k ∷ []))) (map unpack ks) ≡ map unpack (first.firsts (cond t f (f ++ (k ∷ []))) ks)
     go true r = r f
     go false r = ap (λ (g : List Seen). firsts g (map unpack ks)) (sym (map-append unpack f (k ∷ []))) ∙ r (f ++ (k ∷ []))
 
@@ -85,19 +86,11 @@ module _ (flags : List ℕ) (bits : (i : ℕ) → getD flags i 0 ≤ 1) (qs : Li
 
 -- ---- groups, where each stands at its place
 
-keep-map : {A B : Type 0} (f : A → B) (t : B → Bool) (l : List A) → keep t (map f l) ≡ map f (keep (λ x. t (f x)) l)
-keep-map f t [] = refl
-keep-map {B = B} f t (x ∷ xs) = go (t (f x)) (keep-map f t xs)
-  where
-    go : (b : Bool) → keep t (map f xs) ≡ map f (keep (λ x. t (f x)) xs) → cond b (f x ∷ keep t (map f xs)) (keep t (map f xs)) ≡ map f (cond b (x ∷ keep (λ x. t (f x)) xs) (keep (λ x. t (f x)) xs))
-    go true r = ap (λ (l : List B). f x ∷ l) r
-    go false r = r
-
 by-place : {B : Type 0} (f : ℕ → B) (l : List ℕ) → map f l ≡ map (λ (k : ℕ). f (getD l k 0)) (upFrom 0 (length l))
 by-place f [] = refl
 by-place {B} f (x ∷ xs) = ap (λ (l : List B). f x ∷ l) (by-place f xs ∙ sym (map-shift (λ (k : ℕ). f (getD (x ∷ xs) k 0)) 0 (length xs)))
 
-module _ (ps : List ℕ) (ms : List (List ℕ)) (found : (k : ℕ) → k < length ps → packed.place (getD ps k 0) ps ≡ k) where
+module _ (ps : List ℕ) (ms : List (List ℕ)) (found : (k : ℕ) → k < length ps → first.place (getD ps k 0) ps ≡ k) where
   abbrev at : ℕ → Seen
   at k = unpack (getD ps k 0)
 

@@ -4,13 +4,12 @@ use mathlib.Core.Bool.{Bool, false, cond, _&&_, _||_}
 use mathlib.Core.List.{List, [], _∷_, _++_, flatten, map}
 use lib.Dec.{ltb, eqb}
 use lib.ListN.{length, getD, replicate}
+use Rattle.lists.specs.Lists.{upFrom, keep, same, times}
 use Rattle.records.specs.Le.{numberAt}
-use Rattle.sorting_merge.specs.Sort.{sorted}
-use Rattle.sorting_merge.specs.Lex.{lexLe}
-use Rattle.sorting.specs.Counting.{upFrom}
-use Rattle.sorting.specs.Distinct.{keep, same, distinct}
+use Rattle.sorting_spec.specs.Sort.{sorted}
+use Rattle.sorting_spec.specs.Lex.{lexLe}
+use Rattle.sorting.specs.Distinct.{distinct}
 use Rattle.cover_spec.specs.Cover.{Edge}
-use Rattle.protein_groups_members.specs.Numbers.{times}
 use Rattle.protein_groups_members.specs.Members.{Member}
 
 -- a pair, 8 bytes: peptide u32, protein u32

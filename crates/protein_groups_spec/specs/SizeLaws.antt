@@ -7,20 +7,20 @@ use Prim.Native.Nat.{ℕ, zero, suc, _+_, _≤_, _<_}
 use native.Mathlib.Omega.{arith}
 use lib.Dec.{eqb}
 use lib.ListN.{length, getD, length-map}
-use Rattle.sorting_merge.specs.Sort.{sorted}
-use Rattle.sorting_merge.specs.SortLaws.{In, length-sorted}
-use Rattle.sorting_merge.specs.Lex.{lexLe}
-use Rattle.sorting.specs.Counting.{upFrom}
-use Rattle.sorting.specs.CountingLaws.{length-up}
+use Rattle.lists.specs.Lists.{In, upFrom, keep, same, times}
+use Rattle.lists.specs.RowLaws.{length-up}
+use Rattle.lists.specs.FirstLaws.{place, at-most}
+use Rattle.lists.specs.KeyLaws.{ofKey, below, below-suc, below-most, under-of}
+use Rattle.sorting_spec.specs.Sort.{sorted}
+use Rattle.sorting_spec.specs.SortLaws.{length-sorted}
+use Rattle.sorting_spec.specs.Lex.{lexLe}
 use Rattle.sorting.specs.Runs.{runNumbers}
 use Rattle.sorting.specs.NumberLaws.{length-numbers}
-use Rattle.sorting.specs.Distinct.{keep, same, onceAfter, once, distinct}
+use Rattle.sorting.specs.Distinct.{onceAfter, once, distinct}
 use Rattle.cover_spec.specs.Cover.{Edge}
-use Rattle.protein_groups_members.specs.Numbers.{times}
 use Rattle.protein_groups_spec.specs.ProteinGroups.{Pair, pairsOf, paired, taking, up, listFrom, edgesFrom, Groups}
-use Rattle.protein_groups_spec.specs.PackedGroups.{place, seen, shown, proteins, evidence, metas, lists, member, groupsOf, packedGrouping}
-use Rattle.protein_groups_spec.specs.CountingLaws.{chosen, below, metasIn, groupsIn, below-suc, below-most, list-chosen, under-of}
-use Rattle.protein_groups_spec.specs.NumberingLaws.{at-most}
+use Rattle.protein_groups_spec.specs.PackedGroups.{seen, shown, proteins, evidence, metas, lists, member, groupsOf, packedGrouping}
+use Rattle.protein_groups_spec.specs.CountingLaws.{metasIn, groupsIn, list-chosen}
 use Rattle.protein_groups_spec.specs.LeaderLaws.{le, total, total-sorted, total-keep, spread-most, edges-spread}
 use Rattle.protein_groups_spec.specs.ReadingLaws.{read-walk}
 use Rattle.protein_groups_spec.specs.WholeLaws.{peptidesOf, times-pairs, whole}
@@ -51,12 +51,12 @@ few-distinct ls = omega (arith, first (sorted lexLe ls), length-sorted lexLe ls)
     first [] = omega arith
     first (m ∷ ms) = omega (arith, later m ms)
 
-few-chosen : (k : ℕ) (ks vs : List ℕ) → length (chosen k ks vs) ≤ times k ks
+few-chosen : (k : ℕ) (ks vs : List ℕ) → length (ofKey k ks vs) ≤ times k ks
 few-chosen k [] vs = omega arith
 few-chosen k (x ∷ xs) [] = omega arith
 few-chosen k (x ∷ xs) (v ∷ vs) = go (eqb x k) (few-chosen k xs vs)
   where
-    go : (b : Bool) → length (chosen k xs vs) ≤ times k xs → length (cond b (v ∷ chosen k xs vs) (chosen k xs vs)) ≤ cond b (suc (times k xs)) (times k xs)
+    go : (b : Bool) → length (ofKey k xs vs) ≤ times k xs → length (cond b (v ∷ ofKey k xs vs) (ofKey k xs vs)) ≤ cond b (suc (times k xs)) (times k xs)
     go true h = omega arith
     go false h = omega arith
 

@@ -1,35 +1,30 @@
 -- The words of the theorems on the grouping.
-use Prim.Native.Nat.{ℕ, _+_}
+use Prim.Native.Nat.{ℕ}
 use mathlib.Core.Path.{_≡_}
 use mathlib.Core.Bool.{Bool, true, _&&_}
-use mathlib.Core.List.{List, [], _∷_}
+use mathlib.Core.List.{List}
 use lib.Dec.{ltb, eqb}
 use lib.ListN.{getD}
-use Rattle.sorting_merge.specs.SortLaws.{In}
-use Rattle.cover_spec.specs.Cover.{bit, cover}
+use Rattle.lists.specs.Lists.{In, count}
+use Rattle.cover_spec.specs.Cover.{cover}
 use Rattle.protein_groups_members.specs.Members.{Member}
 use Rattle.protein_groups_spec.specs.ProteinGroups.{Pair, Groups}
 
--- how many of a list pass a test
-abbrev pub many : {A : Type 0} → (A → Bool) → List A → ℕ
-many p [] = 0
-many p (x ∷ xs) = bit (p x) + many p xs
-
--- how many members have protein p and flag f
+-- how count members have protein p and flag f
 abbrev pub standing : ℕ → ℕ → List Member → ℕ
-standing p f ms = many (λ (m : Member). eqb (m .protein) p && eqb (m .decoy) f) ms
+standing p f ms = count (λ (m : Member). eqb (m .protein) p && eqb (m .decoy) f) ms
 
--- how many members a group has
+-- how count members a group has
 abbrev pub membersOf : ℕ → List Member → ℕ
-membersOf g ms = many (λ (m : Member). eqb (m .group) g) ms
+membersOf g ms = count (λ (m : Member). eqb (m .group) g) ms
 
 -- whether some pair has protein p and a peptide of flag f
 abbrev pub seenAs : List ℕ → List Pair → ℕ → ℕ → Bool
-seenAs flags qs p f = ltb 0 (many (λ (q : Pair). eqb (q .protein) p && eqb (getD flags (q .peptide) 0) f) qs)
+seenAs flags qs p f = ltb 0 (count (λ (q : Pair). eqb (q .protein) p && eqb (getD flags (q .peptide) 0) f) qs)
 
 -- how often the pairs of peptide p name a member's protein, seen with its flag
 abbrev pub showing : List ℕ → List Pair → ℕ → Member → ℕ
-showing flags qs p m = many (λ (q : Pair). eqb (q .peptide) p && (eqb (q .protein) (m .protein) && eqb (getD flags (q .peptide) 0) (m .decoy))) qs
+showing flags qs p m = count (λ (q : Pair). eqb (q .peptide) p && (eqb (q .protein) (m .protein) && eqb (getD flags (q .peptide) 0) (m .decoy))) qs
 
 -- a member of a marked group with one of peptide p's proteins and its flag
 pub record Reached (flags : List ℕ) (qs : List Pair) (G : Groups) (p : ℕ) : Type 0 where

@@ -10,25 +10,25 @@ use native.Mathlib.Omega.{arith}
 use borrow.Author.Tests.{ltb-true, lt-ltb, eqb-true, eqb-false, eq-eqb, ne-eqb}
 use lib.Dec.{eqb}
 use lib.ListN.{length, getD, replicate, List·getD-eq-default}
-use Rattle.records.specs.Tests.{below?}
-use Rattle.sorting_merge.specs.Sort.{insert, sorted}
-use Rattle.sorting_merge.specs.SortLaws.{In, in-sorted, sorted-in, clash}
-use Rattle.sorting_merge.specs.Lex.{lexLe}
-use Rattle.sorting.specs.Counting.{upFrom}
-use Rattle.sorting.specs.CountingLaws.{in-up, up-in}
+use Rattle.lists.specs.KeepLaws.{count-times}
+use Rattle.lists.specs.InLaws.{in-left, in-right, in-append, in-keep, keep-in, in-map, map-in, in-getD, getD-in, is-in, in-some, some-in, has-in, in-has, in-times, times-in, count-in, in-count}
+use Rattle.lists.specs.Tests.{below?, clash, iff}
+use Rattle.lists.specs.Lists.{In, upFrom, keep, same, bit, count, All, has, times}
+use Rattle.lists.specs.RowLaws.{in-up, up-in}
+use Rattle.lists.specs.SameLaws.{same-refl, same-eq}
+use Rattle.lists.specs.FirstLaws.{place, firsts, place-lt, has-append, times-append, place-at, getD-place}
+use Rattle.sorting_spec.specs.Sort.{sorted}
+use Rattle.sorting_spec.specs.SortLaws.{in-sorted, sorted-in, count-sorted}
+use Rattle.sorting_spec.specs.Lex.{lexLe}
 use Rattle.sorting.specs.Runs.{runNumbers}
 use Rattle.sorting.specs.NumberLaws.{length-numbers}
-use Rattle.sorting.specs.Distinct.{keep, same, onceAfter, once, distinct}
-use Rattle.sorting.specs.DistinctLaws.{same-refl, same-eq}
-use Rattle.cover_spec.specs.Cover.{Edge, bit, count}
-use Rattle.cover_spec.specs.CountLaws.{All}
-use Rattle.protein_groups_members.specs.Numbers.{has, times}
+use Rattle.sorting.specs.Distinct.{onceAfter, once, distinct}
+use Rattle.cover_spec.specs.Cover.{Edge}
 use Rattle.protein_groups_members.specs.Members.{Member}
 use Rattle.protein_groups_members.specs.MemberLaws.{Ranged}
 use Rattle.protein_groups_spec.specs.ProteinGroups.{Pair, pairsOf, paired, taking, up, listFrom, edgesFrom}
-use Rattle.protein_groups_spec.specs.PackedGroups.{shown, seen, proteins, metas, evidence, place, firsts, lists, member, membersFrom, groupsOf, packedGrouping}
-use Rattle.protein_groups_spec.specs.Standing.{many, standing, seenAs}
-use Rattle.protein_groups_spec.specs.NumberingLaws.{place-lt}
+use Rattle.protein_groups_spec.specs.PackedGroups.{shown, seen, proteins, metas, evidence, lists, member, membersFrom, groupsOf, packedGrouping}
+use Rattle.protein_groups_spec.specs.Standing.{standing, seenAs}
 use Rattle.protein_groups_spec.specs.LeaderLaws.{walkBy, tagged, gathered-walk, distinct-in, le}
 
 -- what is asked of the lists: flags are 0 or 1, and a pair's peptide is below the number of peptides
@@ -36,164 +36,23 @@ pub record Fit (flags : List ℕ) (peptides : ℕ) (qs : List Pair) : Type 0 whe
   pub flag : (i : ℕ) → i < length flags → getD flags i 0 ≤ 1
   pub below : (q : Pair) → In q qs → q .peptide < peptides
 
--- ---- what stands in a list
-
-module _ {A : Type 0} (x : A) where
-  pub in-left : (xs ys : List A) → In x xs → In x (xs ++ ys)
-  in-left [] ys h = absurd h
-  in-left (y ∷ xs) ys (inl e) = inl e
-  in-left (y ∷ xs) ys (inr k) = inr (in-left xs ys k)
-
-  pub in-right : (xs ys : List A) → In x ys → In x (xs ++ ys)
-  in-right [] ys h = h
-  in-right (y ∷ xs) ys h = inr (in-right xs ys h)
-
-  pub in-append : (xs ys : List A) → In x (xs ++ ys) → In x xs ⊎ In x ys
-  in-append [] ys h = inr h
-  in-append (y ∷ xs) ys (inl e) = inl (inl e)
-  in-append (y ∷ xs) ys (inr k) = ⊎-elim (λ i. inl (inr i)) (λ i. inr i) (in-append xs ys k)
-
-  pub in-keep : (p : A → Bool) (xs : List A) → In x xs → p x ≡ true → In x (keep p xs)
-  in-keep p [] h e = h
-  in-keep p (y ∷ xs) h e = go (p y) refl h (in-keep p xs)
-    where
-      go : (t : Bool) → p y ≡ t → In x (y ∷ xs) → (In x xs → p x ≡ true → In x (keep p xs)) → In x (cond t (y ∷ keep p xs) (keep p xs))
-      go true q (inl z) r = inl z
-      go true q (inr k) r = inr (r k e)
-      go false q (inl z) r = clash (ap p (sym z) ∙ e) q
-      go false q (inr k) r = r k e
-
-  pub keep-in : (p : A → Bool) (xs : List A) → In x (keep p xs) → In x xs × (p x ≡ true)
-  keep-in p [] h = absurd h
-  keep-in p (y ∷ xs) h = go (p y) refl h (keep-in p xs)
-    where
-      go : (t : Bool) → p y ≡ t → In x (cond t (y ∷ keep p xs) (keep p xs)) → (In x (keep p xs) → In x xs × (p x ≡ true)) → In x (y ∷ xs) × (p x ≡ true)
-      go true q (inl z) r = (inl z, ap p z ∙ q)
-      go true q (inr k) r = let s = r k in (inr (s .0), s .1)
-      go false q k r = let s = r k in (inr (s .0), s .1)
-
-module _ {A B : Type 0} (f : A → B) where
-  pub in-map : (x : A) (xs : List A) → In x xs → In (f x) (map f xs)
-  in-map x [] h = absurd h
-  in-map x (y ∷ ys) (inl e) = inl (ap f e)
-  in-map x (y ∷ ys) (inr k) = inr (in-map x ys k)
-
-  pub map-in : (y : B) (xs : List A) → In y (map f xs) → (x : A) × In x xs × (y ≡ f x)
-  map-in y [] h = absurd h
-  map-in y (x ∷ xs) (inl e) = (x, inl refl, e)
-  map-in y (x ∷ xs) (inr k) = let (z, i, e) = map-in y xs k in (z, inr i, e)
-
-module _ {A : Type 0} (d : A) where
-  pub in-getD : (l : List A) (i : ℕ) → i < length l → In (getD l i d) l
-  in-getD [] i h = absurd (omega arith)
-  in-getD (x ∷ xs) zero h = inl refl
-  in-getD (x ∷ xs) (suc i) h = inr (in-getD xs i (omega arith))
-
-  pub getD-in : (x : A) (l : List A) → In x l → (i : ℕ) × (i < length l) × (getD l i d ≡ x)
-  getD-in x [] h = absurd h
-  getD-in x (y ∷ ys) (inl e) = (0, omega arith, sym e)
-  getD-in x (y ∷ ys) (inr k) = let (i, l, e) = getD-in x ys k in (suc i, omega arith, e)
-
-pub is-in : {A : Type 0} {x y : A} {k l : List A} → x ≡ y → k ≡ l → In x k → In y l
-is-in {A} {y = y} {k} p q h = subst (λ (m : List A). In y m) q (subst (λ (z : A). In z k) p h)
-
-pub in-some : {A : Type 0} (x : A) (l : List A) → In x l → 0 < length l
-in-some x [] h = absurd h
-in-some x (y ∷ ys) h = omega arith
-
-pub some-in : {A : Type 0} (l : List A) → 0 < length l → (x : A) × In x l
-some-in [] h = absurd (omega arith)
-some-in (y ∷ ys) h = (y, inl refl)
-
-pub has-in : (k : ℕ) (l : List ℕ) → has k l ≡ true → In k l
-has-in k [] h = clash h refl
-has-in k (x ∷ xs) h = go (eqb x k) refl h (has-in k xs)
-  where
-    go : (t : Bool) → eqb x k ≡ t → cond t true (has k xs) ≡ true → (has k xs ≡ true → In k xs) → (k ≡ x) ⊎ In k xs
-    go true e h r = inl (sym (eqb-true x k e))
-    go false e h r = inr (r h)
-
-pub in-has : (k : ℕ) (l : List ℕ) → In k l → has k l ≡ true
-in-has k [] h = absurd h
-in-has k (x ∷ xs) (inl e) = rw (eq-eqb x k (sym e))
-in-has k (x ∷ xs) (inr i) = go (eqb x k) (in-has k xs i)
-  where
-    go : (t : Bool) → has k xs ≡ true → cond t true (has k xs) ≡ true
-    go true r = refl
-    go false r = r
-
--- ---- how many of a list pass a test
-
-module _ {A : Type 0} (p : A → Bool) where
-  pub many-in : (x : A) (xs : List A) → In x xs → p x ≡ true → 0 < many p xs
-  many-in x [] h e = absurd h
-  many-in x (y ∷ xs) (inl z) e = let k : p y ≡ true = ap p (sym z) ∙ e in rw k (omega arith)
-  many-in x (y ∷ xs) (inr i) e = omega (arith, many-in x xs i e)
-
-  pub in-many : (xs : List A) → 0 < many p xs → (x : A) × In x xs × (p x ≡ true)
-  in-many [] h = absurd (omega arith)
-  in-many (y ∷ xs) h = go (p y) refl h (in-many xs)
-    where
-      go : (t : Bool) → p y ≡ t → 0 < bit t + many p xs → (0 < many p xs → (x : A) × In x xs × (p x ≡ true)) → (x : A) × In x (y ∷ xs) × (p x ≡ true)
-      go true e h r = (y, inl refl, e)
-      go false e h r = let (x, i, q) = r (omega arith) in (x, inr i, q)
-
-  pub many-none : (xs : List A) → ((x : A) → In x xs → p x ≡ true → ⊥) → many p xs ≡ 0
-  many-none xs h = ⊎-elim (λ (k : 0 < many p xs). let (x, i, e) = in-many xs k in absurd (h x i e)) (λ (k : many p xs ≤ 0). omega arith) (below? 0 (many p xs))
-
-  many-insert : (le : A → A → Bool) (x : A) (s : List A) → many p (insert le x s) ≡ bit (p x) + many p s
-  many-insert le x [] = refl
-  many-insert le x (y ∷ ys) = go (le x y) (many-insert le x ys)
-    where
-      go : (t : Bool) → many p (insert le x ys) ≡ bit (p x) + many p ys → many p (cond t (x ∷ y ∷ ys) (y ∷ insert le x ys)) ≡ bit (p x) + (bit (p y) + many p ys)
-      go true r = refl
-      go false r = omega arith
-
-  pub many-sorted : (le : A → A → Bool) (s : List A) → many p (sorted le s) ≡ many p s
-  many-sorted le [] = refl
-  many-sorted le (x ∷ xs) = many-insert le x (sorted le xs) ∙ ap (λ (n : ℕ). bit (p x) + n) (many-sorted le xs)
-
 -- at the places of a list
-pub many-places : (t : ℕ → Bool) (at : ℕ → ℕ) (a : ℕ) (l : List ℕ) → ((i : ℕ) → i < length l → at (a + i) ≡ getD l i 0) → many (λ k. t (at k)) (upFrom a (length l)) ≡ many t l
-many-places t at a [] h = refl
-many-places t at a (x ∷ xs) h =
+pub count-places : (t : ℕ → Bool) (at : ℕ → ℕ) (a : ℕ) (l : List ℕ) → ((i : ℕ) → i < length l → at (a + i) ≡ getD l i 0) → count (λ k. t (at k)) (upFrom a (length l)) ≡ count t l
+count-places t at a [] h = refl
+count-places t at a (x ∷ xs) h =
     let e : a + 0 ≡ a = omega arith in
     let k : at a ≡ x = ap at (sym e) ∙ h 0 (omega arith) in
-    rw (k, many-places t at (suc a) xs (λ i q. let z : suc a + i ≡ a + suc i = omega arith in ap at z ∙ h (suc i) (omega arith)))
-
-pub many-times : (c : ℕ) (l : List ℕ) → many (λ x. eqb x c) l ≡ times c l
-many-times c [] = refl
-many-times c (x ∷ xs) = go (eqb x c) (many-times c xs)
-  where
-    go : (t : Bool) → many (λ x. eqb x c) xs ≡ times c xs → bit t + many (λ x. eqb x c) xs ≡ cond t (suc (times c xs)) (times c xs)
-    go true r = omega arith
-    go false r = omega arith
+    rw (k, count-places t at (suc a) xs (λ i q. let z : suc a + i ≡ a + suc i = omega arith in ap at z ∙ h (suc i) (omega arith)))
 
 -- one member for each thing walked over
-pub many-walk : {A : Type 0} (f : ℕ → ℕ → A) (t : A → Bool) (u : ℕ → Bool) → ((g k : ℕ) → t (f g k) ≡ u k) → (gs xs : List ℕ) → length gs ≡ length xs
-    → many t (walkBy f gs xs) ≡ many u xs
-many-walk f t u h [] [] e = refl
-many-walk f t u h [] (x ∷ xs) e = absurd (omega arith)
-many-walk f t u h (g ∷ gs) [] e = absurd (omega arith)
-many-walk f t u h (g ∷ gs) (x ∷ xs) e = rw (h g x, many-walk f t u h gs xs (omega arith))
+pub count-walk : {A : Type 0} (f : ℕ → ℕ → A) (t : A → Bool) (u : ℕ → Bool) → ((g k : ℕ) → t (f g k) ≡ u k) → (gs xs : List ℕ) → length gs ≡ length xs
+    → count t (walkBy f gs xs) ≡ count u xs
+count-walk f t u h [] [] e = refl
+count-walk f t u h [] (x ∷ xs) e = absurd (omega arith)
+count-walk f t u h (g ∷ gs) [] e = absurd (omega arith)
+count-walk f t u h (g ∷ gs) (x ∷ xs) e = rw (h g x, count-walk f t u h gs xs (omega arith))
 
 -- ---- each number once
-
-pub has-append : (k : ℕ) (xs ys : List ℕ) → has k (xs ++ ys) ≡ (has k xs || has k ys)
-has-append k [] ys = refl
-has-append k (x ∷ xs) ys = go (eqb x k) (has-append k xs ys)
-  where
-    go : (t : Bool) → has k (xs ++ ys) ≡ (has k xs || has k ys) → cond t true (has k (xs ++ ys)) ≡ (cond t true (has k xs) || has k ys)
-    go true r = refl
-    go false r = r
-
-pub times-append : (k : ℕ) (xs ys : List ℕ) → times k (xs ++ ys) ≡ times k xs + times k ys
-times-append k [] ys = omega arith
-times-append k (x ∷ xs) ys = go (eqb x k) (times-append k xs ys)
-  where
-    go : (t : Bool) → times k (xs ++ ys) ≡ times k xs + times k ys → cond t (suc (times k (xs ++ ys))) (times k (xs ++ ys)) ≡ cond t (suc (times k xs)) (times k xs) + times k ys
-    go true r = omega arith
-    go false r = r
 
 -- c stands once in f where it stands in it
 abbrev Single : ℕ → List ℕ → Type 0
@@ -302,42 +161,7 @@ seen-is flags h q p x e z =
     let y : x % 2 ≡ getD flags (q .peptide) 0 = omega arith in
     (omega arith, y ∙ ap (λ (i : ℕ). getD flags i 0) e)
 
-pub iff : (a b : Bool) → (a ≡ true → b ≡ true) → (b ≡ true → a ≡ true) → a ≡ b
-iff true b p q = sym (p refl)
-iff false true p q = q refl
-iff false false p q = refl
-
 -- ---- a number's place, and how often it stands
-
-pub in-times : (x : ℕ) (l : List ℕ) → In x l → 0 < times x l
-in-times x l h = rw (many-times x l) at (many-in (λ y. eqb y x) x l h (eq-eqb x x refl))
-
-pub times-in : (x : ℕ) (l : List ℕ) → 0 < times x l → In x l
-times-in x l h =
-    let k : 0 < many (λ y. eqb y x) l = rw (many-times x l) h in
-    let (y, i, e) = in-many (λ y. eqb y x) l k in
-    let z : y ≡ x = eqb-true y x e in
-    rw z at i
-
--- what stands once has the place at which it stands
-pub place-at : (l : List ℕ) (k : ℕ) → k < length l → times (getD l k 0) l ≤ 1 → place (getD l k 0) l ≡ k
-place-at [] k h s = absurd (omega arith)
-place-at (y ∷ ys) zero h s = rw (eq-eqb y y refl)
-place-at (y ∷ ys) (suc i) h s = go (eqb y (getD ys i 0)) s (place-at ys i (omega arith))
-  where
-    go : (t : Bool) → cond t (suc (times (getD ys i 0) ys)) (times (getD ys i 0) ys) ≤ 1 → (times (getD ys i 0) ys ≤ 1 → place (getD ys i 0) ys ≡ i)
-        → cond t 0 (suc (place (getD ys i 0) ys)) ≡ suc i
-    go true s r = absurd (omega (arith, in-times (getD ys i 0) ys (in-getD 0 ys i (omega arith))))
-    go false s r = ap suc (r s)
-
-pub getD-place : (x : ℕ) (l : List ℕ) → In x l → getD l (place x l) 0 ≡ x
-getD-place x [] h = absurd h
-getD-place x (y ∷ ys) h = go (eqb y x) refl h (getD-place x ys)
-  where
-    go : (t : Bool) → eqb y x ≡ t → (x ≡ y) ⊎ In x ys → (In x ys → getD ys (place x ys) 0 ≡ x) → getD (y ∷ ys) (cond t 0 (suc (place x ys))) 0 ≡ x
-    go true e h r = eqb-true y x e
-    go false e (inl z) r = clash (eq-eqb y x (sym z)) e
-    go false e (inr k) r = r k
 
 -- ---- the distinct of some lists
 
@@ -454,13 +278,11 @@ module _ (ps : List ℕ) (ms : List (List ℕ)) where
 -- ---- the grouping
 
 pub edge-counts : (p : Edge → Bool) (e : Edge) (l : List Edge) → In e l → p e ≡ true → 0 < count p l
-unfolding count
 edge-counts p e [] h k = absurd h
 edge-counts p e (d ∷ l) (inl z) k = let j : p d ≡ true = ap p (sym z) ∙ k in rw j (omega arith)
 edge-counts p e (d ∷ l) (inr i) k = omega (arith, edge-counts p e l i k)
 
 pub edge-find : (p : Edge → Bool) (l : List Edge) → 0 < count p l → (e : Edge) × In e l × (p e ≡ true)
-unfolding count
 edge-find p [] h = absurd (omega arith)
 edge-find p (d ∷ l) h = go (p d) refl h (edge-find p l)
   where
@@ -587,15 +409,15 @@ module _ (flags : List ℕ) (peptides : ℕ) (qs : List Pair) where
       let f : In (seen flags r) ps = in-found (seen flags r) (in-shown flags qs r 0 peptides u (omega arith) (omega arith)) in
       (r, u, v, (k, b, y, ap (λ (o : ℕ). getD ps o 0) w ∙ getD-place (seen flags r) ps f))
 
-  -- a protein and flag stand in as many members as their number in what is found
+  -- a protein and flag stand in as count members as their number in what is found
   pub standing-times : (p f : ℕ) → f ≤ 1 → standing p f (packedGrouping flags peptides qs .members) ≡ times (p * 2 + f) ps
   unfolding packedGrouping groupsOf
   standing-times p f h =
       ap (standing p f) (members-tagged ps ms 0 ls ∙ gathered-walk list (member ps) (upFrom 0 (length ps)))
-      ∙ many-walk (member ps) (λ (m : Member). eqb (m .protein) p && eqb (m .decoy) f) hit (λ g k. halves (getD ps k 0) p f h) (runNumbers (le list) order) order (length-numbers (le list) order)
-      ∙ many-sorted hit (le list) (upFrom 0 (length ps))
-      ∙ many-places (λ x. eqb x (p * 2 + f)) (λ k. getD ps k 0) 0 ps (λ i l. ap (λ (k : ℕ). getD ps k 0) (zero-add i))
-      ∙ many-times (p * 2 + f) ps
+      ∙ count-walk (member ps) (λ (m : Member). eqb (m .protein) p && eqb (m .decoy) f) hit (λ g k. halves (getD ps k 0) p f h) (runNumbers (le list) order) order (length-numbers (le list) order)
+      ∙ count-sorted hit (le list) (upFrom 0 (length ps))
+      ∙ count-places (λ x. eqb x (p * 2 + f)) (λ k. getD ps k 0) 0 ps (λ i l. ap (λ (k : ℕ). getD ps k 0) (zero-add i))
+      ∙ count-times (p * 2 + f) ps
     where
       list : ℕ → List ℕ
       list = listFrom 0 ms
@@ -622,11 +444,11 @@ module _ (flags : List ℕ) (peptides : ℕ) (qs : List Pair) where
         to : has (p * 2 + f) all ≡ true → seenAs flags qs p f ≡ true
         to e =
             let (q, i, z, l) = shown-in flags qs (p * 2 + f) 0 peptides (has-in (p * 2 + f) all e) in
-            lt-ltb 0 (many test qs) (many-in test q qs i (pair-is q p f h ∙ eq-eqb (seen flags q) (p * 2 + f) (sym z)))
+            lt-ltb 0 (count test qs) (count-in test q qs i (pair-is q p f h ∙ eq-eqb (seen flags q) (p * 2 + f) (sym z)))
 
         from : seenAs flags qs p f ≡ true → has (p * 2 + f) all ≡ true
         from e =
-            let (q, i, z) = in-many test qs (ltb-true 0 (many test qs) e) in
+            let (q, i, z) = in-count test qs (ltb-true 0 (count test qs) e) in
             let s : seen flags q ≡ p * 2 + f = eqb-true (seen flags q) (p * 2 + f) (sym (pair-is q p f h) ∙ z) in
             let l : q .peptide < 0 + peptides = omega (arith, fit .below q i) in
             in-has (p * 2 + f) all (rw s at (in-shown flags qs q 0 peptides i (omega arith) l))

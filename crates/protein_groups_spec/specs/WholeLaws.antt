@@ -9,16 +9,15 @@ use native.Mathlib.Omega.{arith}
 use borrow.Author.Tests.{ltb-true, ltb-false, lt-ltb, le-ltb}
 use lib.Dec.{ltb, eqb}
 use lib.ListN.{length}
-use Rattle.sorting_merge.specs.Sort.{sorted}
-use Rattle.sorting.specs.Counting.{upFrom}
+use Rattle.lists.specs.Lists.{upFrom, keep, same, times}
+use Rattle.lists.specs.KeyLaws.{below, below-suc}
+use Rattle.sorting_spec.specs.Sort.{sorted}
 use Rattle.sorting.specs.Runs.{runsOf}
-use Rattle.sorting.specs.Distinct.{keep, same, distinct}
+use Rattle.sorting.specs.Distinct.{distinct}
 use Rattle.sorting.specs.DistinctLaws.{count-distinct}
 use Rattle.protein_groups_members.specs.Members.{Member}
-use Rattle.protein_groups_members.specs.Numbers.{times}
 use Rattle.protein_groups_spec.specs.ProteinGroups.{Pair, pairsOf, taking, paired, listFrom, edgesFrom}
 use Rattle.protein_groups_spec.specs.PackedGroups.{proteins, metas, evidence, lists, member, membersFrom, groupsOf}
-use Rattle.protein_groups_spec.specs.CountingLaws.{below, below-suc}
 use Rattle.protein_groups_spec.specs.LeaderLaws.{le, spread, walk, tagged, edges-spread, gathered-walk}
 
 -- numbers from a up to a + n

@@ -10,20 +10,20 @@ use borrow.Author.Tests.{lt-ltb, le-leb}
 use lib.Dec.{ltb, leb}
 use lib.ListN.{length, getD, length-map}
 use lib.Seq.{slice, length-slice, ext-getD}
+use Rattle.lists.specs.FirstLaws.{place, firsts, firsts-all, all-of-key, under-places}
+use Rattle.lists.specs.KeyLaws.{Under, byKeys, ofKey, below, below-le, below-most, under-of, under-at, under-by-keys}
+use Rattle.sorting_spec.specs.SortLaws.{under-sorted}
 use Rattle.records.specs.Outcome.{Outcome, outcome}
-use Rattle.sorting_merge.specs.declared.text.By.the-variants.{Itself}
-use Rattle.sorting_merge.specs.Sort.{sorted}
-use Rattle.sorting_merge.specs.PartLaws.{at-slice, slice-same}
+use Rattle.sorting_texts.specs.declared.text.By.the-variants.{Itself}
+use Rattle.sorting_spec.specs.Sort.{sorted}
+use Rattle.sorting_spec.specs.PartLaws.{at-slice, slice-same}
 use Rattle.sorting.specs.Each.{sortedTo, eachOutcome}
 use Rattle.sorting.specs.EachLaws.{Stretched, EachSorted, each-sorted}
 use Rattle.protein_groups_spec.specs.ProteinGroups.{up}
-use Rattle.protein_groups_spec.specs.PackedGroups.{place, firsts}
-use Rattle.protein_groups_spec.specs.CountingLaws.{Under, counted, chosen, below, below-le, below-most, under-of, under-at, under-counted, under-sorted}
-use Rattle.protein_groups_spec.specs.NumberingLaws.{firsts-all, all-chosen, under-places}
 use Rattle.sorting_counting.specs.PlacingLaws.{Counted}
 use Rattle.sorting_counting.specs.TallyLaws.{Laid}
-use Rattle.sorting_counting.specs.KnowingLaws.{Numbered}
-use Rattle.sorting_counting.specs.SpreadLaws.{textAt}
+use Rattle.protein_groups_numbering.specs.KnowingLaws.{Numbered}
+use Rattle.protein_groups_numbering.specs.SpreadLaws.{textAt}
 use Rattle.protein_groups_tables.specs.TakerLaws.{bound}
 
 -- what it asks: the found go from 0 on, their table from k on, and then come the boundaries
@@ -39,13 +39,13 @@ abbrev pub keysOf : List ℕ → ℕ → ℕ → List ℕ
 keysOf w a n = slice a (a + n) w
 
 abbrev pub orderOf : List ℕ → ℕ → ℕ → ℕ → ℕ → List ℕ
-orderOf w m a b n = firsts [] (counted 0 m (keysOf w a n) (keysOf w b n))
+orderOf w m a b n = firsts [] (byKeys 0 m (keysOf w a n) (keysOf w b n))
 
 pub record Evident (w₀ w : List ℕ) (k c m l a b n r : ℕ) : Type 0 where
   pub few : r ≤ k
   pub found : slice 0 (0 + r) w ≡ orderOf w₀ m a b n
   pub bounds : (j : ℕ) → j < m + 1 → getD w (c + j) 0 ≡ below j (keysOf w₀ a n)
-  pub texts : (p : ℕ) → p < m → textAt w c l p ≡ sorted up (map (λ (x : ℕ). place x (orderOf w₀ m a b n)) (chosen p (keysOf w₀ a n) (keysOf w₀ b n)))
+  pub texts : (p : ℕ) → p < m → textAt w c l p ≡ sorted up (map (λ (x : ℕ). place x (orderOf w₀ m a b n)) (ofKey p (keysOf w₀ a n) (keysOf w₀ b n)))
   pub between : (j : ℕ) → k + k ≤ j → j < c → getD w j 0 ≡ getD w₀ j 0
   pub after : (j : ℕ) → a + n ≤ j → getD w j 0 ≡ getD w₀ j 0
 
@@ -85,7 +85,7 @@ module _ (w₀ w₁ : List ℕ) (k c m l a b n : ℕ) (l₁ : length w₁ ≡ le
   pub all-below : (i : ℕ) → i < n → getD w₁ (l + i) 0 < k
   all-below i h =
       let u : length (slice l (l + n) w₁) ≡ n = length-slice l (l + n) w₁ (omega (arith, g .laid .values, g .laid .keys, g .laid .fits)) ∙ (let u : l + n - l ≡ n = omega arith in u) in
-      rw (at-slice l (l + n) w₁ i (omega arith)) at (under-at k (slice l (l + n) w₁) i (rw (s .values) (under-counted k 0 m ks vs vs-under)) (omega arith))
+      rw (at-slice l (l + n) w₁ i (omega arith)) at (under-at k (slice l (l + n) w₁) i (rw (s .values) (under-by-keys k 0 m ks vs vs-under)) (omega arith))
 
   module _ (w₂ : List ℕ) (r : ℕ) (l₂ : length w₂ ≡ length w₁) (d : Numbered w₁ w₂ 0 k k l n r) where
     bound-is : (j : ℕ) → j < m + 1 → bound w₂ c j ≡ below j ks
@@ -115,7 +115,7 @@ module _ (w₀ w₁ : List ℕ) (k c m l a b n : ℕ) (l₁ : length w₁ ≡ le
       all-found : firsts [] (slice l (l + n) w₁) ≡ orderOf w₀ m a b n
       all-found = ap (firsts []) (s .values)
 
-      text-go : (p : ℕ) → p < m → textAt w₃ c l p ≡ sorted up (map (λ (x : ℕ). place x (orderOf w₀ m a b n)) (chosen p ks vs))
+      text-go : (p : ℕ) → p < m → textAt w₃ c l p ≡ sorted up (map (λ (x : ℕ). place x (orderOf w₀ m a b n)) (ofKey p ks vs))
       text-go p h =
           let u : c + p + 1 ≡ c + (p + 1) = omega arith in
           let lo : getD w₃ (c + p) 0 ≡ bound w₂ c p = t .before (c + p) (omega (arith, g .laid .counters)) in
@@ -128,12 +128,12 @@ module _ (w₀ w₁ : List ℕ) (k c m l a b n : ℕ) (l₁ : length w₁ ≡ le
           slice-mapped (λ (x : ℕ). place x (firsts [] (slice l (l + n) w₁))) (l + below p ks) (l + below (p + 1) ks) w₂ w₁
           (omega (arith, g .laid .values, g .laid .keys, g .laid .fits)) (omega (arith, g .laid .values, g .laid .keys, g .laid .fits))
           (λ i f q. let z : l + (i - l) ≡ i = omega arith in rw z at (d .each (i - l) (omega arith))) in
-          let e₄ : slice (l + below p ks) (l + below (p + 1) ks) w₁ ≡ chosen p ks vs = rw v (s .parts p h) in
+          let e₄ : slice (l + below p ks) (l + below (p + 1) ks) w₁ ≡ ofKey p ks vs = rw v (s .parts p h) in
           e₁ ∙ t .each p h
           ∙ ap (sorted up)
           (e₂ ∙ e₃
           ∙ ap (map (λ (x : ℕ). place x (firsts [] (slice l (l + n) w₁)))) e₄
-          ∙ ap (λ (o : List ℕ). map (λ (x : ℕ). place x o) (chosen p ks vs)) all-found)
+          ∙ ap (λ (o : List ℕ). map (λ (x : ℕ). place x o) (ofKey p ks vs)) all-found)
 
       pub evident : Evident w₀ w₃ k c m l a b n r
       evident = record {
@@ -154,6 +154,6 @@ module _ (w₀ w₁ : List ℕ) (k c m l a b n : ℕ) (l₁ : length w₁ ≡ le
 pub evidence-under : (w₀ w : List ℕ) (k c m l a b n r p : ℕ) → Evident w₀ w k c m l a b n r → p < m → Under (length (orderOf w₀ m a b n)) (textAt w c l p)
 evidence-under w₀ w k c m l a b n r p e h =
     rw (e .texts p h)
-    (under-sorted (length (orderOf w₀ m a b n)) up (map (λ (x : ℕ). place x (orderOf w₀ m a b n)) (chosen p (keysOf w₀ a n) (keysOf w₀ b n)))
-    (under-places (orderOf w₀ m a b n) (chosen p (keysOf w₀ a n) (keysOf w₀ b n))
-    (all-chosen (orderOf w₀ m a b n) p 0 m (keysOf w₀ a n) (keysOf w₀ b n) (firsts-all [] (counted 0 m (keysOf w₀ a n) (keysOf w₀ b n))) (omega arith) (omega arith))))
+    (under-sorted (length (orderOf w₀ m a b n)) up (map (λ (x : ℕ). place x (orderOf w₀ m a b n)) (ofKey p (keysOf w₀ a n) (keysOf w₀ b n)))
+    (under-places (orderOf w₀ m a b n) (ofKey p (keysOf w₀ a n) (keysOf w₀ b n))
+    (all-of-key (orderOf w₀ m a b n) p 0 m (keysOf w₀ a n) (keysOf w₀ b n) (firsts-all [] (byKeys 0 m (keysOf w₀ a n) (keysOf w₀ b n))) (omega arith) (omega arith))))

@@ -5,14 +5,14 @@ use Prim.Native.Nat.{ℕ, _+_, _≤_, _<_}
 use native.Mathlib.Omega.{arith}
 use lib.ListN.{length, getD}
 use lib.Seq.{slice}
-use Rattle.sorting_merge.specs.Sort.{sorted}
-use Rattle.sorting_merge.specs.PartLaws.{drop-same}
-use Rattle.sorting.specs.Counting.{upFrom}
+use Rattle.lists.specs.Lists.{upFrom, keep}
+use Rattle.lists.specs.KeyLaws.{under-keep}
+use Rattle.sorting_spec.specs.Sort.{sorted}
+use Rattle.sorting_spec.specs.PartLaws.{drop-same}
 use Rattle.sorting.specs.Runs.{runsOf}
-use Rattle.sorting.specs.Distinct.{keep}
-use Rattle.protein_groups_spec.specs.CountingLaws.{metasIn, groupsIn, under-keep}
+use Rattle.protein_groups_spec.specs.CountingLaws.{metasIn, groupsIn}
 use Rattle.protein_groups_spec.specs.LeaderLaws.{le, spread, total, total-keep}
-use Rattle.sorting_counting.specs.SpreadLaws.{textAt}
+use Rattle.protein_groups_numbering.specs.SpreadLaws.{textAt}
 use Rattle.protein_groups_tables.specs.TakerLaws.{filled, Takers}
 use Rattle.protein_groups_tables.specs.ThingLaws.{Things, Ran, total-up, same-texts}
 

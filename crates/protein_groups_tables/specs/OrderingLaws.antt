@@ -8,10 +8,10 @@ use borrow.Author.Tests.{le-leb}
 use lib.ListN.{length, getD, take, drop}
 use lib.Seq.{slice, getD-drop, drop-drop, drop-nil, take-nil}
 use Rattle.records.specs.Outcome.{Outcome, outcome}
-use Rattle.sorting_merge.specs.Sort.{sorted}
-use Rattle.sorting_merge.specs.declared.text.By.the-variants.{Numbers}
-use Rattle.sorting_merge.specs.Text.{leBy, textOf}
-use Rattle.sorting_merge.specs.PartLaws.{drop-same, slice-same, at-take, at-drop}
+use Rattle.sorting_spec.specs.Sort.{sorted}
+use Rattle.sorting_texts.specs.declared.text.By.the-variants.{Numbers}
+use Rattle.sorting_texts.specs.Text.{leBy, textOf}
+use Rattle.sorting_spec.specs.PartLaws.{drop-same, slice-same, at-take, at-drop}
 use Rattle.sorting_merge.specs.RangeLaws.{Ranged}
 use Rattle.sorting.specs.declared.runs.Numbered.{Numbered}
 use Rattle.sorting.specs.declared.runs.Numbered.the-variants.{Runs}
@@ -20,7 +20,7 @@ use Rattle.sorting.specs.Sorting.{numberable, numbered, numbersOutcome}
 use Rattle.sorting.specs.SortingLaws.{order-fitting}
 use Rattle.sorting.specs.NumberLaws.{numbered-take, numbered-slice, numbered-drop}
 use Rattle.protein_groups_spec.specs.LeaderLaws.{le}
-use Rattle.sorting_counting.specs.SpreadLaws.{textAt}
+use Rattle.protein_groups_numbering.specs.SpreadLaws.{textAt}
 
 take-drop : (e j : ℕ) (l : List ℕ) → take j (drop e l) ≡ drop e (take (e + j) l)
 take-drop zero j l = let u : 0 + j ≡ j = omega arith in rw u

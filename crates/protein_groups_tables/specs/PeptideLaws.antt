@@ -6,16 +6,17 @@ use native.Mathlib.Nat.{zero-add}
 use native.Mathlib.Omega.{arith}
 use lib.ListN.{length, getD}
 use lib.Seq.{slice, length-slice}
-use Rattle.sorting_merge.specs.PartLaws.{at-slice, slice-same}
-use Rattle.sorting.specs.Counting.{upFrom}
-use Rattle.sorting.specs.Distinct.{keep}
+use Rattle.lists.specs.Lists.{upFrom, keep}
+use Rattle.lists.specs.KeyLaws.{Under, below-le, below-most, under-at, under-keep}
+use Rattle.sorting_spec.specs.SortLaws.{under-sorted}
+use Rattle.sorting_spec.specs.PartLaws.{at-slice, slice-same}
 use Rattle.sorting.specs.Runs.{runNumbers}
 use Rattle.protein_groups_spec.specs.ProteinGroups.{Pair, taking, edgesFrom}
 use Rattle.protein_groups_spec.specs.PackedGroups.{seen, proteins, metas, evidence}
-use Rattle.protein_groups_spec.specs.CountingLaws.{Under, metasIn, groupsIn, below-le, below-most, shown-chosen, all-shown, under-at, under-sorted, under-keep}
+use Rattle.protein_groups_spec.specs.CountingLaws.{metasIn, groupsIn, shown-chosen, all-shown}
 use Rattle.protein_groups_spec.specs.LeaderLaws.{le, spread, spread-under}
 use Rattle.protein_groups_spec.specs.WholeLaws.{peptidesOf, taking-by, metas-spread, metas-count}
-use Rattle.sorting_counting.specs.SpreadLaws.{textAt}
+use Rattle.protein_groups_numbering.specs.SpreadLaws.{textAt}
 use Rattle.protein_groups_tables.specs.TakerLaws.{filled}
 use Rattle.protein_groups_tables.specs.EvidenceLaws.{Given, Evident, keysOf, orderOf, evidence-under}
 use Rattle.protein_groups_tables.specs.MetaLaws.{Bounded, Distinct, takersBy}

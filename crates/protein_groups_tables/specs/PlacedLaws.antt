@@ -6,17 +6,18 @@ use native.Mathlib.Nat.{zero-add}
 use native.Mathlib.Omega.{arith}
 use lib.ListN.{length, getD, length-map}
 use lib.Seq.{slice, length-slice}
-use Rattle.sorting_merge.specs.Sort.{sorted}
-use Rattle.sorting_merge.specs.SortLaws.{length-sorted}
-use Rattle.sorting_merge.specs.PartLaws.{at-slice}
-use Rattle.sorting.specs.Counting.{upFrom}
-use Rattle.sorting.specs.CountingLaws.{length-up}
+use Rattle.lists.specs.Lists.{upFrom}
+use Rattle.lists.specs.RowLaws.{length-up}
+use Rattle.lists.specs.KeyLaws.{Under, under-at, under-up}
+use Rattle.sorting_spec.specs.Sort.{sorted}
+use Rattle.sorting_spec.specs.SortLaws.{length-sorted, under-sorted}
+use Rattle.sorting_spec.specs.PartLaws.{at-slice}
 use Rattle.sorting.specs.Runs.{runNumbers}
 use Rattle.sorting.specs.NumberLaws.{length-numbers}
 use Rattle.cover_spec.specs.Cover.{Edge}
 use Rattle.protein_groups_spec.specs.ProteinGroups.{Pair, Groups, listFrom}
 use Rattle.protein_groups_spec.specs.PackedGroups.{seen, proteins, metas, member, packedGrouping}
-use Rattle.protein_groups_spec.specs.CountingLaws.{Under, metasIn, groupsIn, list-chosen, under-at, under-sorted, under-up}
+use Rattle.protein_groups_spec.specs.CountingLaws.{metasIn, groupsIn, list-chosen}
 use Rattle.protein_groups_spec.specs.LeaderLaws.{le, spread, walk}
 use Rattle.protein_groups_spec.specs.WholeLaws.{peptidesOf, map-alike, whole}
 use Rattle.protein_groups_spec.specs.ReadingLaws.{read-edges, read-walk}

@@ -7,16 +7,17 @@ use native.Mathlib.Numerals.{add-one}
 use native.Mathlib.Omega.{arith}
 use lib.ListN.{length, getD, set}
 use lib.Seq.{slice, slice-empty, length-slice, getD-set-other}
-use Rattle.sorting_merge.specs.Sort.{sorted}
-use Rattle.sorting_merge.specs.PartLaws.{slice-same, slice-set}
-use Rattle.sorting.specs.Counting.{upFrom}
-use Rattle.sorting.specs.CountingLaws.{up-snoc}
+use Rattle.lists.specs.Lists.{upFrom}
+use Rattle.lists.specs.RowLaws.{up-snoc}
+use Rattle.lists.specs.KeyLaws.{ofKey, below, below-le, below-most, under-up}
+use Rattle.sorting_spec.specs.Sort.{sorted}
+use Rattle.sorting_spec.specs.PartLaws.{slice-same, slice-set}
 use Rattle.sorting.specs.Runs.{runsOf, runNumbers}
-use Rattle.protein_groups_spec.specs.CountingLaws.{metasIn, groupsIn, chosen, below, below-le, below-most, under-up}
+use Rattle.protein_groups_spec.specs.CountingLaws.{metasIn, groupsIn}
 use Rattle.protein_groups_spec.specs.LeaderLaws.{le, spread, total}
 use Rattle.sorting_counting.specs.PlacingLaws.{Counted}
 use Rattle.sorting_counting.specs.TallyLaws.{Laid}
-use Rattle.sorting_counting.specs.SpreadLaws.{textAt}
+use Rattle.protein_groups_numbering.specs.SpreadLaws.{textAt}
 use Rattle.protein_groups_tables.specs.ThingLaws.{Things, Ran, total-up}
 
 -- ---- numbers in a row
@@ -54,7 +55,7 @@ pub record Proteins (w : List ℕ) (o s c f l a b t : ℕ) : Type 0 where
 -- the groups from b on
 pub record ByProteins (w₀ w : List ℕ) (o s f a b t e g : ℕ) : Type 0 where
   pub text : ℕ → List ℕ
-  pub lists : (x : ℕ) → x < f → text x ≡ chosen x (slice a (a + t) w₀) (slice b (b + t) w₀)
+  pub lists : (x : ℕ) → x < f → text x ≡ ofKey x (slice a (a + t) w₀) (slice b (b + t) w₀)
   pub few : e ≤ t
   pub order : slice o (o + f) w ≡ sorted (le text) (upFrom 0 f)
   pub ranks : slice s (s + f) w ≡ runNumbers (le text) (sorted (le text) (upFrom 0 f))
@@ -105,7 +106,7 @@ module _ (w₀ w₁ w₂ : List ℕ) (o s c f l a b t : ℕ) (l₁ : length w₁
     most = rw (p .row) short;
   }
 
-  lists-go : (x : ℕ) → x < f → textAt w₂ c l x ≡ chosen x (slice a (a + t) w₀) (slice b (b + t) w₀)
+  lists-go : (x : ℕ) → x < f → textAt w₂ c l x ≡ ofKey x (slice a (a + t) w₀) (slice b (b + t) w₀)
   lists-go x h =
       let u : c + x + 1 ≡ c + (x + 1) = omega arith in
       let v : x + 1 ≡ suc x = add-one x in

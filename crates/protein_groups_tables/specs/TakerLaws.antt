@@ -8,9 +8,8 @@ use native.Mathlib.Omega.{arith}
 use lib.Dec.{ltb}
 use lib.ListN.{length, getD, set}
 use lib.Seq.{slice, slice-empty, getD-set-other, append-snoc}
-use Rattle.sorting_merge.specs.PartLaws.{slice-set}
-use Rattle.sorting.specs.Counting.{upFrom}
-use Rattle.sorting.specs.Distinct.{keep}
+use Rattle.lists.specs.Lists.{upFrom, keep}
+use Rattle.sorting_spec.specs.PartLaws.{slice-set}
 
 -- the i-th boundary, which stands from e on
 abbrev pub bound : List ℕ → ℕ → ℕ → ℕ

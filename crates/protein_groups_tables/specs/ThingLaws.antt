@@ -6,15 +6,17 @@ use native.Mathlib.Nat.{add-sub-of-le}
 use native.Mathlib.Omega.{arith}
 use lib.ListN.{length, getD, take, drop, length-drop, length-take}
 use lib.Seq.{slice, length-slice}
-use Rattle.sorting_merge.specs.declared.text.By.the-variants.{Numbers}
-use Rattle.sorting_merge.specs.Sort.{sorted}
-use Rattle.sorting_merge.specs.Text.{textOf}
-use Rattle.sorting_merge.specs.PartLaws.{at-slice, slice-same, drop-same}
-use Rattle.sorting.specs.Counting.{upFrom}
+use Rattle.lists.specs.Lists.{upFrom}
+use Rattle.lists.specs.KeyLaws.{Under, under-at}
+use Rattle.sorting_spec.specs.SortLaws.{under-sorted}
+use Rattle.sorting_texts.specs.declared.text.By.the-variants.{Numbers}
+use Rattle.sorting_spec.specs.Sort.{sorted}
+use Rattle.sorting_texts.specs.Text.{textOf}
+use Rattle.sorting_spec.specs.PartLaws.{at-slice, slice-same, drop-same}
 use Rattle.sorting.specs.Runs.{runsOf, runNumbers}
-use Rattle.protein_groups_spec.specs.CountingLaws.{Under, metasIn, groupsIn, under-sorted, under-at}
+use Rattle.protein_groups_spec.specs.CountingLaws.{metasIn, groupsIn}
 use Rattle.protein_groups_spec.specs.LeaderLaws.{le, spread, spreadBy, total, total-sorted, spread-most}
-use Rattle.sorting_counting.specs.SpreadLaws.{textAt, Spreadable, Spread}
+use Rattle.protein_groups_numbering.specs.SpreadLaws.{textAt, Spreadable, Spread}
 use Rattle.protein_groups_tables.specs.OrderingLaws.{Ordered, text-is}
 
 -- the texts of the stretches i, i + 1, .. are no longer than what is left

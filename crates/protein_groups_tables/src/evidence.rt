@@ -18,7 +18,7 @@ pub(crate) fn evidences(
     ensures { λ r. ⌜ Evident (now (w .entry)) (now (w .exit)) k c m l a b n r ⌝ }
 {
     sorting_counting::by_counting(w, c, m, l, a, b, n);
-    let found = sorting_counting::number_all(w, 0, k, k, l, n);
+    let found = protein_groups_numbering::number_all(w, 0, k, k, l, n);
     sorting::sort_each(By::Itself, b"", w, c, m, l, a, a + n);
     found
 }

@@ -67,7 +67,7 @@ pub(crate) fn runs_of(
 {
     let base = (l - c) as u32;
     let count = order_runs(w, o, t, s, c, base);
-    let entries = sorting_counting::spread_runs(w, o, s, t, c, l, a, b, n);
+    let entries = protein_groups_numbering::spread_runs(w, o, s, t, c, l, a, b, n);
     Runs { entries, count }
 }
 

@@ -22,14 +22,14 @@ Hold cs = map given cs ≡ map said cs
 
 -- ---- what a call leaves, in numbers: the answer's, refusal 0 being none, and then each lent slice
 
-abbrev pub counted : ℕ → List ℕ
-counted n = 0 ∷ 0 ∷ n ∷ []
+abbrev pub answered : ℕ → List ℕ
+answered n = 0 ∷ 0 ∷ n ∷ []
 
 abbrev pub refused : ℕ → ℕ → List ℕ
 refused number place = number ∷ place ∷ []
 
 abbrev pub numbers : Counted → List ℕ
-numbers (Count n) = counted n
+numbers (Count n) = answered n
 numbers (Refused why) = refused (numberOf why) (placeOf why)
 
 abbrev pub told : Outcome Counted → List (List ℕ)

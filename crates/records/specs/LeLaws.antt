@@ -7,8 +7,8 @@ use native.Mathlib.Omega.{arith}
 use native.Mathlib.Nat.{pow-suc, add-zero}
 use lib.ListN.{length, take, drop, getD, set, drop-of-length-le, List·getD-eq-default}
 use lib.Seq.{sets, sets-eq, drop-cons, set-out, take-nil, take-at, drop-at, length-take-le, getD-set-other}
+use Rattle.lists.specs.Tests.{below?}
 use Rattle.records.specs.Le.{le, value, numberAt}
-use Rattle.records.specs.Tests.{below?}
 
 pub length-le : (w n : ℕ) → length (le w n) ≡ w
 length-le zero n = refl

@@ -14,4 +14,3 @@ pub mod Search
 pub mod SearchLaws
 pub mod Cases
 pub mod CaseLaws
-pub mod Tests

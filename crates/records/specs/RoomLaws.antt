@@ -11,21 +11,22 @@ use lib.ListN.{length, take, drop, set, length-append, length-drop, length-map, 
 use lib.Seq.{sets, sets-eq, take-at, drop-at, take-all, take-nil, drop-drop, drop-length, length-take-le}
 use lib.Dec.{leb}
 use borrow.Author.Tests.{le-leb, lt-leb}
-use Rattle.records.specs.Tests.{below?}
+use Rattle.lists.specs.KeepLaws.{all-append}
+use Rattle.lists.specs.Lists.{All}
+use Rattle.lists.specs.Tests.{below?}
 use Rattle.records.specs.LeLaws.{sets-out}
 use Rattle.records.specs.Room.{roomOf, written, fits, fitted, singly}
 
 -- each record has the size
 abbrev pub Sized : ℕ → List (List ℕ) → Type 0
-Sized size [] = Unit {0}
-Sized size (r ∷ rs) = (length r ≡ size) × Sized size rs
+Sized size rs = All (λ (r : List ℕ). length r ≡ size) rs
 
-flatten-append : (rs qs : List (List ℕ)) → flatten (rs ++ qs) ≡ flatten rs ++ flatten qs
+pub flatten-append : (rs qs : List (List ℕ)) → flatten (rs ++ qs) ≡ flatten rs ++ flatten qs
 unfolding flatten
 flatten-append [] qs = refl
 flatten-append (r ∷ rs) qs = rw (flatten-append rs qs) (sym (append-assoc r (flatten rs) (flatten qs)))
 
-flatten-one : (r : List ℕ) → flatten (r ∷ []) ≡ r
+pub flatten-one : (r : List ℕ) → flatten (r ∷ []) ≡ r
 unfolding flatten
 flatten-one r = append-nil r
 
@@ -33,10 +34,6 @@ pub length-flatten : (size : ℕ) (rs : List (List ℕ)) → Sized size rs → l
 unfolding flatten
 length-flatten size [] h = sym (mul-zero size)
 length-flatten size (r ∷ rs) h = length-append r (flatten rs) ∙ rw mul-suc (omega (arith, h .0, length-flatten size rs (h .1)))
-
-pub sized-append : (size : ℕ) (rs qs : List (List ℕ)) → Sized size (rs ++ qs) → Sized size rs × Sized size qs
-sized-append size [] qs h = (tt, h)
-sized-append size (r ∷ rs) qs h = let x = sized-append size rs qs (h .1) in ((h .0, x .0), x .1)
 
 pub written-none : (old : List ℕ) → written old [] ≡ old
 unfolding written flatten
@@ -85,10 +82,10 @@ module _ (size limit : ℕ) (old : List ℕ) (all : List (List ℕ)) (sized : Si
 
   module _ (rest : List (List ℕ)) (out : List ℕ) (count : ℕ) (s : Standing size limit old all rest out count) where
     sized-before : Sized size (s .before)
-    sized-before = sized-append size (s .before) rest (subst (Sized size) (sym (s .split)) sized) .0
+    sized-before = all-append (λ (r : List ℕ). length r ≡ size) (s .before) rest (subst (Sized size) (sym (s .split)) sized) .0
 
     sized-rest : Sized size rest
-    sized-rest = sized-append size (s .before) rest (subst (Sized size) (sym (s .split)) sized) .1
+    sized-rest = all-append (λ (r : List ℕ). length r ≡ size) (s .before) rest (subst (Sized size) (sym (s .split)) sized) .1
 
     pub standing-length : length out ≡ length old
     unfolding written

@@ -6,8 +6,8 @@ use mathlib.Core.Logic.{⊎-elim}
 use native.Mathlib.Omega.{arith}
 use native.Mathlib.Nat.{sub-zero}
 use native.Mathlib.Numerals.{add-one}
+use Rattle.lists.specs.Tests.{below?, same?}
 use Rattle.records.specs.Search.{seek}
-use Rattle.records.specs.Tests.{below?, same?}
 
 -- ---- the turns of a loop over the places below n: what is left gives the whole
 

@@ -2,16 +2,16 @@
 -- order. Assumes nothing.
 use Prim.Native.Nat.{ℕ, suc, _+_, _*_, _≤_, _<_}
 use mathlib.Core.Path.{_≡_, refl, sym, ap, _∙_}
-use mathlib.Core.Bool.{cond}
+use mathlib.Core.Bool.{Bool, true, false, cond}
 use mathlib.Core.Logic.{⊎-elim}
 use mathlib.Core.List.{List, [], _∷_}
 use native.Mathlib.Omega.{arith}
 use native.Mathlib.Numerals.{add-one}
 use lib.ListN.{length, getD, set, drop, drop-of-length-le}
-use lib.Seq.{sets, drop-cons}
+use lib.Seq.{sets, length-sets, drop-cons}
 use lib.Dec.{ltb}
 use borrow.Author.Tests.{lt-ltb, le-ltb}
-use Rattle.records.specs.Tests.{below?}
+use Rattle.lists.specs.Tests.{below?}
 use Rattle.records.specs.Room.{roomOf, fitted}
 use Rattle.records.specs.RoomLaws.{Sized, Standing, standing-none, standing-more, standing-done, standing-full, standing-length}
 
@@ -35,6 +35,13 @@ module _ (size limit : ℕ) where
 
   pub stored-free : (out : List ℕ) (k : ℕ) (r : List ℕ) → k < roomOf size limit out → sets out (size * k) r ≡ stored out k r
   stored-free out k r h = rw (lt-ltb k (roomOf size limit out) h)
+
+  pub length-stored : (out : List ℕ) (k : ℕ) (r : List ℕ) → length (stored out k r) ≡ length out
+  length-stored out k r = go (ltb k (roomOf size limit out))
+    where
+      go : (b : Bool) → length (cond b (sets out (size * k) r) out) ≡ length out
+      go true = length-sets out (size * k) r
+      go false = refl
 
   -- the records from k on
   abbrev pub storedFrom : List ℕ → ℕ → List (List ℕ) → List ℕ

@@ -4,7 +4,7 @@
 // record more than they hold, so that one too many is seen.
 use records::Counted;
 use records::u32_at;
-use sorting_merge::number_at;
+use sorting_texts::number_at;
 use text_fields::Verdict;
 use text_fields::bytes_at;
 use text_fields::content;

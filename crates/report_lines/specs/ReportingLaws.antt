@@ -8,6 +8,7 @@ use native.Mathlib.Omega.{arith}
 use lib.ListN.{length, getD, replicate, length-replicate, getD-replicate, List·getD-eq-default}
 use lib.Dec.{ltb, leb, eqb}
 use borrow.Author.Tests.{ltb-true, ltb-false, leb-true, leb-false, eqb-true, not-true, not-false}
+use Rattle.lists.specs.Tests.{below?, both, neither}
 use Rattle.records.specs.declared.refusal.Refusal.the-variants.{Size, Length, Field, Room, Name, Repeat}
 use Rattle.records.specs.declared.refusal.Tested.{Tested}
 use Rattle.records.specs.declared.refusal.Tested.the-variants.{Passed, Refused}
@@ -16,7 +17,6 @@ use Rattle.records.specs.Tested.{andThen}
 use Rattle.records.specs.TestedLaws.{passed-both, passed-first}
 use Rattle.records.specs.Search.{seek}
 use Rattle.records.specs.SearchLaws.{seek-before}
-use Rattle.records.specs.Tests.{below?, both, neither}
 use Rattle.catalogue_contents.specs.Names.{visible, nameCount, tooManyNames, wholeNames, badName, wrongName, wrongAt, namesTested}
 use Rattle.catalogue_contents.specs.NamesIn.{cleared, namesOutcome}
 use Rattle.catalogue_contents.specs.NameLaws.{names-in, length-cleared, cleared-zeros}

@@ -11,11 +11,9 @@ use borrow.Author.Tests.{eq-eqb, ne-eqb, lt-ltb}
 use lib.Dec.{eqb, ltb}
 use lib.ListN.{length, getD, take, set}
 use lib.Seq.{take-suc, take-all, getD-set-same, getD-set-other}
-use Rattle.records.specs.Tests.{same?}
-use Rattle.sorting.specs.Counting.{upFrom}
-use Rattle.sorting.specs.CountingLaws.{up-snoc}
-use Rattle.sorting.specs.Distinct.{keep}
-use Rattle.protein_groups_members.specs.Numbers.{has}
+use Rattle.lists.specs.Tests.{same?}
+use Rattle.lists.specs.Lists.{upFrom, keep, has}
+use Rattle.lists.specs.RowLaws.{up-snoc}
 use Rattle.protein_groups_members.specs.Members.{Member, memberAt}
 use Rattle.report_lines_spec.specs.Line.{ofGroup, holds, applies}
 use Rattle.report_lines_select.specs.Noting.{first, Listed, hits, Flagged}

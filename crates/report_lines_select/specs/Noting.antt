@@ -5,8 +5,7 @@ use mathlib.Core.Bool.{Bool, cond, _&&_}
 use mathlib.Core.List.{List, map}
 use lib.Dec.{eqb}
 use lib.ListN.{getD}
-use Rattle.sorting.specs.Counting.{upFrom}
-use Rattle.protein_groups_members.specs.Numbers.{has}
+use Rattle.lists.specs.Lists.{upFrom, has}
 use Rattle.protein_groups_members.specs.Members.{Member, memberAt}
 use Rattle.report_lines_spec.specs.Line.{applies}
 

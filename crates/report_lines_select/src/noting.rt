@@ -6,8 +6,8 @@ ghost use mathlib.Core.Bool.{cond};
 ghost use mathlib.Core.List.{List};
 ghost use Prim.Native.Nat.{ℕ, _+_, _*_, _≤_, _<_};
 ghost use lib.ListN.{length, getD, set};
+ghost use Rattle.lists.specs.Lists.{has};
 ghost use Rattle.records.specs.Le.{numberAt};
-ghost use Rattle.protein_groups_members.specs.Numbers.{has};
 ghost use Rattle.protein_groups_members.specs.Members.{memberAt};
 ghost use Rattle.report_lines_select.specs.Noting.{first, Listed, hits, Flagged};
 

@@ -1,15 +1,13 @@
 -- Document 01, "Groups and cover": the report line of a peptide, given its protein list and decoy flag.
 use Prim.Native.Nat.{ℕ, suc}
-use mathlib.Core.Bool.{Bool, true, false, cond, _&&_}
+use mathlib.Core.Bool.{Bool, cond, _&&_}
 use mathlib.Core.List.{List, [], _∷_, _++_, map}
 use lib.Dec.{ltb, eqb}
 use lib.ListN.{length, getD}
-use Rattle.sorting_merge.specs.Sort.{sorted}
-use Rattle.sorting_merge.specs.Lex.{lexLe}
-use Rattle.sorting_merge.specs.Joined.{nameOf, untilZero, join}
-use Rattle.sorting.specs.Counting.{upFrom}
-use Rattle.sorting.specs.Distinct.{keep}
-use Rattle.protein_groups_members.specs.Numbers.{has, times}
+use Rattle.lists.specs.Lists.{upFrom, keep, has, times}
+use Rattle.sorting_spec.specs.Sort.{sorted}
+use Rattle.sorting_spec.specs.Lex.{lexLe}
+use Rattle.sorting_spec.specs.Joined.{nameOf, untilZero, join}
 use Rattle.protein_groups_members.specs.Members.{Member}
 
 -- "Decoys get the tag where decoys are generated": a member's name, tag included

@@ -6,8 +6,8 @@ use mathlib.Core.List.{List}
 use native.Mathlib.Omega.{arith}
 use lib.ListN.{length, getD, set, length-set}
 use lib.Seq.{slice, getD-set-same, getD-set-other, ext-getD, length-slice}
-use Rattle.records.specs.Tests.{below?, same?}
-use Rattle.sorting_merge.specs.PartLaws.{at-slice}
+use Rattle.lists.specs.Tests.{below?, same?}
+use Rattle.sorting_spec.specs.PartLaws.{at-slice}
 
 -- w is v with n numbers from `from` on copied to `to`
 pub record Copied (v : List ℕ) (from to n : ℕ) (w : List ℕ) : Type 0 where

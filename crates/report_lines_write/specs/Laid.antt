@@ -6,12 +6,11 @@ use mathlib.Core.List.{List, map}
 use lib.Dec.{ltb}
 use lib.ListN.{length, getD, drop}
 use lib.Seq.{slice}
-use Rattle.sorting_merge.specs.Sort.{sorted}
-use Rattle.sorting_merge.specs.Lex.{lexLe}
-use Rattle.sorting_merge.specs.Joined.{join}
-use Rattle.sorting_merge.specs.Text.{entryText}
-use Rattle.sorting.specs.Counting.{upFrom}
-use Rattle.sorting.specs.Distinct.{keep}
+use Rattle.lists.specs.Lists.{upFrom, keep}
+use Rattle.sorting_spec.specs.Sort.{sorted}
+use Rattle.sorting_spec.specs.Lex.{lexLe}
+use Rattle.sorting_spec.specs.Joined.{join}
+use Rattle.sorting_texts.specs.Text.{entryText}
 use Rattle.report_lines_spec.specs.Line.{countOf}
 
 -- where stretch g begins; the next begins where it ends

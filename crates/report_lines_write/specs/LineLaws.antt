@@ -10,22 +10,23 @@ use lib.Dec.{ltb, eqb}
 use borrow.Author.Tests.{ltb-true, lt-ltb, le-ltb, eq-eqb, ne-eqb}
 use lib.ListN.{length, getD, take, drop, replicate, length-append, length-take, length-drop, length-map, length-replicate, getD-replicate, List·getD-append}
 use lib.Seq.{take-all, take-take, drop-at, getD-take, getD-drop, ext-getD, length-take-le, getD-append-add}
-use Rattle.records.specs.Tests.{below?, both, truth?}
-use Rattle.sorting_merge.specs.Sort.{insert, sorted}
-use Rattle.sorting_merge.specs.SortLaws.{length-sorted, sorted-map}
-use Rattle.sorting_merge.specs.Lex.{lexLe}
-use Rattle.sorting_merge.specs.Joined.{untilZero, nameOf, join}
-use Rattle.sorting_merge.specs.Text.{entryText}
-use Rattle.sorting_merge.specs.PartLaws.{at-slice}
-use Rattle.sorting_merge.specs.EntryLaws.{Whole, until-padded}
-use Rattle.sorting.specs.Counting.{upFrom}
-use Rattle.sorting.specs.CountingLaws.{up-in}
-use Rattle.sorting.specs.Distinct.{keep}
+use Rattle.lists.specs.Tests.{below?, both, truth?}
+use Rattle.lists.specs.Lists.{upFrom, keep}
+use Rattle.lists.specs.RowLaws.{up-in}
+use Rattle.lists.specs.InLaws.{keep-alike, keep-in, map-alike}
+use Rattle.lists.specs.KeepLaws.{keep-length}
+use Rattle.sorting_spec.specs.Sort.{insert, sorted}
+use Rattle.sorting_spec.specs.SortLaws.{length-sorted, sorted-map}
+use Rattle.sorting_spec.specs.Lex.{lexLe}
+use Rattle.sorting_spec.specs.Joined.{untilZero, nameOf, join}
+use Rattle.sorting_texts.specs.Text.{entryText}
+use Rattle.sorting_spec.specs.PartLaws.{at-slice}
+use Rattle.sorting_texts.specs.EntryLaws.{Whole, until-padded}
 use Rattle.protein_groups_members.specs.Members.{Member}
 use Rattle.report_lines_spec.specs.Line.{tagged, ofGroup, groupText, holds, applies, applying, lineText, countOf, lineCount}
 use Rattle.report_lines_spec.specs.Stretches.{entry, tagKeys, byText, gatheredOf, stretchOf, Stretched}
 use Rattle.report_lines_write.specs.Laid.{boundIn, stretchIn, someIn, somes, textIn, lineIn, countIn, Laid}
-use Rattle.report_lines_write.specs.ListLaws.{flat-up, keep-alike, keep-in, keep-length, map-alike}
+use Rattle.report_lines_write.specs.ListLaws.{flat-up}
 use Rattle.report_lines_write.specs.TextLaws.{Evens, front}
 
 -- ---- the tag among the keys
@@ -227,7 +228,7 @@ module _ (names : List ℕ) (ms : List Member) (marks list : List ℕ) (decoy : 
       ap (λ (l : List ℕ). join 59 (sorted lexLe (map (textIn names w c) l))) somes-are
       ∙ ap (λ (l : List (List ℕ)). join 59 (sorted lexLe l))
       (map-alike (textIn names w c) (groupText names ms tag generated) (applying ms marks list decoy)
-      (λ g i. let k = keep-in (applies ms marks list decoy) g (upFrom 0 (length marks)) i in text-is g (omega (arith, up-in g 0 (length marks) (k .0))) (k .1)))
+      (λ g i. let k = keep-in g (applies ms marks list decoy) (upFrom 0 (length marks)) i in text-is g (omega (arith, up-in g 0 (length marks) (k .0))) (k .1)))
 
   pub count-is : countIn names w c (length marks) ≡ lineCount names ms marks list decoy tag generated
   unfolding countIn lineCount

@@ -10,10 +10,9 @@ use lib.Dec.{ltb}
 use borrow.Author.Tests.{lt-ltb, le-ltb}
 use lib.ListN.{length, getD, set, take, drop, length-set}
 use lib.Seq.{slice, slice-empty, take-suc-set, take-set-le, drop-set-lt, getD-set-other}
-use Rattle.records.specs.Tests.{below?}
-use Rattle.sorting_merge.specs.PartLaws.{at-drop, slice-same, slice-join, slice-snoc, slice-set}
-use Rattle.sorting.specs.Counting.{upFrom}
-use Rattle.sorting.specs.Distinct.{keep}
+use Rattle.lists.specs.Tests.{below?}
+use Rattle.lists.specs.Lists.{upFrom, keep}
+use Rattle.sorting_spec.specs.PartLaws.{at-drop, slice-same, slice-join, slice-snoc, slice-set}
 use Rattle.report_lines_spec.specs.Stretches.{lasted}
 use Rattle.report_lines_write.specs.Laid.{boundIn, stretchIn, someIn, startsIn, Laid}
 use Rattle.report_lines_write.specs.ListLaws.{flat-up, kept-up, lasted-snoc}

@@ -8,13 +8,13 @@ use native.Mathlib.Nat.{sub-zero}
 use lib.ListN.{length, getD, take, drop, length-map}
 use lib.Seq.{sets, getD-take, getD-drop}
 use Rattle.records.specs.Room.{fitted, singly}
-use Rattle.sorting_merge.specs.declared.text.By.the-variants.{Joined}
-use Rattle.sorting_merge.specs.Sort.{sorted}
-use Rattle.sorting_merge.specs.SortLaws.{sorted-map, length-sorted}
-use Rattle.sorting_merge.specs.Lex.{lexLe}
-use Rattle.sorting_merge.specs.Joined.{join}
-use Rattle.sorting_merge.specs.Text.{joinedText, leBy}
-use Rattle.sorting_merge.specs.PartLaws.{rest-all}
+use Rattle.sorting_texts.specs.declared.text.By.the-variants.{Joined}
+use Rattle.sorting_spec.specs.Sort.{sorted}
+use Rattle.sorting_spec.specs.SortLaws.{sorted-map, length-sorted}
+use Rattle.sorting_spec.specs.Lex.{lexLe}
+use Rattle.sorting_spec.specs.Joined.{join}
+use Rattle.sorting_texts.specs.Text.{joinedText, leBy}
+use Rattle.sorting_spec.specs.PartLaws.{rest-all}
 use Rattle.sorting.specs.Sorting.{fitting, arranged}
 use Rattle.sorting.specs.SortingLaws.{order-fitting, length-arranged, arranged-sorted, arranged-drop}
 use Rattle.report_lines_spec.specs.Line.{countOf}

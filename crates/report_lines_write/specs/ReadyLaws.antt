@@ -9,14 +9,15 @@ use lib.Dec.{eqb}
 use borrow.Author.Tests.{ltb-true}
 use lib.ListN.{length, getD, take, drop, length-drop, take-append-drop}
 use lib.Seq.{slice, drop-drop, getD-take, getD-drop, ext-getD, length-slice, length-take-le}
-use Rattle.sorting_merge.specs.Joined.{untilZero, nameOf, join}
-use Rattle.sorting_merge.specs.Text.{entryText, joinedText}
-use Rattle.sorting_merge.specs.PartLaws.{at-drop, at-slice, slice-same}
-use Rattle.sorting.specs.Counting.{upFrom}
-use Rattle.sorting.specs.CountingLaws.{up-in}
+use Rattle.lists.specs.Lists.{upFrom}
+use Rattle.lists.specs.RowLaws.{up-in}
+use Rattle.lists.specs.InLaws.{map-alike, keep-in}
+use Rattle.sorting_spec.specs.Joined.{untilZero, nameOf, join}
+use Rattle.sorting_texts.specs.Text.{entryText, joinedText}
+use Rattle.sorting_spec.specs.PartLaws.{at-drop, at-slice, slice-same}
 use Rattle.report_lines_spec.specs.Stretches.{lasted}
 use Rattle.report_lines_write.specs.Laid.{boundIn, stretchIn, someIn, somes, startsIn, textIn, Laid}
-use Rattle.report_lines_write.specs.ListLaws.{map-alike, keep-in, length-lasted}
+use Rattle.report_lines_write.specs.ListLaws.{length-lasted}
 use Rattle.report_lines_write.specs.MarkLaws.{bound-within, Marked}
 use Rattle.report_lines_write.specs.CopyLaws.{Copied, copied-part}
 use Rattle.report_lines_write.specs.TextLaws.{Evens, text-there, flat-at}
@@ -123,5 +124,5 @@ module _ (w₀ : List ℕ) (c groups : ℕ) (l : Laid w₀ c groups) where
         ∙ map-map (joinedText names (drop (2 * c) w)) (boundIn w₀ (2 * c + 16)) (somes w₀ (2 * c + 16) groups)
         ∙ map-alike (λ (g : ℕ). joinedText names (drop (2 * c) w) (boundIn w₀ (2 * c + 16) g)) (textIn names w₀ c) (somes w₀ (2 * c + 16) groups)
         (λ g i.
-        let k = keep-in (someIn w₀ (2 * c + 16)) g (upFrom 0 groups) i in
+        let k = keep-in g (someIn w₀ (2 * c + 16)) (upFrom 0 groups) i in
         ready-text g (omega (arith, up-in g 0 groups (k .0))) (k .1))

@@ -10,15 +10,14 @@ use lib.Dec.{eqb}
 use borrow.Author.Tests.{lt-ltb, le-ltb}
 use lib.ListN.{length, getD, take, drop, length-append, length-take, length-drop}
 use lib.Seq.{getD-take}
-use Rattle.records.specs.Tests.{below?}
-use Rattle.sorting_merge.specs.Sort.{insert, sorted}
-use Rattle.sorting_merge.specs.Lex.{lexLe}
-use Rattle.sorting_merge.specs.Joined.{untilZero, nameOf, joinAfter, join}
-use Rattle.sorting_merge.specs.Text.{tagIn, entryText, upToLast, joinedText}
-use Rattle.sorting_merge.specs.SortLaws.{In}
-use Rattle.sorting_merge.specs.PartLaws.{at-slice}
-use Rattle.sorting_merge.specs.EntryLaws.{entry-short}
-use Rattle.protein_groups_members.specs.Numbers.{times}
+use Rattle.lists.specs.Tests.{below?}
+use Rattle.lists.specs.Lists.{In, times}
+use Rattle.sorting_spec.specs.Sort.{insert, sorted}
+use Rattle.sorting_spec.specs.Lex.{lexLe}
+use Rattle.sorting_spec.specs.Joined.{untilZero, nameOf, joinAfter, join}
+use Rattle.sorting_texts.specs.Text.{tagIn, entryText, upToLast, joinedText}
+use Rattle.sorting_spec.specs.PartLaws.{at-slice}
+use Rattle.sorting_texts.specs.EntryLaws.{entry-short}
 use Rattle.report_lines_write.specs.Laid.{boundIn, stretchIn, someIn, somes, textIn, lineIn, Laid}
 use Rattle.report_lines_write.specs.ListLaws.{kept-up}
 use Rattle.report_lines_write.specs.ReadyLaws.{stretch-adds}

@@ -7,10 +7,10 @@ use native.Mathlib.Numerals.{add-one}
 use borrow.Author.Tests.{eq-eqb, ne-eqb}
 use lib.ListN.{length, take, drop, length-append, take-append-drop}
 use lib.Seq.{take-append-le, drop-at, take-all}
-use Rattle.sorting_merge.specs.Joined.{join}
-use Rattle.sorting_merge.specs.Text.{entryText, upToLast, joinedText}
-use Rattle.sorting_merge.specs.EntryLaws.{entry-suc}
-use Rattle.sorting.specs.Counting.{upFrom}
+use Rattle.lists.specs.Lists.{upFrom}
+use Rattle.sorting_spec.specs.Joined.{join}
+use Rattle.sorting_texts.specs.Text.{entryText, upToLast, joinedText}
+use Rattle.sorting_texts.specs.EntryLaws.{entry-suc}
 use Rattle.report_lines_spec.specs.Stretches.{lasted}
 use Rattle.report_lines_write.specs.ListLaws.{flat-up}
 

@@ -5,9 +5,9 @@ use mathlib.Core.List.{List, _∷_}
 use native.Mathlib.Omega.{arith}
 use lib.ListN.{length, getD, set}
 use lib.Seq.{length-sets}
-use Rattle.sorting_merge.specs.Text.{entryText, joinedText}
-use Rattle.sorting_merge.specs.Walk.{left, Walked}
-use Rattle.sorting_merge.specs.WalkLaws.{left-all}
+use Rattle.sorting_texts.specs.Text.{entryText, joinedText}
+use Rattle.sorting_texts.specs.Walk.{left, Walked}
+use Rattle.sorting_texts.specs.WalkLaws.{left-all}
 use Rattle.report_lines_write.specs.SizeLaws.{Bytes, bytes-joined}
 use Rattle.report_lines_write.specs.WriteLaws.{semi, Put, Coming, times-cons, coming-all, coming-one, coming-done, coming-fits}
 

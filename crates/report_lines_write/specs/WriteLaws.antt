@@ -10,13 +10,13 @@ use native.Mathlib.Nat.{div-one}
 use lib.Dec.{eqb}
 use lib.ListN.{length, getD, set, take, drop, length-append, drop-of-length-le}
 use lib.Seq.{sets, length-sets, drop-cons}
-use Rattle.records.specs.Tests.{below?}
+use Rattle.lists.specs.Tests.{below?}
+use Rattle.lists.specs.Lists.{times}
 use Rattle.records.specs.Room.{roomOf, written, fitted, singly}
 use Rattle.records.specs.RoomLaws.{stored-text}
 use Rattle.records.specs.LeLaws.{sets-append}
-use Rattle.sorting_merge.specs.Joined.{joinAfter, join}
-use Rattle.sorting_merge.specs.Text.{joinedText}
-use Rattle.protein_groups_members.specs.Numbers.{times}
+use Rattle.sorting_spec.specs.Joined.{joinAfter, join}
+use Rattle.sorting_texts.specs.Text.{joinedText}
 use Rattle.report_lines_spec.specs.Line.{countOf}
 use Rattle.report_lines_write.specs.SizeLaws.{times-length}
 

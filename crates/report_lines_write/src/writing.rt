@@ -4,7 +4,7 @@ ghost use mathlib.Core.List.{_∷_};
 ghost use Prim.Native.Nat.{ℕ, _+_, _<_, _≤_};
 ghost use lib.ListN.{length, getD};
 ghost use lib.Seq.{sets};
-ghost use Rattle.sorting_merge.specs.Text.{tagIn, joinedText};
+ghost use Rattle.sorting_texts.specs.Text.{tagIn, joinedText};
 ghost use Rattle.report_lines_spec.specs.Line.{countOf};
 ghost use Rattle.report_lines_write.specs.WriteLaws.{textsOf, semi, Put, afterFrom};
 
@@ -51,7 +51,7 @@ fn write_text(
     let mut k = at;
     let mut s = semis;
     loop {
-        let step = sorting_merge::walk(names, keys, t, entry, i);
+        let step = sorting_texts::walk(names, keys, t, entry, i);
         let number = step.number;
         if number == 0 {
             return Place { at: k, semis: s };
@@ -118,7 +118,7 @@ pub(crate) fn write_line(names: &[u8], starts: &[u32], keys: &[u32], out: &mut [
             groups: 0,
         };
     }
-    let t = sorting_merge::tag_length(keys);
+    let t = sorting_texts::tag_length(keys);
     let first = write_text(names, keys, t, starts[0], out, 0, 0);
     let all = write_rest(names, starts, keys, t, out, first.at, first.semis);
     let bytes = all.at as u32;

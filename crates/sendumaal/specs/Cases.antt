@@ -5,12 +5,12 @@ use mathlib.Core.Path.{refl}
 use mathlib.Core.List.{List, [], _∷_, _++_, flatten, map}
 use lib.ListN.{length, getD, replicate}
 use lib.Dec.{eqb}
+use Rattle.lists.specs.Lists.{keep}
 use Rattle.records.specs.Cases.{Case, Hold}
 use Rattle.records.specs.CaseLaws.{Table, holding, allOf}
 use Rattle.records.specs.Search.{seek}
 use Rattle.catalogue_contents.specs.Names.{nameLength, zerosTo, namesTested}
-use Rattle.sorting.specs.Distinct.{keep}
-use Rattle.cover_spec.specs.Cover.{count, keep as keepEdges, markForced, coverMarked, stays, pass, passes, greatest, mark, choose, turn, turns, cover, listed, coverList}
+use Rattle.cover_spec.specs.Cover.{markForced, coverMarked, stays, pass, passes, greatest, mark, choose, turn, turns, cover, listed, coverList}
 use Rattle.protein_groups_members.specs.Members.{Member}
 use Rattle.protein_groups_spec.specs.ProteinGroups.{Pair, Groups, proteins, metas, groupsOf, grouping}
 use Rattle.sorting.specs.Cases.{table as orders, cases as orders-hold}
@@ -44,7 +44,7 @@ whole : List Case
 whole = record { got = (p10 .groups ∷ []) ∷ inGroup 0 ∷ inGroup 1 ∷ inGroup 2 ∷ inCover ∷ []; want = (3 ∷ []) ∷ (11 ∷ []) ∷ (10 ∷ []) ∷ (12 ∷ []) ∷ (10 ∷ []) ∷ [] } ∷ []
 
 whole-holds : Hold whole
-unfolding flatten count keepEdges markForced coverMarked stays pass passes greatest mark choose turn turns cover listed coverList proteins metas groupsOf grouping whole
+unfolding flatten keepEdges markForced coverMarked stays pass passes greatest mark choose turn turns cover listed coverList proteins metas groupsOf grouping whole
 whole-holds = refl
 
 -- a name of these bytes

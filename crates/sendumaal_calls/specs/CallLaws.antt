@@ -6,12 +6,12 @@ use mathlib.Core.List.{List, [], _∷_}
 use lib.ListN.{getD}
 use lib.Dec.{leb}
 use borrow.Author.Tests.{leb-true}
+use Rattle.lists.specs.Tests.{both}
 use Rattle.records.specs.declared.refusal.Refusal.{Refusal}
 use Rattle.records.specs.declared.refusal.Refusal.the-variants.{Field}
 use Rattle.records.specs.declared.refusal.Tested.{Tested}
 use Rattle.records.specs.declared.refusal.Counted.{Counted}
 use Rattle.records.specs.Refusals.{numberOf, placeOf}
-use Rattle.records.specs.Tests.{both}
 use Rattle.records.specs.Outcome.{Outcome, outcome}
 use Rattle.modification.specs.declared.table.Entered.{Entered}
 use Rattle.modification.specs.Specificities.{specificity}

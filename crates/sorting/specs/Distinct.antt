@@ -1,22 +1,10 @@
 -- The distinct of some lists of numbers, in order, and what passes a test.
 use Prim.Native.Nat.{ℕ}
-use mathlib.Core.Bool.{Bool, true, false, cond, _&&_}
+use mathlib.Core.Bool.{cond}
 use mathlib.Core.List.{List, [], _∷_}
-use lib.Dec.{eqb}
-use Rattle.sorting_merge.specs.Sort.{sorted}
-use Rattle.sorting_merge.specs.Lex.{lexLe}
-
--- the elements that pass a test, in their order
-abbrev pub keep : {A : Type 0} → (A → Bool) → List A → List A
-keep p [] = []
-keep p (x ∷ xs) = let rest = keep p xs in cond (p x) (x ∷ rest) rest
-
--- whether two lists of numbers are equal
-abbrev pub same : List ℕ → List ℕ → Bool
-same [] [] = true
-same [] (y ∷ ys) = false
-same (x ∷ xs) [] = false
-same (x ∷ xs) (y ∷ ys) = eqb x y && same xs ys
+use Rattle.lists.specs.Lists.{same}
+use Rattle.sorting_spec.specs.Sort.{sorted}
+use Rattle.sorting_spec.specs.Lex.{lexLe}
 
 -- of a sorted list each once: what equals the one before it is left out
 abbrev pub onceAfter : List ℕ → List (List ℕ) → List (List ℕ)

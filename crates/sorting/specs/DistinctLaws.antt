@@ -1,33 +1,19 @@
 -- Things that go by texts: the runs of the sorted things are, for each distinct text in order, the things that have it, as they
 -- stood. Assumes nothing.
 use mathlib.Core.Path.{_≡_, refl, sym, ap, _∙_}
-use mathlib.Core.Bool.{Bool, true, false, cond, _&&_}
+use mathlib.Core.Bool.{Bool, true, false, cond}
 use mathlib.Core.List.{List, [], _∷_, map}
 use Prim.Native.Nat.{ℕ}
-use borrow.Author.Tests.{eqb-true, eq-eqb}
-use lib.Dec.{eqb}
 use lib.ListN.{length, length-map}
-use Rattle.sorting_merge.specs.Sort.{insert, sorted}
-use Rattle.sorting_merge.specs.SortLaws.{Orders, Ordered, sorted-ordered, sorted-map, clash}
-use Rattle.sorting_merge.specs.Lex.{lexLe}
-use Rattle.sorting_merge.specs.LexLaws.{lex-antisym, lex-refl, by-list}
+use Rattle.lists.specs.SameLaws.{same-refl, same-eq}
+use Rattle.lists.specs.Tests.{clash}
+use Rattle.lists.specs.Lists.{keep, same}
+use Rattle.sorting_spec.specs.Sort.{insert, sorted}
+use Rattle.sorting_spec.specs.SortLaws.{Orders, Ordered, sorted-ordered, sorted-map}
+use Rattle.sorting_spec.specs.Lex.{lexLe}
+use Rattle.sorting_spec.specs.LexLaws.{lex-antisym, lex-refl, by-list}
 use Rattle.sorting.specs.Runs.{joined, runsOf}
-use Rattle.sorting.specs.Distinct.{keep, same, once, onceAfter, distinct}
-
--- `same` is equality
-pub same-refl : (l : List ℕ) → same l l ≡ true
-same-refl [] = refl
-same-refl (x ∷ xs) = simp (eq-eqb x x refl, same-refl xs)
-
-pub same-eq : (l m : List ℕ) → same l m ≡ true → l ≡ m
-same-eq [] [] e = refl
-same-eq [] (y ∷ ys) e = clash e refl
-same-eq (x ∷ xs) [] e = clash e refl
-same-eq (x ∷ xs) (y ∷ ys) e = go (eqb x y) refl e (same-eq xs ys)
-  where
-    go : (t : Bool) → eqb x y ≡ t → (t && same xs ys) ≡ true → (same xs ys ≡ true → xs ≡ ys) → _≡_ {A = List ℕ} (x ∷ xs) (y ∷ ys)
-    go true p q r = let a : x ≡ y = eqb-true x y p in let b : xs ≡ ys = r q in cc
-    go false p q r = clash q refl
+use Rattle.sorting.specs.Distinct.{once, onceAfter, distinct}
 
 module _ {A : Type 0} (text : A → List ℕ) where
   abbrev le : A → A → Bool

@@ -9,30 +9,29 @@ use native.Mathlib.Nat.{min-le-left, min-le-right}
 use native.Mathlib.Numerals.{add-one}
 use native.Mathlib.Omega.{arith}
 use borrow.Author.Tests.{leb-true, leb-false, le-leb, lt-leb, lt-ltb, le-ltb, ltb-true}
-use lib.Dec.{leb, ltb}
+use lib.Dec.{leb}
 use lib.ListN.{length, getD, take, drop, replicate}
 use lib.Seq.{slice, slice-cons}
+use Rattle.lists.specs.Tests.{below?, both, clash}
+use Rattle.lists.specs.Lists.{same, upFrom}
+use Rattle.lists.specs.SameLaws.{same-refl, same-eq}
+use Rattle.lists.specs.RowLaws.{in-up, up-in}
 use Rattle.records.specs.Search.{seek}
 use Rattle.records.specs.SearchLaws.{seek-to, seek-passes, seek-before}
 use Rattle.records.specs.Outcome.{outcome, only}
-use Rattle.records.specs.Tests.{below?, both}
-use Rattle.sorting_merge.specs.declared.text.By.the-variants.{Name}
-use Rattle.sorting_merge.specs.Sort.{sorted}
-use Rattle.sorting_merge.specs.SortLaws.{Orders, clash}
-use Rattle.sorting_merge.specs.Lex.{lexLe}
-use Rattle.sorting_merge.specs.LexLaws.{lex-antisym, lex-refl, by-list}
-use Rattle.sorting_merge.specs.Joined.{nameOf}
-use Rattle.sorting_merge.specs.Text.{leBy}
-use Rattle.sorting.specs.Distinct.{same}
-use Rattle.sorting.specs.DistinctLaws.{same-refl, same-eq}
-use Rattle.sorting.specs.Counting.{upFrom}
-use Rattle.sorting.specs.CountingLaws.{in-up, up-in}
+use Rattle.sorting_texts.specs.declared.text.By.the-variants.{Name}
+use Rattle.sorting_spec.specs.Sort.{sorted}
+use Rattle.sorting_spec.specs.SortLaws.{Orders}
+use Rattle.sorting_spec.specs.Lex.{lexLe}
+use Rattle.sorting_spec.specs.LexLaws.{lex-antisym, lex-refl, by-list}
+use Rattle.sorting_spec.specs.Joined.{nameOf}
+use Rattle.sorting_texts.specs.Text.{leBy}
 use Rattle.sorting.specs.declared.repeats.Repeated.{Repeated}
 use Rattle.sorting.specs.declared.repeats.Repeated.the-variants.{At, Never, Unfit}
 use Rattle.sorting.specs.Repeats.{repeats, firstRepeat}
 use Rattle.sorting.specs.Repeating.{roomy, repeatOutcome}
-use Rattle.sorting_merge.specs.PartLaws.{drop-same, at-drop}
-use Rattle.sorting.specs.RepeatLaws.{After, Second, Later, sound, complete}
+use Rattle.sorting_spec.specs.PartLaws.{drop-same, at-drop}
+use Rattle.sorting.specs.RepeatLaws.{Second, Later, sound, complete}
 use Rattle.sorting_merge.specs.RangeLaws.{Ranged}
 
 module _ (le : ℕ → ℕ → Bool) where

@@ -8,8 +8,6 @@ pub mod NumberLaws
 pub mod RankLaws
 pub mod Distinct
 pub mod DistinctLaws
-pub mod Counting
-pub mod CountingLaws
 pub mod Repeats
 pub mod Repeating
 pub mod RepeatLaws

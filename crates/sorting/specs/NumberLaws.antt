@@ -1,8 +1,8 @@
 -- Laws of the numbers of runs. Assumes nothing.
 use mathlib.Core.Path.{_≡_, refl, sym, ap, _∙_}
-use mathlib.Core.Bool.{Bool, true, false, cond, _&&_}
+use mathlib.Core.Bool.{Bool, true, false, cond}
 use mathlib.Core.List.{List, [], _∷_, _++_, append-nil}
-use Prim.Native.Nat.{ℕ, zero, suc, _+_, _-_, _≤_, _<_}
+use Prim.Native.Nat.{ℕ, suc, _+_, _-_, _≤_, _<_}
 use native.Mathlib.Nat.{zero-add}
 use native.Mathlib.Numerals.{add-one}
 use native.Mathlib.Omega.{arith}
@@ -10,17 +10,17 @@ use borrow.Author.Tests.{leb-true}
 use lib.Dec.{leb}
 use lib.ListN.{length, getD, take, drop, set, take-append-drop, length-append, length-drop}
 use lib.Seq.{slice, slice-cons, slice-empty, append-snoc, drop-set-lt, take-set-le, take-take, take-append-le, take-at, drop-at, length-take-le, length-slice}
-use Rattle.records.specs.Tests.{both}
-use Rattle.sorting.specs.Runs.{equalsAfter, runsOf, joined, next, numbersFrom, runNumbers}
+use Rattle.lists.specs.Tests.{both}
+use Rattle.sorting.specs.Runs.{equalsAfter, runsOf, next, numbersFrom, runNumbers}
 use Rattle.sorting.specs.RunLaws.{run-behind}
 use Rattle.records.specs.Outcome.{outcome, only}
-use Rattle.sorting_merge.specs.declared.text.By.{By}
+use Rattle.sorting_texts.specs.declared.text.By.{By}
 use Rattle.sorting.specs.declared.runs.Numbered.{Numbered}
 use Rattle.sorting.specs.declared.runs.Numbered.the-variants.{Runs, Unfit}
-use Rattle.sorting_merge.specs.Text.{leBy}
+use Rattle.sorting_texts.specs.Text.{leBy}
 use Rattle.sorting.specs.Sorting.{fitting, numberable, numbered, numbersOutcome}
 use Rattle.sorting.specs.SortingLaws.{fitting-order}
-use Rattle.sorting_merge.specs.PartLaws.{slice-set, drop-same, at-drop, at-take}
+use Rattle.sorting_spec.specs.PartLaws.{slice-set, drop-same, at-drop, at-take}
 
 module _ (le : ℕ → ℕ → Bool) where
   -- how many runs there are where p is of run g

@@ -4,8 +4,10 @@ use mathlib.Core.Path.{_≡_, refl, sym, ap, _∙_}
 use mathlib.Core.Bool.{Bool, true, false, cond}
 use mathlib.Core.Logic.{_⊎_, inl, inr, ⊎-elim}
 use mathlib.Core.List.{List, [], _∷_}
-use Rattle.sorting_merge.specs.Sort.{insert, sorted}
-use Rattle.sorting_merge.specs.SortLaws.{Orders, Ordered, In, in-sorted, sorted-in, sorted-ordered, clash}
+use Rattle.lists.specs.Lists.{In}
+use Rattle.lists.specs.Tests.{clash}
+use Rattle.sorting_spec.specs.Sort.{insert, sorted}
+use Rattle.sorting_spec.specs.SortLaws.{Orders, Ordered, in-sorted, sorted-in, sorted-ordered}
 
 module _ {A : Type 0} (le : A → A → Bool) where
   -- i is the first of a list, and equal to x before it

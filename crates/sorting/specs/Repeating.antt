@@ -7,7 +7,7 @@ use lib.ListN.{length, drop, replicate}
 use Rattle.records.specs.Outcome.{Outcome, outcome}
 use Rattle.sorting.specs.declared.repeats.Repeated.{Repeated}
 use Rattle.sorting.specs.declared.repeats.Repeated.the-variants.{At, Never, Unfit}
-use Rattle.sorting_merge.specs.Joined.{nameOf}
+use Rattle.sorting_spec.specs.Joined.{nameOf}
 use Rattle.sorting.specs.Repeats.{firstRepeat}
 
 -- n names are counted by u32, and need two numbers each

@@ -3,8 +3,8 @@ use Prim.Native.Nat.{ℕ}
 use mathlib.Core.Bool.{Bool}
 use mathlib.Core.List.{List}
 use lib.Dec.{ltb}
+use Rattle.lists.specs.Lists.{same}
 use Rattle.records.specs.Search.{seek}
-use Rattle.sorting.specs.Distinct.{same}
 
 -- whether one before i has i's text
 abbrev pub repeats : (ℕ → List ℕ) → ℕ → Bool

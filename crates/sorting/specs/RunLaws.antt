@@ -3,15 +3,15 @@ use mathlib.Core.Path.{_≡_, refl, sym, ap, _∙_}
 use mathlib.Core.Bool.{Bool, true, false, cond, _&&_}
 use mathlib.Core.Logic.{inl, inr}
 use mathlib.Core.List.{List, [], _∷_}
-use Prim.Native.Nat.{ℕ, zero, suc, _+_, _-_, _≤_, _<_}
+use Prim.Native.Nat.{ℕ, suc, _+_, _-_, _≤_, _<_}
 use native.Mathlib.Numerals.{add-one}
 use native.Mathlib.Omega.{arith}
 use borrow.Author.Tests.{leb-true}
 use lib.Dec.{leb}
 use lib.ListN.{length, getD, take, drop}
 use lib.Seq.{slice, slice-cons, slice-empty, length-slice, length-take-le, take-take, take-add, drop-drop, drop-at}
-use Rattle.records.specs.Tests.{both}
-use Rattle.sorting_merge.specs.SortLaws.{In}
+use Rattle.lists.specs.Tests.{both}
+use Rattle.lists.specs.Lists.{In}
 use Rattle.sorting.specs.Runs.{equalsAfter, runLength, joined, runsOf}
 
 module _ {A : Type 0} (le : A → A → Bool) where

@@ -10,5 +10,5 @@ pub use runs::Numbered;
 pub use runs::number_runs;
 pub use runs::run_end;
 pub use slices::sort;
-pub use sorting_merge::By;
+pub use sorting_texts::By;
 pub use stretches::sort_each;

@@ -1,15 +1,15 @@
 // The first name that stands twice.
 use crate::slices;
-use sorting_merge::By;
+use sorting_texts::By;
 ghost use mathlib.Core.Path.{_≡_};
 ghost use mathlib.Core.List.{[], _∷_, _++_};
 ghost use Prim.Native.Nat.{_+_, _≤_};
 ghost use lib.ListN.{length, take, drop, replicate};
 ghost use lib.Seq.{slice};
+ghost use Rattle.lists.specs.Lists.{upFrom};
 ghost use Rattle.records.specs.Outcome.{outcome};
-ghost use Rattle.sorting_merge.specs.Joined.{nameOf};
-ghost use Rattle.sorting_merge.specs.Text.{leBy};
-ghost use Rattle.sorting.specs.Counting.{upFrom};
+ghost use Rattle.sorting_spec.specs.Joined.{nameOf};
+ghost use Rattle.sorting_texts.specs.Text.{leBy};
 ghost use Rattle.sorting.specs.Repeats.{firstRepeat};
 ghost use Rattle.sorting.specs.Repeating.{repeatOutcome};
 ghost use Rattle.sorting.specs.LeastLaws.{lesser, least};
@@ -25,7 +25,7 @@ pub enum Repeated {
 fn lesser_of(by: By, letters: &[u8], keys: &[u32], b: u32, p: u32, x: u32) -> u32
     ensures { λ r. ⌜ r ≡ lesser (leBy by (now (letters .entry)) (now (keys .entry))) b p x ⌝ }
 {
-    if sorting_merge::le(by, letters, keys, x, p) {
+    if sorting_compare::le(by, letters, keys, x, p) {
         if b <= x { b } else { x }
     } else {
         b

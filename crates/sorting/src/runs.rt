@@ -1,6 +1,6 @@
 // The runs of equal texts in a sorted stretch.
 use crate::slices;
-use sorting_merge::By;
+use sorting_texts::By;
 ghost use mathlib.Core.Path.{_≡_};
 ghost use mathlib.Core.Bool.{cond, _&&_};
 ghost use mathlib.Core.List.{[], _∷_};
@@ -8,7 +8,7 @@ ghost use Prim.Native.Nat.{_+_, _-_, _≤_, _<_};
 ghost use lib.Dec.{leb};
 ghost use lib.ListN.{length, take, drop};
 ghost use lib.Seq.{slice};
-ghost use Rattle.sorting_merge.specs.Text.{leBy};
+ghost use Rattle.sorting_texts.specs.Text.{leBy};
 ghost use Rattle.sorting.specs.Runs.{runLength, runsOf, runNumbers, next};
 ghost use Rattle.sorting.specs.Sorting.{numberable, numbersOutcome};
 ghost use Rattle.records.specs.Outcome.{outcome};
@@ -31,7 +31,7 @@ fn stop(by: By, letters: &[u8], w: &[u32], lo: usize, hi: usize, e: usize) -> us
     let mut i = lo + 1;
     while i < hi {
         let x = w[i];
-        if sorting_merge::le(by, letters, &w[e..], x, p) {
+        if sorting_compare::le(by, letters, &w[e..], x, p) {
             p = x;
             i += 1;
         } else {
@@ -58,7 +58,7 @@ fn next_run(by: By, letters: &[u8], keys: &[u32], g: u32, p: u32, x: u32) -> u32
     requires { ⌜ g < 4294967295 ⌝ }
     ensures { λ r. ⌜ r ≡ next (leBy by (now (letters .entry)) (now (keys .entry))) g p x ⌝ }
 {
-    if sorting_merge::le(by, letters, keys, x, p) {
+    if sorting_compare::le(by, letters, keys, x, p) {
         g
     } else {
         g + 1

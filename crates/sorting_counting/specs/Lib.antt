@@ -1,6 +1,4 @@
--- What a reader has to believe: nothing; the files named Laws say what the functions leave in the lent slice, in the words of
--- protein_groups_spec, and why.
+-- What a reader has to believe: nothing; the files named Laws say what the functions leave in the lent slice, in the words of lists,
+-- and why.
 pub mod PlacingLaws
 pub mod TallyLaws
-pub mod KnowingLaws
-pub mod SpreadLaws

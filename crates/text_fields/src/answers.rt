@@ -1,7 +1,7 @@
 // What an answer is held to.
 use crate::hexadecimals::unhex;
 use records::byte_at;
-use sorting_merge::number_at;
+use sorting_texts::number_at;
 
 // Whether work memory is zero.
 pub fn is_zero(work: &[u32]) -> bool {

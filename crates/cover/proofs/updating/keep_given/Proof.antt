@@ -1,7 +1,7 @@
 use Prim.Native.Nat.{_≤_, _<_}
 use native.Mathlib.Omega.{arith}
 use mathlib.Core.Logic.{⊎-elim}
-use Rattle.records.specs.Tests.{below?}
+use Rattle.lists.specs.Tests.{below?}
 use Rattle.cover.specs.UpdatingLaws.{sized}
 -- `keep_given` meets its contract. Assumes nothing.
 use borrow.Author.Needs.{needs}

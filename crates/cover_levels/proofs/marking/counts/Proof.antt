@@ -7,7 +7,7 @@ use lib.Dec.{eqb}
 use lib.ListN.{length, getD}
 use denote.Ref.{now}
 use borrow.Author.Needs.{needs}
-use Rattle.cover_spec.specs.Cover.{bit}
+use Rattle.lists.specs.Lists.{bit}
 use Rattle.cover_levels.specs.PrepareLaws.{groupAt, Counted, counting-start, isOpen, counted-inside, counted-step}
 use Rattle.cover_levels.proofs.marking.counts.Statement.{statement}
 use Rattle.cover_levels.proofs.marking.counts.Tie as tie

@@ -5,7 +5,8 @@ use mathlib.Core.Path.{sym, ap, _∙_}
 use lib.ListN.{replicate}
 use denote.Ref.{now}
 use borrow.Author.Needs.{needs}
-use Rattle.cover_spec.specs.Cover.{bit, coverList}
+use Rattle.lists.specs.Lists.{bit}
+use Rattle.cover_spec.specs.Cover.{coverList}
 use Rattle.cover_spec.specs.ListedLaws.{listed-ext}
 use Rattle.cover_walk.specs.RunLaws.{room, nothing-marked}
 use Rattle.cover_walk.proofs.covering.cover_into.Statement.{statement}

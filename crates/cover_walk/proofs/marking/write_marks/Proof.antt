@@ -6,7 +6,7 @@ use lib.Dec.{eqb}
 use lib.ListN.{length, getD, length-set}
 use denote.Ref.{now}
 use borrow.Author.Needs.{needs}
-use Rattle.cover_spec.specs.Cover.{bit}
+use Rattle.lists.specs.Lists.{bit}
 use Rattle.cover_walk.specs.RunLaws.{write-step}
 use Rattle.cover_spec.specs.ListedLaws.{listed-is}
 use Rattle.cover_walk.proofs.marking.write_marks.Statement.{statement}

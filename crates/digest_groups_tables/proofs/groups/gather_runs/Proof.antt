@@ -4,10 +4,11 @@ use native.Mathlib.Omega.{arith}
 use mathlib.Core.Path.{_≡_, refl, ap, _∙_}
 use mathlib.Core.List.{_++_}
 use lib.ListN.{length, getD}
+use Rattle.records.specs.StoreLaws.{length-stored}
 use Rattle.records.specs.Le.{le}
 use Rattle.digest_groups_tables.specs.DigestGroups.{digestAt}
 use Rattle.digest_groups_tables.specs.Turns.{Ahead}
-use Rattle.digest_groups_tables.specs.TurnLaws.{ahead-start, ahead-more, hi-above, ahead-end, length-stored}
+use Rattle.digest_groups_tables.specs.TurnLaws.{ahead-start, ahead-more, hi-above, ahead-end}
 use borrow.Author.Needs.{needs}
 use Rattle.digest_groups_tables.proofs.groups.gather_runs.Statement.{statement}
 use Rattle.digest_groups_tables.proofs.groups.gather_runs.Tie as tie
@@ -40,7 +41,7 @@ loop-again c =
     let a = c .before .before .before .before .before .before .before .before .before .before .before .before .before .before .args in
     let l = c .before .before .before .before .before .before .before .before .loop in
     let t = c .before .before .before .before .gather-run in
-    (ap length (t .ensures .group) ∙ length-stored (l .groups) (l .g) (digestAt (a .digests .now) (getD (l .w) (l .lo) 0) ++ le 4 (l .lo) ++ le 4 (t .result - l .lo)) ∙ l .inv .0, ahead-more (a .names .now) (a .letters .now) (a .digests .now) (a .n) (a .w .now) (a .groups .now) (l .lo) (l .g) (l .w) (l .groups) (l .inv .1) (omega arith) (t .result) (t .last .1 .1 .1 .0) (t .last .1 .1 .1 .1 .1 .1 .0) (t .ensures))
+    (ap length (t .ensures .group) ∙ length-stored 24 1048576 (l .groups) (l .g) (digestAt (a .digests .now) (getD (l .w) (l .lo) 0) ++ le 4 (l .lo) ++ le 4 (t .result - l .lo)) ∙ l .inv .0, ahead-more (a .names .now) (a .letters .now) (a .digests .now) (a .n) (a .w .now) (a .groups .now) (l .lo) (l .g) (l .w) (l .groups) (l .inv .1) (omega arith) (t .result) (t .last .1 .1 .1 .0) (t .last .1 .1 .1 .1 .1 .1 .0) (t .ensures))
 
 returns : tie.Need-returns Inv-loop μ-loop
 returns c =

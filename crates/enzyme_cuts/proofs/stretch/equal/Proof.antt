@@ -5,7 +5,8 @@ use Prim.Native.Nat.{_-_}
 use mathlib.Core.Path.{_≡_, sym, _∙_}
 use lib.ListN.{length}
 use denote.Ref.{now}
-use Rattle.enzyme_cuts.specs.SameLaws.{same-short, same-stop, Alike, alike-on, alike-all}
+use Rattle.lists.specs.SameLaws.{same-short}
+use Rattle.enzyme_cuts.specs.SameLaws.{same-stop, Alike, alike-on, alike-all}
 use Rattle.enzyme_cuts.proofs.stretch.equal.Statement.{statement}
 use Rattle.enzyme_cuts.proofs.stretch.equal.Tie as tie
 

@@ -4,11 +4,11 @@ use native.Mathlib.Omega.{arith}
 use mathlib.Core.Path.{_≡_, refl, sym, _∙_}
 use mathlib.Core.List.{map}
 use lib.ListN.{length}
-use Rattle.records.specs.StoreLaws.{storedFrom}
-use Rattle.sorting.specs.Counting.{upFrom}
+use Rattle.lists.specs.Lists.{upFrom}
+use Rattle.records.specs.StoreLaws.{storedFrom, length-stored}
 use Rattle.cover_edges.specs.Edges.{edgeBytes}
 use Rattle.protein_groups_copy.specs.Placing.{standingEdge, standingEdges}
-use Rattle.protein_groups_copy.specs.WritingLaws.{length-stored, writes-start, writes-more, writes-end, edges-fitted}
+use Rattle.protein_groups_copy.specs.WritingLaws.{writes-start, writes-more, writes-end, edges-fitted}
 use borrow.Author.Needs.{needs}
 use Rattle.protein_groups_copy.proofs.writing.write_edges.Statement.{statement}
 use Rattle.protein_groups_copy.proofs.writing.write_edges.Tie as tie

@@ -5,8 +5,8 @@ use Prim.Native.Nat.{ℕ, _+_}
 use native.Mathlib.Omega.{arith}
 use lib.ListN.{length, drop}
 use lib.Seq.{slice}
-use Rattle.sorting_merge.specs.declared.text.By.the-variants.{Numbers}
-use Rattle.sorting_merge.specs.Text.{leBy}
+use Rattle.sorting_texts.specs.declared.text.By.the-variants.{Numbers}
+use Rattle.sorting_texts.specs.Text.{leBy}
 use Rattle.sorting.specs.Runs.{runsOf}
 use Rattle.sorting.specs.declared.runs.Numbered.the-variants.{Runs, Unfit}
 use Rattle.protein_groups_tables.specs.OrderingLaws.{counts, ordered}

@@ -6,8 +6,8 @@ use mathlib.Core.Bool.{cond}
 use mathlib.Core.List.{List}
 use lib.ListN.{length, getD}
 use borrow.Author.Needs.{needs}
+use Rattle.lists.specs.Lists.{has}
 use Rattle.records.specs.Le.{numberAt}
-use Rattle.protein_groups_members.specs.Numbers.{has}
 use Rattle.report_lines_select.specs.Noting.{first, Flagged}
 use Rattle.report_lines_select.specs.NoteLaws.{flag-none, flag-turn}
 use Rattle.report_lines_select.proofs.noting.note_groups.Statement.{statement}

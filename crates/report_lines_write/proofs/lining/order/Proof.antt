@@ -1,7 +1,7 @@
 -- `order` meets its contract. Assumes nothing.
 use Prim.Native.Nat.{_*_}
 use mathlib.Core.Path.{_≡_}
-use Rattle.sorting_merge.specs.declared.text.By.the-variants.{Joined}
+use Rattle.sorting_texts.specs.declared.text.By.the-variants.{Joined}
 use Rattle.sorting.specs.Sorting.{arranged}
 use Rattle.report_lines_write.specs.OrderLaws.{sort-fits, ordered}
 use borrow.Author.Needs.{needs}

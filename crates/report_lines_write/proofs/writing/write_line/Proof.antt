@@ -4,8 +4,8 @@ use mathlib.Core.Path.{_≡_}
 use mathlib.Core.List.{[], map}
 use lib.ListN.{getD}
 use native.Mathlib.Omega.{arith}
-use Rattle.sorting_merge.specs.Joined.{join}
-use Rattle.sorting_merge.specs.Text.{joinedText}
+use Rattle.sorting_spec.specs.Joined.{join}
+use Rattle.sorting_texts.specs.Text.{joinedText}
 use Rattle.report_lines_write.specs.WriteLaws.{line-length, line-put, line-written, some-starts, none-starts, put-le}
 use borrow.Author.Needs.{needs}
 use Rattle.report_lines_write.proofs.writing.write_line.Statement.{statement}

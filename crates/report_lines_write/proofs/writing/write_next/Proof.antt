@@ -1,5 +1,5 @@
 -- `write_next` meets its contract. Assumes nothing.
-use Rattle.sorting_merge.specs.Text.{joinedText}
+use Rattle.sorting_texts.specs.Text.{joinedText}
 use Rattle.report_lines_write.specs.WriteLaws.{put-semi}
 use borrow.Author.Needs.{needs}
 use Rattle.report_lines_write.proofs.writing.write_next.Statement.{statement}

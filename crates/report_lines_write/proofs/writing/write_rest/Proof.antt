@@ -3,7 +3,7 @@ use Prim.Native.Nat.{_-_, _≤_}
 use mathlib.Core.List.{_∷_}
 use lib.ListN.{length, getD}
 use native.Mathlib.Omega.{arith}
-use Rattle.sorting_merge.specs.Text.{joinedText}
+use Rattle.sorting_texts.specs.Text.{joinedText}
 use Rattle.report_lines_write.specs.WriteLaws.{Coming, afterFrom, coming-all, coming-done, coming-length, coming-fits, after-length, after-turn, after-end, put-le}
 use borrow.Author.Needs.{needs}
 use Rattle.report_lines_write.proofs.writing.write_rest.Statement.{statement}

@@ -1,7 +1,7 @@
 -- `write_text` meets its contract: what is left of the walk is still to come. Assumes nothing.
 use lib.ListN.{length}
 use native.Mathlib.Omega.{arith}
-use Rattle.sorting_merge.specs.Walk.{left}
+use Rattle.sorting_texts.specs.Walk.{left}
 use Rattle.report_lines_write.specs.WalkLaws.{Writing, writing-start, writing-length, writing-done, writing-byte, writing-less, writing-fits, writing-on}
 use borrow.Author.Needs.{needs}
 use Rattle.report_lines_write.proofs.writing.write_text.Statement.{statement}

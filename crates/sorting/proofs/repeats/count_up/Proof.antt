@@ -4,8 +4,8 @@ use mathlib.Core.Path.{_≡_, refl, _∙_}
 use native.Mathlib.Omega.{arith}
 use lib.ListN.{length, take, drop, length-set}
 use lib.Seq.{drop-set-lt}
-use Rattle.sorting.specs.Counting.{upFrom}
-use Rattle.sorting.specs.CountingLaws.{counting}
+use Rattle.lists.specs.Lists.{upFrom}
+use Rattle.lists.specs.RowLaws.{counting}
 use Rattle.sorting.proofs.repeats.count_up.Statement.{statement}
 use Rattle.sorting.proofs.repeats.count_up.Tie as tie
 

@@ -3,8 +3,8 @@ use Prim.Native.Nat.{_≤_, _<_, _-_}
 use mathlib.Core.Path.{_≡_, sym, _∙_}
 use lib.ListN.{drop}
 use lib.Seq.{slice, slice-empty}
-use Rattle.sorting_merge.specs.Text.{leBy}
-use Rattle.sorting_merge.specs.PartLaws.{rest-all}
+use Rattle.sorting_texts.specs.Text.{leBy}
+use Rattle.sorting_spec.specs.PartLaws.{rest-all}
 use Rattle.sorting.specs.LeastLaws.{least, leastFrom, turn, begin}
 use borrow.Author.Needs.{needs}
 use native.Mathlib.Omega.{arith}

@@ -4,9 +4,9 @@ use mathlib.Core.Path.{_≡_, refl, _∙_}
 use mathlib.Core.List.{_++_}
 use lib.ListN.{length, getD, take, drop, set, length-set}
 use lib.Seq.{slice, take-set-le, drop-set-lt}
-use Rattle.sorting_merge.specs.Text.{leBy}
+use Rattle.sorting_texts.specs.Text.{leBy}
 use Rattle.sorting.specs.Runs.{numbersFrom}
-use Rattle.sorting_merge.specs.PartLaws.{rest-all}
+use Rattle.sorting_spec.specs.PartLaws.{rest-all}
 use Rattle.sorting.specs.NumberLaws.{countFrom, turned, ended, none, next-le}
 use borrow.Author.Needs.{needs}
 use native.Mathlib.Omega.{arith}

@@ -3,10 +3,10 @@ use Prim.Native.Nat.{_≤_, _<_, _-_, _+_}
 use mathlib.Core.Path.{_≡_, sym, _∙_}
 use lib.ListN.{drop}
 use lib.Seq.{slice}
-use Rattle.sorting_merge.specs.Text.{leBy}
+use Rattle.sorting_texts.specs.Text.{leBy}
 use Rattle.sorting.specs.Runs.{equalsAfter, runLength}
 use Rattle.sorting.specs.RunLaws.{run-begin, run-on, run-off, run-none, run-empty}
-use Rattle.sorting_merge.specs.PartLaws.{rest-all}
+use Rattle.sorting_spec.specs.PartLaws.{rest-all}
 use borrow.Author.Needs.{needs}
 use native.Mathlib.Omega.{arith}
 use Rattle.sorting.proofs.runs.stop.Statement.{statement}

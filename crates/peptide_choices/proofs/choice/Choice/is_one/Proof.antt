@@ -7,7 +7,7 @@ use lib.ListN.{length, getD}
 use lib.Dec.{leb, ltb}
 use borrow.Author.Tests.{ltb-true}
 use borrow.Author.Needs.{needs}
-use Rattle.records.specs.Tests.{both}
+use Rattle.lists.specs.Tests.{both}
 use Rattle.peptide_choices.specs.SuccessorLaws.{Rest, one-ascends, one-fits, one-of, rest-all, rest-end, rest-on, rest-stop}
 use Rattle.peptide_choices.proofs.choice.Choice.is_one.Statement.{statement}
 use Rattle.peptide_choices.proofs.choice.Choice.is_one.Tie as tie
