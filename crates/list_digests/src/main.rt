@@ -63,9 +63,9 @@ fn list(letters: &[u8], line: &[u8], out: &mut [u8]) {
 
 // The request on the first line, the letters behind it.
 fn run(input: &[u8], letters: &mut [u8], out: &mut [u8]) {
-    let end = text::line_end(input, 0);
+    let end = text_lines::line_end(input, 0);
     let line = &input[..end];
-    if text::field(line, 7) == end {
+    if text_fields::field(line, 7) == end {
         say(b"the first line is: CLEAVE SKIP SIDE SEMI MISSED MINIMUM MAXIMUM PROTEIN");
         return;
     }

@@ -1,11 +1,13 @@
 // What the first line asks for.
-use crate::text::decimal;
-use crate::text::field;
 use crate::text::set;
 use enzyme::Enzyme;
 use enzyme::Kind;
 use enzyme::Settings;
 use enzyme::Side;
+use text_fields::decimal_at;
+use text_fields::field;
+use text_fields::is_set;
+use text_fields::small_at;
 
 pub(crate) struct Request {
     pub enzyme: Enzyme,
@@ -33,16 +35,11 @@ fn side(line: &[u8]) -> Side {
     Side::C
 }
 
-// More than 255 is refused as 255 is.
-fn small(n: u32) -> u8 {
-    if n < 255 { n as u8 } else { 255 }
-}
-
 fn enzyme(line: &[u8]) -> Enzyme {
     let kind = kind(line);
     let skip = set(line, field(line, 1));
     let side = side(line);
-    let semi = decimal(line, field(line, 3)) == 1;
+    let semi = is_set(line, 3);
     Enzyme {
         kind,
         skip,
@@ -52,9 +49,10 @@ fn enzyme(line: &[u8]) -> Enzyme {
 }
 
 fn settings(line: &[u8]) -> Settings {
-    let missed = small(decimal(line, field(line, 4)));
-    let minimum = decimal(line, field(line, 5));
-    let maximum = decimal(line, field(line, 6));
+    // more than 255 is refused as 255 is
+    let missed = small_at(line, 4);
+    let minimum = decimal_at(line, 5);
+    let maximum = decimal_at(line, 6);
     Settings {
         missed,
         minimum,
@@ -65,7 +63,7 @@ fn settings(line: &[u8]) -> Settings {
 pub(crate) fn read(line: &[u8]) -> Request {
     let enzyme = enzyme(line);
     let settings = settings(line);
-    let protein = decimal(line, field(line, 7));
+    let protein = decimal_at(line, 7);
     Request {
         enzyme,
         settings,

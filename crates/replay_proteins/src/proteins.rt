@@ -1,13 +1,13 @@
 // Groups of proteins. A line is the flags of the peptides as digits, the number of proteins, the pairs as `peptide.protein`, divided
 // by `;`, the numbers of the Rust's groups and meta-peptides, its edges as `group.meta` and its members as
 // `group.protein.decoy`, divided by `;`; `-` stands for none.
+use check::same;
 use protein_groups::Grouped;
 use text_fields::Verdict;
 use text_fields::decimal_at;
 use text_fields::is_zero;
 use text_fields::marks_at;
 use text_fields::records_at;
-use text_fields::same_bytes;
 use text_lines::narrow;
 
 fn protein_count(line: &[u8]) -> u32 {
@@ -23,7 +23,7 @@ fn has_counts(line: &[u8], groups: u32, metas: u32) -> bool {
 fn are_records(line: &[u8], k: usize, ours: &[u8], bytes: usize) -> bool {
     let mut theirs = [7u8; 1560];
     let n = records_at(line, k, &mut theirs);
-    (n == bytes) & same_bytes(&theirs, ours)
+    (n == bytes) & same(&theirs, ours)
 }
 
 // Whether the library groups as the Rust did: 1,024 numbers of work memory are enough for 64 proteins, 31 peptides and 63 pairs.

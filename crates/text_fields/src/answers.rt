@@ -1,6 +1,6 @@
 // What an answer is held to.
 use crate::hexadecimals::unhex;
-use records::byte_at;
+use check::same;
 use sorting_texts::number_at;
 
 // Whether work memory is zero.
@@ -12,16 +12,6 @@ pub fn is_zero(work: &[u32]) -> bool {
         i += 1;
     }
     zero
-}
-
-pub fn same_bytes(a: &[u8], b: &[u8]) -> bool {
-    let mut same = a.len() == b.len();
-    let mut i = 0;
-    while i < a.len() {
-        same = same & (a[i] == byte_at(b, i));
-        i += 1;
-    }
-    same
 }
 
 pub fn same_numbers(a: &[u32], b: &[u32]) -> bool {
@@ -38,5 +28,5 @@ pub fn same_numbers(a: &[u32], b: &[u32]) -> bool {
 pub fn is_text(s: &[u8], ours: &[u8], bytes: u32) -> bool {
     let mut theirs = [7u8; 256];
     let n = unhex(s, &mut theirs);
-    (n == bytes as usize) & same_bytes(&theirs, ours)
+    (n == bytes as usize) & same(&theirs, ours)
 }

@@ -10,7 +10,6 @@ mod verdict;
 
 pub use answers::is_text;
 pub use answers::is_zero;
-pub use answers::same_bytes;
 pub use answers::same_numbers;
 pub use decimals::behind;
 pub use decimals::decimal;

@@ -1,9 +1,9 @@
 // Records and marks of a line. Buffers have room for one more than they hold, so that one too many is seen.
-use crate::answers::same_bytes;
 use crate::decimals::numbers_at;
 use crate::fields::content;
 use crate::fields::field;
 use crate::fields::field_end;
+use check::same;
 use records::byte_at;
 use records::put_u32;
 ghost use Rattle.io.specs.Counts.{Counts};
@@ -63,5 +63,5 @@ pub fn marks_at(line: &[u8], k: usize, out: &mut [u8]) -> usize
 pub fn are_marks(line: &[u8], k: usize, marks: &[u8], count: u32) -> bool {
     let mut theirs = [2u8; 201];
     let n = marks_at(line, k, &mut theirs);
-    (n == count as usize) & same_bytes(&theirs, marks)
+    (n == count as usize) & same(&theirs, marks)
 }
