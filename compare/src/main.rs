@@ -19,6 +19,7 @@ mod model;
 mod names;
 mod oracle;
 mod passes;
+mod peptide_letters;
 mod peptides;
 mod protein_groups;
 mod report_lines;

@@ -7,6 +7,7 @@ use crate::calls::peptides as calls;
 use crate::entry::{Against, Context, Tally};
 use crate::masses;
 use crate::oracle::{hex, unhex, Oracle};
+use crate::peptide_letters::{any_letters, size_reason};
 use cases::{good, spoiled, wrong_sizes};
 use model::Peptide;
 
@@ -14,7 +15,7 @@ pub fn any_test(context: &Context) -> Tally {
     let mut tally = Tally::new("peptides: test", Against::Model);
     let rng = &mut context.rng("tests of peptides");
     for _ in 0..150_000 {
-        let (letters, masses) = (masses::cases::any_letters(rng), masses::cases::any_table(rng));
+        let (letters, masses) = (any_letters(rng), masses::cases::any_table(rng));
         let position = if rng.once_in(2) { rng.byte() } else { rng.below(6) as u8 };
         let ours = calls::peptide_test(&letters, &masses, position);
         let wanted = masses::model::peptide_test(&letters, &masses, position);
@@ -63,14 +64,6 @@ pub fn model_reversal(context: &Context) -> Tally {
         tally.case(peptide, &Ok(model::reverse(peptide)), &(Ok(()), said));
     }
     tally
-}
-
-/// Why document 01 refuses letters of a wrong size.
-pub fn size_reason(letters: &[u8]) -> &'static str {
-    match letters.is_empty() {
-        true => "without letters (1, the Rust accepts)",
-        false => "of more than 64 letters (1, the Rust accepts)",
-    }
 }
 
 /// The sizes that only the original takes.

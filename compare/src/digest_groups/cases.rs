@@ -1,7 +1,7 @@
 //! The catalogues, books and digests that are tried.
 use super::model::{work_for, Call, Digest, MOST_NAMES, NAME};
-use crate::model::MOST_BOOK;
 use crate::digest::model::{MOST_DIGESTS, MOST_LETTERS, MOST_MISSED};
+use crate::model::MOST_BOOK;
 use crate::rng::Rng;
 use std::collections::HashSet;
 

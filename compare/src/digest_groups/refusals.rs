@@ -1,11 +1,11 @@
 //! Every refusal of `group_digests`, alone and with others: which one is given, and what it leaves of the memory.
 use super::cases::{self, work};
 use super::model::{self, work_for, Call, MOST_NAMES, NAME};
-use crate::model::MOST_BOOK;
 use super::{hold, rooms};
 use crate::digest::model::{DIGEST, MOST_DIGESTS, MOST_LETTERS};
 use crate::entry::{Against, Context, Tally};
 use crate::letters::NEAR_LETTERS;
+use crate::model::MOST_BOOK;
 use crate::rng::Rng;
 
 fn short_work(rng: &mut Rng, call: &mut Call) {

@@ -4,7 +4,7 @@ use crate::digest::model::DIGEST;
 use crate::letters::NEAR_LETTERS;
 use crate::masses::cases::{any_table, rust_letters, rust_masses, rust_water, table, water};
 use crate::masses::model::MASSES;
-use crate::peptides::cases::{len, of_len};
+use crate::peptide_letters::{len, of_len};
 use crate::reversal::cases::{exactly, record_of};
 use crate::rng::Rng;
 use std::ops::Range;

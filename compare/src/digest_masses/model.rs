@@ -3,7 +3,7 @@ use crate::answer::*;
 use crate::digest::model::{DIGEST, MOST_LETTERS};
 use crate::masses::model::{base_mass, mass, MASSES};
 use crate::model::is_letter;
-use crate::peptides::model::MOST_LETTERS as MOST_OF_PEPTIDE;
+use crate::peptide_letters::MOST_LETTERS as MOST_OF_PEPTIDE;
 use crate::reversal::model::letters_of;
 use std::ops::Range;
 

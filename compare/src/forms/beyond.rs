@@ -6,8 +6,7 @@ use super::{hold, hold_with_rooms};
 use crate::answer::*;
 use crate::entry::{Against, Context, Tally};
 use crate::model::NO_LIMIT;
-use crate::peptides::cases::any_letter;
-use crate::peptides::size_reason;
+use crate::peptide_letters::{any_letter, size_reason};
 
 /// The sizes that only the original takes.
 pub fn beyond_the_rust(context: &Context) -> Tally {

@@ -1,7 +1,8 @@
 //! The peptides and rules whose forms are listed.
 use super::model::{self, Call, NO_CAP};
 use crate::model::{bytes_of, Record, Rule, NO_LIMIT, RECORD};
-use crate::peptides::cases::{any_letter, ids, of_len};
+use crate::peptide_letters::{any_letter, of_len};
+use crate::peptides::cases::ids;
 use crate::rng::Rng;
 use crate::rule_texts::cases::rules as all_rules;
 

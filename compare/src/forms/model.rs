@@ -1,7 +1,7 @@
 //! Document 01's "Peptides and their forms" as plain Rust. It walks every choice of sites, as the original does.
 use crate::answer::*;
 use crate::model::{self, Record, NO_LIMIT, RECORD};
-use crate::peptides::model::wrong_size;
+use crate::peptide_letters::wrong_size;
 use crate::room;
 
 /// The bytes of a form, and the most that a list has.

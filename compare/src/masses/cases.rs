@@ -1,7 +1,6 @@
 //! The tables of masses and the letters that are weighed.
 use super::model::MASSES;
-use crate::letters::NEAR_LETTERS;
-use crate::peptides::cases::{any_letter, len, of_len};
+use crate::peptide_letters::{len, of_len};
 use crate::rng::Rng;
 use crate::table::cases::SPECIAL_MASSES;
 
@@ -81,22 +80,6 @@ pub fn weighed_by_rust(rng: &mut Rng) -> Vec<Vec<u8>> {
         texts.push(text);
     }
     texts
-}
-
-/// Letters that may be none: too few, too many, or with a byte that is none.
-pub fn any_letters(rng: &mut Rng) -> Vec<u8> {
-    let len = match rng.below(12) {
-        0 => rng.pick(&[0, 64, 65, 66, 128, 256, 257, 320]),
-        _ => len(rng),
-    };
-    let mut letters: Vec<u8> = (0..len).map(|_| any_letter(rng)).collect();
-    if len > 0 && rng.once_in(4) {
-        for _ in 0..1 + rng.below(2) {
-            let place = rng.below(len);
-            letters[place] = rng.pick(&NEAR_LETTERS);
-        }
-    }
-    letters
 }
 
 /// A table that may be none.

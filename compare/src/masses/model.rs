@@ -1,7 +1,7 @@
 //! The base mass and the test of letters that are weighed, as document 01 says them. Masses are bit patterns.
 use crate::answer::*;
 use crate::model::is_letter;
-use crate::peptides::model::wrong_size;
+use crate::peptide_letters::wrong_size;
 
 pub const MASSES: usize = 26;
 

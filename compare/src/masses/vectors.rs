@@ -1,7 +1,7 @@
 //! A sample of the original's base masses.
 use super::cases::rust_letters;
 use crate::entry::Context;
-use crate::peptides::cases::{len, of_len};
+use crate::peptide_letters::{len, of_len};
 
 const LINES: usize = 300;
 

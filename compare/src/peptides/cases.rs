@@ -1,24 +1,8 @@
 //! The peptides that are tried.
-use super::model::{Peptide, MOST_LETTERS};
+use super::model::Peptide;
 use crate::letters::NEAR_LETTERS;
+use crate::peptide_letters::{any_letter, len, MOST_LETTERS};
 use crate::rng::Rng;
-
-pub fn any_letter(rng: &mut Rng) -> u8 {
-    b'A' + rng.below(26) as u8
-}
-
-pub fn of_len(rng: &mut Rng, len: usize, pool: &[u8]) -> Vec<u8> {
-    (0..len).map(|_| rng.pick(pool)).collect()
-}
-
-/// From 1 to 64, small ones and the ends more often.
-pub fn len(rng: &mut Rng) -> usize {
-    match rng.below(8) {
-        0 => rng.pick(&[1, 2, 3, 4, 63, 64]),
-        1..=4 => 1 + rng.below(12),
-        _ => 1 + rng.below(MOST_LETTERS),
-    }
-}
 
 /// None, some or all are not 0.
 pub fn ids(rng: &mut Rng, len: usize) -> Vec<u8> {

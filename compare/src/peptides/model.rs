@@ -1,6 +1,7 @@
 //! A peptide by itself: its test and its reversal, as document 01 says them.
 use crate::answer::*;
 use crate::model::letters_test;
+use crate::peptide_letters::wrong_size;
 
 /// Without the ids of its ends, which no reversal is given.
 #[derive(Clone, Debug, PartialEq)]
@@ -8,12 +9,6 @@ pub struct Peptide {
     pub letters: Vec<u8>,
     pub ids: Vec<u8>,
     pub decoy: u32,
-}
-
-pub const MOST_LETTERS: usize = 64;
-
-pub fn wrong_size(letters: &[u8]) -> bool {
-    letters.is_empty() || letters.len() > MOST_LETTERS
 }
 
 fn test(peptide: &Peptide) -> Answer<()> {
