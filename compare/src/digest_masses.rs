@@ -6,6 +6,7 @@ use crate::answer::*;
 use crate::calls::peptides as calls;
 use crate::entry::{Against, Context, Tally};
 use crate::masses::{as_number, ask};
+use crate::refusals::{spoil, Turns};
 use crate::reversal::cases::Shown;
 use crate::reversal::model::letters_of;
 use cases::*;
@@ -42,12 +43,12 @@ pub fn of_the_rust(context: &Context) -> Tally {
 
 /// Every refusal, alone and with each other.
 pub fn single_reasons(context: &Context) -> Tally {
-    let mut tally = Tally::new("digest masses: every reason", Against::Model);
-    let rng = &mut context.rng("digest masses, every reason");
-    for turn in 0..80_000 {
-        hold_to_model(&mut tally, &spoiled(rng, turn % 16));
-    }
-    tally
+    let turns = Turns::new(context, "digest masses: every reason", "digest masses, every reason", 80_000);
+    turns.every_choice(&SPOILS, |tally, rng, reasons, _| {
+        let mut call = good(rng);
+        spoil(rng, &mut call, reasons);
+        hold_to_model(tally, &call);
+    })
 }
 
 pub fn any_call(context: &Context) -> Tally {

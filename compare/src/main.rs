@@ -22,6 +22,7 @@ mod passes;
 mod peptide_letters;
 mod peptides;
 mod protein_groups;
+mod refusals;
 mod report_lines;
 mod reversal;
 mod rng;

@@ -8,7 +8,8 @@ use crate::entry::{Against, Context, Tally};
 use crate::masses;
 use crate::oracle::{hex, unhex, Oracle};
 use crate::peptide_letters::{any_letters, size_reason};
-use cases::{good, spoiled, wrong_sizes};
+use crate::refusals::{spoil, Turns};
+use cases::{any_good, good, wrong_sizes, SPOILS};
 use model::Peptide;
 
 pub fn any_test(context: &Context) -> Tally {
@@ -78,13 +79,11 @@ pub fn beyond_the_rust(context: &Context) -> Tally {
     tally
 }
 
-/// Every choice of reasons for a refusal.
 pub fn any_reversal(context: &Context) -> Tally {
-    let mut tally = Tally::new("peptides: reversal, any call", Against::Model);
-    let rng = &mut context.rng("calls of reversal");
-    for number in 0..80_000 {
-        let peptide = spoiled(rng, number % 16);
+    let turns = Turns::new(context, "peptides: reversal, any call", "calls of reversal", 80_000);
+    turns.every_choice(&SPOILS, |tally, rng, reasons, _| {
+        let mut peptide = any_good(rng);
+        spoil(rng, &mut peptide, reasons);
         tally.case(&peptide, &calls::peptide_reverse(&peptide), &model::reverse(&peptide));
-    }
-    tally
+    })
 }

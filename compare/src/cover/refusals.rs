@@ -6,6 +6,7 @@ use super::{call, enough, hold, short};
 use crate::calls::cover as calls;
 use crate::digest::said::panicked;
 use crate::entry::{Against, Context, Tally};
+use crate::refusals::{cut_within, spoil, Spoil, Turns};
 use crate::rng::Rng;
 
 /// Edges with a number that is not below its count, also one that is when bits are cut off.
@@ -32,37 +33,36 @@ pub fn short_work(rng: &mut Rng, work: &mut Vec<u32>, needed: usize, counts_only
     work.truncate(rng.pick(&[less, less, counts_only.min(less), any, 0]));
 }
 
-fn spoil(rng: &mut Rng, call: &mut Call, choice: usize) {
-    let reason = |bit: usize| choice >> bit & 1 == 1;
-    if reason(0) {
-        damage(rng, &mut call.edges, call.groups, call.metas);
-    }
-    if reason(1) {
-        let needed = work_for(call.groups, call.metas, call.edges.len() / EDGE);
-        short_work(rng, &mut call.work, needed, 4 * call.groups);
-    }
-    if reason(2) {
-        let tail = 1 + rng.below(EDGE - 1);
-        call.edges.extend(rng.bytes(tail));
-    }
-    if reason(3) {
-        large_counts(rng, &mut call.groups, &mut call.metas);
-    }
+fn bad_edges(rng: &mut Rng, call: &mut Call) {
+    damage(rng, &mut call.edges, call.groups, call.metas);
 }
 
-/// Every choice of reasons, with room enough and without.
+fn little_work(rng: &mut Rng, call: &mut Call) {
+    let needed = work_for(call.groups, call.metas, call.edges.len() / EDGE);
+    short_work(rng, &mut call.work, needed, 4 * call.groups);
+}
+
+fn no_length(rng: &mut Rng, call: &mut Call) {
+    cut_within(rng, &mut call.edges, EDGE);
+}
+
+fn many(rng: &mut Rng, call: &mut Call) {
+    large_counts(rng, &mut call.groups, &mut call.metas);
+}
+
+/// Lists are cut within a record last, so that there are records to damage.
+const SPOILS: [Spoil<Call>; 4] = [bad_edges, little_work, no_length, many];
+
+fn hold_spoiled(tally: &mut Tally, rng: &mut Rng, reasons: &[Spoil<Call>], few: bool) {
+    let graph = cases::random(rng);
+    let mut call = call(rng, &graph);
+    let out = if few && call.groups > 0 { short(rng, call.groups) } else { enough(rng, call.groups) };
+    spoil(rng, &mut call, reasons);
+    hold(tally, &(&call, out.len()), calls::cover(&call, &out), &model::cover(&call, &out));
+}
+
 pub fn any_call(context: &Context) -> Tally {
-    let mut tally = Tally::new("cover: any call", Against::Model);
-    let rng = &mut context.rng("calls of cover");
-    for number in 0..120_000 {
-        let graph = cases::random(rng);
-        let mut call = call(rng, &graph);
-        let few = number / 16 % 2 == 1 && call.groups > 0;
-        let out = if few { short(rng, call.groups) } else { enough(rng, call.groups) };
-        spoil(rng, &mut call, number % 16);
-        hold(&mut tally, &(&call, out.len()), calls::cover(&call, &out), &model::cover(&call, &out));
-    }
-    tally
+    Turns::new(context, "cover: any call", "calls of cover", 120_000).every_choice(&SPOILS, hold_spoiled)
 }
 
 /// Lists at their limit and above it, with and without work memory.

@@ -2,8 +2,9 @@
 use super::cases::{call, enzyme, protein, ALL_LETTERS};
 use super::model::{self, Call, DIGEST, MOST_LETTERS, SET};
 use crate::calls;
-use crate::entry::{Against, Context, Tally};
+use crate::entry::{Context, Tally};
 use crate::letters::NEAR_LETTERS;
+use crate::refusals::{spoil, Spoil, Turns};
 use crate::rng::Rng;
 use crate::room;
 
@@ -58,8 +59,7 @@ fn no_field(rng: &mut Rng, call: &mut Call) {
     }
 }
 
-type Spoil = fn(&mut Rng, &mut Call);
-const SPOILS: [Spoil; 4] = [too_large, outside, bad_letters, no_field];
+const SPOILS: [Spoil<Call>; 4] = [too_large, outside, bad_letters, no_field];
 
 /// A call, and how many digests it has.
 fn good(rng: &mut Rng) -> (Call, usize) {
@@ -74,26 +74,15 @@ fn good(rng: &mut Rng) -> (Call, usize) {
     (call, count)
 }
 
-/// Gives a call each reason for a refusal of which the choice has the bit.
-fn spoil(rng: &mut Rng, call: &mut Call, choice: usize) {
-    for (bit, spoil) in SPOILS.iter().enumerate() {
-        if choice >> bit & 1 == 1 {
-            spoil(rng, call);
-        }
-    }
+fn hold_spoiled(tally: &mut Tally, rng: &mut Rng, reasons: &[Spoil<Call>], short: bool) {
+    let (mut call, count) = good(rng);
+    spoil(rng, &mut call, reasons);
+    let short = short && count > 0;
+    let len = if short { room::short(rng, count, DIGEST) } else { room::enough(rng, count, DIGEST) };
+    let out = rng.bytes(len);
+    tally.case(&(&call, len), &calls::digest(&call, &out), &model::digest(&call, &out));
 }
 
-/// Every choice of reasons, with room enough and without.
 pub fn any_call(context: &Context) -> Tally {
-    let mut tally = Tally::new("digest: any call", Against::Model);
-    let rng = &mut context.rng("calls of digest");
-    for number in 0..160_000 {
-        let (mut call, count) = good(rng);
-        spoil(rng, &mut call, number % 16);
-        let short = number / 16 % 2 == 1 && count > 0;
-        let len = if short { room::short(rng, count, DIGEST) } else { room::enough(rng, count, DIGEST) };
-        let out = rng.bytes(len);
-        tally.case(&(&call, len), &calls::digest(&call, &out), &model::digest(&call, &out));
-    }
-    tally
+    Turns::new(context, "digest: any call", "calls of digest", 160_000).every_choice(&SPOILS, hold_spoiled)
 }

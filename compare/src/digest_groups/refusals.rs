@@ -6,6 +6,7 @@ use crate::digest::model::{DIGEST, MOST_DIGESTS, MOST_LETTERS};
 use crate::entry::{Against, Context, Tally};
 use crate::letters::NEAR_LETTERS;
 use crate::model::MOST_BOOK;
+use crate::refusals::{cut_within, scatter, spoil, Spoil, Turns};
 use crate::rng::Rng;
 
 fn short_work(rng: &mut Rng, call: &mut Call) {
@@ -69,12 +70,8 @@ fn bad_bounds(rng: &mut Rng, call: &mut Call) {
     }
 }
 
-/// Bytes that are no letters: the place is the first one's.
 fn bad_letters(rng: &mut Rng, call: &mut Call) {
-    for _ in 0..(1 + rng.below(3)).min(call.letters.len()) {
-        let place = rng.below(call.letters.len());
-        call.letters[place] = rng.pick(&NEAR_LETTERS);
-    }
+    scatter(rng, &mut call.letters, &NEAR_LETTERS);
 }
 
 fn put_word(record: &mut [u8], at: usize, word: u32) {
@@ -110,10 +107,7 @@ fn bad_digests(rng: &mut Rng, call: &mut Call) {
 fn no_length(rng: &mut Rng, call: &mut Call) {
     match rng.below(3) {
         0 => call.names.extend(vec![b'A'; 1 + rng.below(NAME - 1)]),
-        1 => {
-            let tail = 1 + rng.below(DIGEST - 1);
-            call.digests.extend(rng.bytes(tail));
-        }
+        1 => cut_within(rng, &mut call.digests, DIGEST),
         _ => {
             let count = call.bounds.len();
             call.bounds.resize(rng.pick(&[0, count - 1, count + 1, count + 2, 2 * count]), 0);
@@ -121,48 +115,33 @@ fn no_length(rng: &mut Rng, call: &mut Call) {
     }
 }
 
-type Spoil = fn(&mut Rng, &mut Call);
 /// Lists are cut within a record last, so that there are records to damage.
-const SPOILS: [Spoil; 6] = [short_work, bad_names, bad_bounds, bad_letters, bad_digests, no_length];
+const SPOILS: [Spoil<Call>; 6] = [short_work, bad_names, bad_bounds, bad_letters, bad_digests, no_length];
 
-/// Gives a call each reason for a refusal of which the choice has the bit.
-fn spoil(rng: &mut Rng, call: &mut Call, choice: usize) {
-    for (bit, spoil) in SPOILS.iter().enumerate() {
-        if choice >> bit & 1 == 1 {
-            spoil(rng, call);
-        }
-    }
+fn hold_spoiled(tally: &mut Tally, rng: &mut Rng, good: Call, reasons: &[Spoil<Call>], short: bool) {
+    let mut call = good;
+    let lists = model::lists(&call);
+    spoil(rng, &mut call, reasons);
+    let (groups, proteins) = rooms(rng, lists.groups.len(), lists.proteins.len(), short);
+    hold(tally, &call, &groups, &proteins, &model::group_digests(&call, &groups, &proteins));
 }
 
-/// Every choice of reasons but sizes, with room enough and without.
+/// Every choice of reasons but sizes.
 pub fn any_call(context: &Context) -> Tally {
-    let mut tally = Tally::new("digest groups: any call", Against::Model);
-    let rng = &mut context.rng("calls of group_digests");
-    for number in 0..192_000 {
-        let mut call = cases::random(rng, 5, 8);
-        let lists = model::lists(&call);
-        spoil(rng, &mut call, number % 64);
-        let short = number / 64 % 2 == 1;
-        let (groups, proteins) = rooms(rng, lists.groups.len(), lists.proteins.len(), short);
-        hold(&mut tally, &call, &groups, &proteins, &model::group_digests(&call, &groups, &proteins));
-    }
-    tally
+    let turns = Turns::new(context, "digest groups: any call", "calls of group_digests", 192_000);
+    turns.every_choice(&SPOILS, |tally, rng, reasons, short| {
+        let call = cases::random(rng, 5, 8);
+        hold_spoiled(tally, rng, call, reasons, short);
+    })
 }
 
-/// A single reason at a time, or none.
 pub fn single_reasons(context: &Context) -> Tally {
-    let mut tally = Tally::new("digest groups: single reasons", Against::Model);
-    let rng = &mut context.rng("single reasons of group_digests");
-    for number in 0..140_000 {
-        let mut call = cases::random(rng, 6, 12);
-        let lists = model::lists(&call);
-        if let Some(spoil) = SPOILS.get(number % 7) {
-            spoil(rng, &mut call);
-        }
-        let (groups, proteins) = rooms(rng, lists.groups.len(), lists.proteins.len(), false);
-        hold(&mut tally, &call, &groups, &proteins, &model::group_digests(&call, &groups, &proteins));
-    }
-    tally
+    let stream = "single reasons of group_digests";
+    let turns = Turns::new(context, "digest groups: single reasons", stream, 140_000);
+    turns.single_reasons(&SPOILS, |tally, rng, reasons, short| {
+        let call = cases::random(rng, 6, 12);
+        hold_spoiled(tally, rng, call, reasons, short);
+    })
 }
 
 /// Sizes one above their limits, and at them, where another reason then comes to light.

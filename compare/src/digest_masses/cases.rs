@@ -5,6 +5,7 @@ use crate::letters::NEAR_LETTERS;
 use crate::masses::cases::{any_table, rust_letters, rust_masses, rust_water, table, water};
 use crate::masses::model::MASSES;
 use crate::peptide_letters::{len, of_len};
+use crate::refusals::Spoil;
 use crate::reversal::cases::{exactly, record_of};
 use crate::rng::Rng;
 use std::ops::Range;
@@ -106,17 +107,7 @@ fn with_bad_field(rng: &mut Rng, call: &mut Call) {
     }
 }
 
-/// A call with the reasons for a refusal of which the choice has the bit.
-pub fn spoiled(rng: &mut Rng, choice: usize) -> Call {
-    let mut call = good(rng);
-    let reasons = [with_bad_size, with_bad_letter, with_bad_field, with_bad_length];
-    for (bit, reason) in reasons.into_iter().enumerate() {
-        if choice >> bit & 1 == 1 {
-            reason(rng, &mut call);
-        }
-    }
-    call
-}
+pub const SPOILS: [Spoil<Call>; 4] = [with_bad_size, with_bad_letter, with_bad_field, with_bad_length];
 
 /// Any table, any bytes of a record, any end.
 pub fn any(rng: &mut Rng) -> Call {

@@ -2,9 +2,10 @@
 use super::cases;
 use super::hold;
 use super::model::{self, Call, FORM};
-use crate::entry::{Against, Context, Tally};
+use crate::entry::{Context, Tally};
 use crate::letters::NEAR_LETTERS;
 use crate::model::RECORD;
+use crate::refusals::{scatter, spoil, Spoil, Turns};
 use crate::rng::Rng;
 use crate::room;
 use crate::rule_records::damage;
@@ -36,12 +37,8 @@ fn no_length(rng: &mut Rng, call: &mut Call) {
     }
 }
 
-/// Bytes that are no letters: the place is the first one's.
 fn bad_letters(rng: &mut Rng, call: &mut Call) {
-    for _ in 0..(1 + rng.below(3)).min(call.letters.len()) {
-        let place = rng.below(call.letters.len());
-        call.letters[place] = rng.pick(&NEAR_LETTERS);
-    }
+    scatter(rng, &mut call.letters, &NEAR_LETTERS);
 }
 
 fn bad_position(rng: &mut Rng, call: &mut Call) {
@@ -66,31 +63,18 @@ fn bad_fixed(rng: &mut Rng, call: &mut Call) {
     damaged(rng, &mut call.fixed);
 }
 
-type Spoil = fn(&mut Rng, &mut Call);
 /// Lists are cut within a record last, so that there are records to damage.
-const SPOILS: [Spoil; 6] = [too_large, bad_letters, bad_position, bad_variable, bad_fixed, no_length];
+const SPOILS: [Spoil<Call>; 6] = [too_large, bad_letters, bad_position, bad_variable, bad_fixed, no_length];
 
-/// Gives a call each reason for a refusal of which the choice has the bit.
-fn spoil(rng: &mut Rng, call: &mut Call, choice: usize) {
-    for (bit, spoil) in SPOILS.iter().enumerate() {
-        if choice >> bit & 1 == 1 {
-            spoil(rng, call);
-        }
-    }
+fn hold_spoiled(tally: &mut Tally, rng: &mut Rng, reasons: &[Spoil<Call>], short: bool) {
+    let mut call = cases::random(rng);
+    let count = model::list(&call).len();
+    spoil(rng, &mut call, reasons);
+    let len = if short { room::short(rng, count, FORM) } else { room::enough(rng, count, FORM) };
+    let out = rng.bytes(len);
+    hold(tally, &call, &out, &model::forms(&call, &out));
 }
 
-/// Every choice of reasons, with room enough and without.
 pub fn any_call(context: &Context) -> Tally {
-    let mut tally = Tally::new("forms: any call", Against::Model);
-    let rng = &mut context.rng("calls of forms");
-    for number in 0..128_000 {
-        let mut call = cases::random(rng);
-        let count = model::list(&call).len();
-        spoil(rng, &mut call, number % 64);
-        let short = number / 64 % 2 == 1;
-        let len = if short { room::short(rng, count, FORM) } else { room::enough(rng, count, FORM) };
-        let out = rng.bytes(len);
-        hold(&mut tally, &call, &out, &model::forms(&call, &out));
-    }
-    tally
+    Turns::new(context, "forms: any call", "calls of forms", 128_000).every_choice(&SPOILS, hold_spoiled)
 }

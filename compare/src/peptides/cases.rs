@@ -2,6 +2,7 @@
 use super::model::Peptide;
 use crate::letters::NEAR_LETTERS;
 use crate::peptide_letters::{any_letter, len, MOST_LETTERS};
+use crate::refusals::Spoil;
 use crate::rng::Rng;
 
 /// None, some or all are not 0.
@@ -21,10 +22,7 @@ pub fn good(rng: &mut Rng) -> Vec<Peptide> {
     for len in 1..=MOST_LETTERS {
         peptides.extend((0..400).map(|_| peptide(rng, len)));
     }
-    for _ in 0..20_000 {
-        let len = len(rng);
-        peptides.push(peptide(rng, len));
-    }
+    peptides.extend((0..20_000).map(|_| any_good(rng)));
     peptides
 }
 
@@ -34,25 +32,32 @@ pub fn wrong_sizes(rng: &mut Rng) -> Vec<Peptide> {
     lens.map(|len| peptide(rng, len)).collect()
 }
 
-/// A peptide with the reasons for a refusal of which the choice has the bit.
-pub fn spoiled(rng: &mut Rng, choice: usize) -> Peptide {
+/// One that is no reason for a refusal, of any length.
+pub fn any_good(rng: &mut Rng) -> Peptide {
     let len = len(rng);
-    let mut spoiled = peptide(rng, len);
-    if choice & 1 == 1 {
-        let len = rng.pick(&[0, 65, 66, 128, 256, 257, 320]);
-        spoiled = peptide(rng, len);
-    }
-    if choice & 2 == 2 {
-        let len = spoiled.ids.len();
-        let len = rng.pick(&[0, len.saturating_sub(1), len + 1, MOST_LETTERS, len + 256]);
-        spoiled.ids.resize(len, 0);
-    }
-    if choice & 4 == 4 && !spoiled.letters.is_empty() {
+    peptide(rng, len)
+}
+
+fn bad_size(rng: &mut Rng, spoiled: &mut Peptide) {
+    let len = rng.pick(&[0, 65, 66, 128, 256, 257, 320]);
+    *spoiled = peptide(rng, len);
+}
+
+fn no_length(rng: &mut Rng, spoiled: &mut Peptide) {
+    let len = spoiled.ids.len();
+    let len = rng.pick(&[0, len.saturating_sub(1), len + 1, MOST_LETTERS, len + 256]);
+    spoiled.ids.resize(len, 0);
+}
+
+fn bad_letter(rng: &mut Rng, spoiled: &mut Peptide) {
+    if !spoiled.letters.is_empty() {
         let place = rng.below(spoiled.letters.len());
         spoiled.letters[place] = rng.pick(&NEAR_LETTERS);
     }
-    if choice & 8 == 8 {
-        spoiled.decoy = rng.pick(&[2, 3, 255, 256, 257, 1 << 31, u32::MAX]);
-    }
-    spoiled
 }
+
+fn bad_decoy(rng: &mut Rng, spoiled: &mut Peptide) {
+    spoiled.decoy = rng.pick(&[2, 3, 255, 256, 257, 1 << 31, u32::MAX]);
+}
+
+pub const SPOILS: [Spoil<Peptide>; 4] = [bad_size, no_length, bad_letter, bad_decoy];

@@ -3,6 +3,7 @@ use super::model::{self, work_for, Call, MOST_PAIRS, MOST_PEPTIDES, MOST_PROTEIN
 use super::{call, cases, hold, rooms};
 use crate::cover::refusals::{damage, short_work};
 use crate::entry::{Against, Context, Tally};
+use crate::refusals::{cut_within, scatter, spoil, Spoil, Turns};
 use crate::rng::Rng;
 
 fn bad_pairs(rng: &mut Rng, call: &mut Call) {
@@ -11,10 +12,7 @@ fn bad_pairs(rng: &mut Rng, call: &mut Call) {
 }
 
 fn bad_flags(rng: &mut Rng, call: &mut Call) {
-    for _ in 0..(1 + rng.below(3)).min(call.flags.len()) {
-        let place = rng.below(call.flags.len());
-        call.flags[place] = rng.pick(&[2, 3, 128, 129, 255]);
-    }
+    scatter(rng, &mut call.flags, &[2, 3, 128, 129, 255]);
 }
 
 fn little_work(rng: &mut Rng, call: &mut Call) {
@@ -26,8 +24,7 @@ fn little_work(rng: &mut Rng, call: &mut Call) {
 /// Pairs that end within a record, and flags that are not the peptides.
 fn no_length(rng: &mut Rng, call: &mut Call) {
     if rng.once_in(2) {
-        let tail = 1 + rng.below(PAIR - 1);
-        call.pairs.extend(rng.bytes(tail));
+        cut_within(rng, &mut call.pairs, PAIR);
     } else {
         let count = call.flags.len();
         let other = rng.pick(&[count + 1, count + 7, 2 * count + 1, count.saturating_sub(1), 0]);
@@ -44,41 +41,26 @@ fn large_counts(rng: &mut Rng, call: &mut Call) {
     *count = rng.pick(&[most + 1, most + 2, *count | 1 << 20, *count | 1 << 31, u32::MAX as usize]);
 }
 
-type Spoil = fn(&mut Rng, &mut Call);
 /// Lists are cut within a record last, so that there are records to damage.
-const SPOILS: [Spoil; 5] = [bad_pairs, bad_flags, little_work, no_length, large_counts];
+const SPOILS: [Spoil<Call>; 5] = [bad_pairs, bad_flags, little_work, no_length, large_counts];
 
-fn held_to_model(tally: &mut Tally, rng: &mut Rng, spoils: &[Spoil], short: bool) {
+fn hold_spoiled(tally: &mut Tally, rng: &mut Rng, reasons: &[Spoil<Call>], short: bool) {
     let shown = cases::random(rng);
     let mut call = call(rng, &shown);
     let (edges, members) = rooms(rng, &model::groups(&shown.0, &shown.1), short);
-    for spoil in spoils {
-        spoil(rng, &mut call);
-    }
+    spoil(rng, &mut call, reasons);
     hold(tally, &call, &edges, &members, &model::group_proteins(&call, &edges, &members));
 }
 
-/// Every choice of reasons, with room enough and without.
 pub fn any_call(context: &Context) -> Tally {
-    let mut tally = Tally::new("protein groups: any call", Against::Model);
-    let rng = &mut context.rng("calls of group_proteins");
-    for number in 0..160_000 {
-        let chosen = (0..SPOILS.len()).filter(|bit| number >> bit & 1 == 1);
-        let spoils: Vec<Spoil> = chosen.map(|bit| SPOILS[bit]).collect();
-        held_to_model(&mut tally, rng, &spoils, number / 32 % 2 == 1);
-    }
-    tally
+    let turns = Turns::new(context, "protein groups: any call", "calls of group_proteins", 160_000);
+    turns.every_choice(&SPOILS, hold_spoiled)
 }
 
-/// A single reason at a time, or none.
 pub fn single_reasons(context: &Context) -> Tally {
-    let mut tally = Tally::new("protein groups: single reasons", Against::Model);
-    let rng = &mut context.rng("single reasons of group_proteins");
-    for number in 0..90_000 {
-        let spoils: Vec<Spoil> = SPOILS.get(number % 6).copied().into_iter().collect();
-        held_to_model(&mut tally, rng, &spoils, false);
-    }
-    tally
+    let stream = "single reasons of group_proteins";
+    let turns = Turns::new(context, "protein groups: single reasons", stream, 90_000);
+    turns.single_reasons(&SPOILS, hold_spoiled)
 }
 
 /// Counts at their limits and above, with and without work memory and flags.

@@ -6,6 +6,7 @@ use crate::digest_groups::model::{MOST_NAMES, NAME};
 use crate::digest_groups::refusals::damage_names;
 use crate::entry::{Against, Context, Tally};
 use crate::protein_groups::model::{MEMBER, MOST_MEMBERS};
+use crate::refusals::{cut_within, scatter, spoil, Spoil, Turns};
 use crate::rng::Rng;
 
 fn bad_names(rng: &mut Rng, call: &mut Call) {
@@ -29,19 +30,13 @@ fn bad_members(rng: &mut Rng, call: &mut Call) {
 }
 
 fn bad_marks(rng: &mut Rng, call: &mut Call) {
-    for _ in 0..(1 + rng.below(3)).min(call.marks.len()) {
-        let place = rng.below(call.marks.len());
-        call.marks[place] = rng.pick(&[2, 3, 128, 129, 255]);
-    }
+    scatter(rng, &mut call.marks, &[2, 3, 128, 129, 255]);
 }
 
 fn bad_list(rng: &mut Rng, call: &mut Call) {
     let names = (call.names.len() / NAME) as u32;
-    for _ in 0..(1 + rng.below(3)).min(call.proteins.len()) {
-        let place = rng.below(call.proteins.len());
-        call.proteins[place] =
-            rng.pick(&[names, names, names + 1, names | 1 << 16, names | 1 << 24, u32::MAX]);
-    }
+    let bad = [names, names, names + 1, names | 1 << 16, names | 1 << 24, u32::MAX];
+    scatter(rng, &mut call.proteins, &bad);
 }
 
 /// One that is too long, also much, and bytes that no name has.
@@ -69,45 +64,29 @@ fn bad_flags(rng: &mut Rng, call: &mut Call) {
 /// Lists that end within a record.
 fn no_length(rng: &mut Rng, call: &mut Call) {
     let (list, size) = if rng.once_in(2) { (&mut call.names, NAME) } else { (&mut call.members, MEMBER) };
-    let tail = 1 + rng.below(size - 1);
-    list.extend(rng.bytes(tail));
+    cut_within(rng, list, size);
 }
 
-type Spoil = fn(&mut Rng, &mut Call);
 /// Lists are cut within a record last, so that there are records to damage.
-const SPOILS: [Spoil; 7] = [bad_names, bad_members, bad_marks, bad_list, bad_tag, bad_flags, no_length];
+const SPOILS: [Spoil<Call>; 7] = [bad_names, bad_members, bad_marks, bad_list, bad_tag, bad_flags, no_length];
 
-fn held_to_model(tally: &mut Tally, rng: &mut Rng, spoils: &[Spoil], few: bool) {
+fn hold_spoiled(tally: &mut Tally, rng: &mut Rng, reasons: &[Spoil<Call>], few: bool) {
     let mut call = cases::random(rng);
     let bytes = model::line(&call).text.len();
     let out = if few && bytes > 0 { short(rng, bytes) } else { enough(rng, bytes) };
-    for spoil in spoils {
-        spoil(rng, &mut call);
-    }
+    spoil(rng, &mut call, reasons);
     hold(tally, &call, &out, &model::report_line(&call, &out));
 }
 
-/// Every choice of reasons but sizes, with room enough and without.
+/// Every choice of reasons but sizes.
 pub fn any_call(context: &Context) -> Tally {
-    let mut tally = Tally::new("report lines: any call", Against::Model);
-    let rng = &mut context.rng("calls of report_line");
-    for number in 0..192_000 {
-        let chosen = (0..SPOILS.len()).filter(|bit| number >> bit & 1 == 1);
-        let spoils: Vec<Spoil> = chosen.map(|bit| SPOILS[bit]).collect();
-        held_to_model(&mut tally, rng, &spoils, number / 128 % 2 == 1);
-    }
-    tally
+    let turns = Turns::new(context, "report lines: any call", "calls of report_line", 192_000);
+    turns.every_choice(&SPOILS, hold_spoiled)
 }
 
-/// A single reason at a time, or none.
 pub fn single_reasons(context: &Context) -> Tally {
-    let mut tally = Tally::new("report lines: single reasons", Against::Model);
-    let rng = &mut context.rng("single reasons of report_line");
-    for number in 0..120_000 {
-        let spoils: Vec<Spoil> = SPOILS.get(number % 8).copied().into_iter().collect();
-        held_to_model(&mut tally, rng, &spoils, false);
-    }
-    tally
+    let turns = Turns::new(context, "report lines: single reasons", "single reasons of report_line", 120_000);
+    turns.single_reasons(&SPOILS, hold_spoiled)
 }
 
 /// Sizes at their limits and above them, alone and with other reasons.
@@ -122,10 +101,8 @@ pub fn large(context: &Context) -> Tally {
             calls[2].marks.resize(MOST_MARKS + more, 0);
             calls[3].proteins.resize(MOST_LIST + more, 0);
             for call in &mut calls {
-                for spoil in [None, Some(no_length as Spoil), Some(bad_tag)] {
-                    if let Some(spoil) = spoil {
-                        spoil(rng, call);
-                    }
+                for reasons in [&[][..], &[no_length as Spoil<Call>], &[bad_tag]] {
+                    spoil(rng, call, reasons);
                     let out = rng.bytes(50);
                     hold(&mut tally, call, &out, &model::report_line(call, &out));
                 }

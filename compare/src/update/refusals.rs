@@ -6,9 +6,11 @@ use crate::calls::cover as calls;
 use crate::cover::model::{work_for, EDGE, MOST_EDGES, MOST_GROUPS, MOST_METAS};
 use crate::cover::refusals::{damage, large_counts, short_work};
 use crate::entry::{Against, Context, Tally};
+use crate::refusals::{spoil, Spoil, Turns};
 use crate::rng::Rng;
 
-fn bad_marks(rng: &mut Rng, given: &mut [u8]) {
+fn bad_given(rng: &mut Rng, call: &mut Call) {
+    let given = &mut call.given[..];
     for _ in 0..(1 + rng.below(2)).min(given.len()) {
         given[rng.below(given.len())] = rng.pick(&[2, 3, 128, 129, 254, 255]);
     }
@@ -24,43 +26,37 @@ fn no_length(rng: &mut Rng, call: &mut Call) {
     }
 }
 
-fn spoil(rng: &mut Rng, call: &mut Call, choice: usize) {
-    let reason = |bit: usize| choice >> bit & 1 == 1;
-    if reason(0) {
-        damage(rng, &mut call.old, call.groups, call.metas);
-    }
-    if reason(1) {
-        damage(rng, &mut call.new, call.groups, call.metas);
-    }
-    if reason(2) {
-        bad_marks(rng, &mut call.given);
-    }
-    if reason(3) {
-        let (old, new) = (call.old.len() / EDGE, call.new.len() / EDGE);
-        let needed = work_for(call.groups, call.metas, old + new);
-        short_work(rng, &mut call.work, needed, work_for(call.groups, call.metas, new));
-    }
-    if reason(4) {
-        no_length(rng, call);
-    }
-    if reason(5) {
-        large_counts(rng, &mut call.groups, &mut call.metas);
-    }
+fn bad_old(rng: &mut Rng, call: &mut Call) {
+    damage(rng, &mut call.old, call.groups, call.metas);
 }
 
-/// Every choice of reasons, with room enough and without.
+fn bad_new(rng: &mut Rng, call: &mut Call) {
+    damage(rng, &mut call.new, call.groups, call.metas);
+}
+
+fn little_work(rng: &mut Rng, call: &mut Call) {
+    let (old, new) = (call.old.len() / EDGE, call.new.len() / EDGE);
+    let needed = work_for(call.groups, call.metas, old + new);
+    short_work(rng, &mut call.work, needed, work_for(call.groups, call.metas, new));
+}
+
+fn many(rng: &mut Rng, call: &mut Call) {
+    large_counts(rng, &mut call.groups, &mut call.metas);
+}
+
+/// Lists are cut within a record last, so that there are records to damage.
+const SPOILS: [Spoil<Call>; 6] = [bad_old, bad_new, bad_given, little_work, no_length, many];
+
+fn hold_spoiled(tally: &mut Tally, rng: &mut Rng, reasons: &[Spoil<Call>], few: bool) {
+    let change = cases::random(rng);
+    let mut call = call(rng, &change);
+    let out = if few && call.groups > 0 { short(rng, call.groups) } else { enough(rng, call.groups) };
+    spoil(rng, &mut call, reasons);
+    hold(tally, &(&call, out.len()), calls::update(&call, &out), &model::update(&call, &out));
+}
+
 pub fn any_call(context: &Context) -> Tally {
-    let mut tally = Tally::new("update: any call", Against::Model);
-    let rng = &mut context.rng("calls of update");
-    for number in 0..160_000 {
-        let change = cases::random(rng);
-        let mut call = call(rng, &change);
-        let few = number / 64 % 2 == 1 && call.groups > 0;
-        let out = if few { short(rng, call.groups) } else { enough(rng, call.groups) };
-        spoil(rng, &mut call, number % 64);
-        hold(&mut tally, &(&call, out.len()), calls::update(&call, &out), &model::update(&call, &out));
-    }
-    tally
+    Turns::new(context, "update: any call", "calls of update", 160_000).every_choice(&SPOILS, hold_spoiled)
 }
 
 /// Lists at their limit and above it, with and without work memory.
