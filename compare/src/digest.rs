@@ -8,11 +8,13 @@ pub mod said;
 pub mod vectors;
 
 use crate::answer::*;
+use crate::asked::Asked;
 use crate::calls;
 use crate::entry::{Against, Context, Tally};
 use crate::oracle::in_batches;
 use crate::rng::Rng;
 use crate::room;
+use crate::shown::common;
 use cases::*;
 use model::{Call, DIGEST};
 use said::{ask_digests, ask_sites, read_digests, read_sites, Seen};
@@ -49,7 +51,7 @@ impl<'a> Outcome<'a> {
 
 /// Takes off what two lists have in common at their fronts, and what is more than can be read.
 fn narrow<T: PartialEq>(ours: &mut Vec<T>, wanted: &mut Vec<T>) {
-    let common = ours.iter().zip(wanted.iter()).take_while(|(ours, wanted)| ours == wanted).count();
+    let common = common(ours.iter(), wanted.iter());
     for list in [ours, wanted] {
         list.drain(..common);
         list.truncate(4);
@@ -69,47 +71,38 @@ fn hold(tally: &mut Tally, call: &Call, all: &[Seen<'_>], out: &[u8]) {
 
 /// Holds a call with room and, once in four times, one without enough.
 fn hold_with_rooms(tally: &mut Tally, rng: &mut Rng, call: &Call, all: &[Seen<'_>]) {
-    let len = room::enough(rng, all.len(), DIGEST);
-    let out = rng.bytes(len);
-    hold(tally, call, all, &out);
-    if !all.is_empty() && rng.once_in(4) {
-        let len = room::short(rng, all.len(), DIGEST);
-        hold(tally, call, all, &out[..len]);
+    for out in room::for_records(rng, all.len(), DIGEST, 4) {
+        hold(tally, call, all, &out);
     }
 }
 
-fn against_rust(tally: &mut Tally, context: &Context, calls: impl Iterator<Item = Call>) {
-    against_rust_in(tally, context, &mut context.rng("digest, rooms"), calls);
-}
-
-/// The same with rooms that go on from call to call.
-fn against_rust_in(tally: &mut Tally, context: &Context, rooms: &mut Rng, calls: impl Iterator<Item = Call>) {
-    in_batches(calls, |batch| {
-        for (call, answer) in batch.iter().zip(ask_digests(&context.oracle, batch)) {
-            hold_with_rooms(tally, rooms, call, &read_digests(&answer, call.protein));
-        }
-    });
-}
+const PROTEINS: Asked<Call> = Asked {
+    ask: |context, calls| ask_digests(&context.oracle, calls),
+    hold: |tally, rng, call, answer| {
+        hold_with_rooms(tally, rng, call, &read_digests(&answer, call.protein));
+    },
+    rooms: "digest, rooms",
+};
 
 pub fn small_proteins(context: &Context) -> Tally {
     let mut tally = Tally::new("digest: all small proteins", Against::Rust);
     let rng = &mut context.rng("small proteins");
     let enzymes = small_enzymes(rng);
-    against_rust(&mut tally, context, crossed(rng, &enzymes, &all_proteins(SMALL_LETTERS, 7)));
-    against_rust(&mut tally, context, crossed(rng, &few_enzymes(), &all_proteins(SMALL_LETTERS, 9)));
+    PROTEINS.hold_all(&mut tally, context, crossed(rng, &enzymes, &all_proteins(SMALL_LETTERS, 7)));
+    PROTEINS.hold_all(&mut tally, context, crossed(rng, &few_enzymes(), &all_proteins(SMALL_LETTERS, 9)));
     tally
 }
 
 pub fn random_proteins(context: &Context) -> Tally {
     let mut tally = Tally::new("digest: random proteins", Against::Rust);
-    against_rust(&mut tally, context, random_calls(&mut context.rng("random proteins"), 8000, 40));
+    PROTEINS.hold_all(&mut tally, context, random_calls(&mut context.rng("random proteins"), 8000, 40));
     tally
 }
 
 pub fn repetitive_proteins(context: &Context) -> Tally {
     let mut tally = Tally::new("digest: repetitive proteins", Against::Rust);
     for calls in repetitive_calls(&mut context.rng("repetitive proteins")).chunks(100) {
-        against_rust(&mut tally, context, calls.iter().cloned());
+        PROTEINS.hold_all(&mut tally, context, calls.iter().cloned());
     }
     tally
 }
@@ -117,7 +110,7 @@ pub fn repetitive_proteins(context: &Context) -> Tally {
 pub fn long_proteins(context: &Context) -> Tally {
     let mut tally = Tally::new("digest: long proteins", Against::Rust);
     for call in long_calls(&mut context.rng("long proteins")) {
-        against_rust(&mut tally, context, std::iter::once(call));
+        PROTEINS.hold_all(&mut tally, context, [call]);
     }
     tally
 }
@@ -128,7 +121,7 @@ pub fn hostile_proteins(context: &Context) -> Tally {
     let calls = [hostile_calls(rng), greatest_calls(rng)].concat();
     let rooms = &mut context.rng("hostile proteins, rooms");
     for call in calls {
-        against_rust_in(&mut tally, context, rooms, std::iter::once(call));
+        PROTEINS.hold_in(&mut tally, context, rooms, [call]);
     }
     tally
 }

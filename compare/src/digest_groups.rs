@@ -7,12 +7,13 @@ pub mod said;
 pub mod vectors;
 
 use crate::answer::{Checked, Fault};
+use crate::asked::{drawn, with_larger, Asked};
 use crate::calls::digest_groups as calls;
 use crate::digest::said::panicked;
 use crate::entry::{Against, Context, Tally};
-use crate::oracle::in_batches;
 use crate::rng::Rng;
 use crate::room;
+use crate::shown::{common, part};
 use cases::STABLE;
 use model::{filled, Call, Grouped, Lists, GROUP};
 use said::{ask, read, Read};
@@ -24,54 +25,40 @@ const EMPTY: &str = "without digests (no groups, the Rust panics)";
 /// What is shown of two outcomes that differ: their answers, and the first group and the first protein in which they do.
 fn shown(mut ours: Grouped, wanted: &Grouped) -> (Grouped, Grouped) {
     let mut wanted = wanted.clone();
-    let group =
-        ours.groups.chunks(GROUP).zip(wanted.groups.chunks(GROUP)).take_while(|(a, b)| a == b).count();
-    let protein = ours.proteins.iter().zip(&wanted.proteins).take_while(|(a, b)| a == b).count();
+    let group = common(ours.groups.chunks(GROUP), wanted.groups.chunks(GROUP));
+    let protein = common(&ours.proteins, &wanted.proteins);
     for outcome in [&mut ours, &mut wanted] {
-        outcome.groups = outcome.groups.chunks(GROUP).nth(group).unwrap_or_default().to_vec();
-        outcome.proteins = outcome.proteins.iter().skip(protein).take(4).copied().collect();
+        outcome.groups = part(&outcome.groups, group * GROUP, GROUP);
+        outcome.proteins = part(&outcome.proteins, protein, 4);
     }
     (ours, wanted)
 }
 
 /// Holds one call against what its answer and its lists have to be.
 fn hold(tally: &mut Tally, call: &Call, groups: &[u8], proteins: &[u32], wanted: &Grouped) {
-    let input = (call, groups.len(), proteins.len());
-    match calls::group_digests(call, groups, proteins) {
-        Ok(ours) if ours != *wanted => {
-            let (ours, wanted) = shown(ours, wanted);
-            tally.case(&input, &Ok(ours), &wanted);
-        }
-        ours => tally.case(&input, &ours, wanted),
+    let ours = calls::group_digests(call, groups, proteins);
+    tally.case_in_part(&(call, groups.len(), proteins.len()), ours, wanted, shown);
+}
+
+/// Words for a list: enough, or too few for one that is not empty.
+fn words(rng: &mut Rng, count: usize, few: bool) -> usize {
+    match few {
+        true => room::fewer(rng, count),
+        false => count + rng.pick(&[0, 0, 1, 9]),
     }
-}
-
-/// Room for so many words, or for some more.
-fn enough_words(rng: &mut Rng, count: usize) -> usize {
-    count + rng.pick(&[0, 0, 1, 9])
-}
-
-/// Room for fewer words than a list that is not empty has.
-fn short_words(rng: &mut Rng, count: usize) -> usize {
-    let any = rng.below(count);
-    rng.pick(&[count - 1, 0, any])
 }
 
 /// Bytes for groups and words for proteins: enough, or too few of one or of both.
 fn rooms(rng: &mut Rng, groups: usize, proteins: usize, short: bool) -> (Vec<u8>, Vec<u32>) {
-    let (few_groups, few_proteins) = match short && groups > 0 {
-        true => rng.pick(&[(true, false), (false, true), (true, true)]),
-        false => (false, false),
-    };
-    let bytes = if few_groups { room::short(rng, groups, GROUP) } else { room::enough(rng, groups, GROUP) };
-    let words = if few_proteins { short_words(rng, proteins) } else { enough_words(rng, proteins) };
+    let (few_groups, few_proteins) = room::either(rng, short && groups > 0);
+    let bytes = room::len(rng, groups, GROUP, few_groups);
+    let words = words(rng, proteins, few_proteins);
     (rng.bytes(bytes), (0..words).map(|_| rng.word()).collect())
 }
 
 /// Holds a call with room and, once in three times, one without enough.
 fn hold_with_rooms(tally: &mut Tally, rng: &mut Rng, call: &Call, lists: &Lists) {
-    let shorts = if rng.once_in(3) { &[false, true][..] } else { &[false] };
-    for short in shorts {
+    for short in room::turns(rng, 3) {
         let (groups, proteins) = rooms(rng, lists.groups.len(), lists.proteins.len(), *short);
         hold(tally, call, &groups, &proteins, &filled(lists, &groups, &proteins));
     }
@@ -99,58 +86,43 @@ fn lists_of(call: &Call, answer: &str) -> Checked<Read> {
     }
 }
 
-fn against_rust(tally: &mut Tally, context: &Context, calls: impl Iterator<Item = Call>) {
-    let rng = &mut context.rng("digest groups, rooms");
-    in_batches(calls, |batch| {
-        for (call, answer) in batch.iter().zip(ask(&context.oracle, batch)) {
-            match lists_of(call, &answer) {
-                Ok(read) => {
-                    hold_with_rooms(tally, rng, call, &read.lists);
-                    count(tally, call, &read);
-                    if call.digests.is_empty() {
-                        tally.intended(EMPTY);
-                    }
-                }
-                Err(Fault(fault)) => tally.fail(call, &fault),
+fn hold_to_rust(tally: &mut Tally, rng: &mut Rng, call: &Call, answer: String) {
+    match lists_of(call, &answer) {
+        Ok(read) => {
+            hold_with_rooms(tally, rng, call, &read.lists);
+            count(tally, call, &read);
+            if call.digests.is_empty() {
+                tally.intended(EMPTY);
             }
         }
-    });
+        Err(Fault(fault)) => tally.fail(call, &fault),
+    }
 }
 
+const CALLS: Asked<Call> = Asked {
+    ask: |context, calls| ask(&context.oracle, calls),
+    hold: hold_to_rust,
+    rooms: "digest groups, rooms",
+};
+
 pub fn small_lists(context: &Context) -> Tally {
-    let mut tally = Tally::new("digest groups: small lists", Against::Rust);
-    let rng = &mut context.rng("digest groups, small lists");
-    against_rust(&mut tally, context, cases::exhaustive(rng).into_iter());
-    tally
+    CALLS.entry(context, "digest groups: small lists", |mut rng| cases::exhaustive(&mut rng))
 }
 
 pub fn random_lists(context: &Context) -> Tally {
-    let mut tally = Tally::new("digest groups: random lists", Against::Rust);
-    let rng = &mut context.rng("digest groups, random lists");
-    against_rust(&mut tally, context, (0..240_000).map(|_| cases::small(rng)));
-    tally
+    CALLS.entry(context, "digest groups: random lists", |rng| drawn(rng, 240_000, cases::small))
 }
 
 pub fn long_lists(context: &Context) -> Tally {
-    let mut tally = Tally::new("digest groups: long lists", Against::Rust);
-    let rng = &mut context.rng("digest groups, long lists");
-    against_rust(&mut tally, context, (0..10_000).map(|_| cases::long(rng)));
-    tally
+    CALLS.entry(context, "digest groups: long lists", |rng| drawn(rng, 10_000, cases::long))
 }
 
 pub fn model_lists(context: &Context) -> Tally {
-    let mut tally = Tally::new("model: digest groups", Against::Rust);
-    let rng = &mut context.rng("digest groups, model");
-    let calls = (0..60_000).map(|number| if number % 30 == 0 { cases::long(rng) } else { cases::small(rng) });
-    in_batches(calls, |batch| {
-        for (call, answer) in batch.iter().zip(ask(&context.oracle, batch)) {
-            match lists_of(call, &answer) {
-                Ok(read) => tally.case(call, &Ok(model::lists(call)), &read.lists),
-                Err(Fault(fault)) => tally.fail(call, &fault),
-            }
-        }
-    });
-    tally
+    let calls = |rng| with_larger(rng, 60_000, 30, cases::long, cases::small);
+    CALLS.model(context, "model: digest groups", calls, |tally, call, answer| match lists_of(call, &answer) {
+        Ok(read) => tally.case(call, &Ok(model::lists(call)), &read.lists),
+        Err(Fault(fault)) => tally.fail(call, &fault),
+    })
 }
 
 /// The greatest sizes, with room exact and one short.

@@ -63,6 +63,23 @@ impl Tally {
         }
     }
 
+    /// The same; of answers that differ only a part is shown.
+    pub fn case_in_part<T: PartialEq + Debug>(
+        &mut self,
+        input: &dyn Debug,
+        ours: Checked<T>,
+        wanted: &T,
+        part: impl FnOnce(T, &T) -> (T, T),
+    ) {
+        match ours {
+            Ok(ours) if ours != *wanted => {
+                let (ours, wanted) = part(ours, wanted);
+                self.case(input, &Ok(ours), &wanted);
+            }
+            ours => self.case(input, &ours, wanted),
+        }
+    }
+
     /// Counts a case that cannot be held against anything.
     pub fn fail(&mut self, input: &dyn Debug, what: &str) {
         self.cases += 1;

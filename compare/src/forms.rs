@@ -7,12 +7,13 @@ pub mod said;
 pub mod vectors;
 
 use crate::answer::*;
+use crate::asked::{drawn, Asked};
 use crate::calls::peptides as calls;
 use crate::entry::{Against, Context, Tally};
 use crate::model::NO_LIMIT;
-use crate::oracle::in_batches;
 use crate::rng::Rng;
 use crate::room;
+use crate::shown::common;
 use model::{listed, Call, Form, FORM, NO_CAP};
 use said::{ask, read};
 
@@ -24,10 +25,6 @@ struct Shown {
     record: Vec<u8>,
 }
 
-fn first_difference(ours: &[u8], wanted: &[u8]) -> usize {
-    ours.chunks(FORM).zip(wanted.chunks(FORM)).take_while(|(ours, wanted)| ours == wanted).count()
-}
-
 fn shown(filled: &Filled<u32>, number: usize) -> Shown {
     let record = filled.buffer.chunks(FORM).nth(number).unwrap_or_default().to_vec();
     Shown { answer: filled.answer, number, record }
@@ -36,61 +33,44 @@ fn shown(filled: &Filled<u32>, number: usize) -> Shown {
 /// Holds one call against what its answer and its buffer have to be.
 fn hold(tally: &mut Tally, call: &Call, out: &[u8], wanted: &Filled<u32>) {
     let ours = calls::forms(call, out);
-    let number = ours.as_ref().map_or(0, |ours| first_difference(&ours.buffer, &wanted.buffer));
+    let number = ours.as_ref().map_or(0, |ours| common(ours.buffer.chunks(FORM), wanted.buffer.chunks(FORM)));
     tally.case(&(call, out.len()), &ours.map(|ours| shown(&ours, number)), &shown(wanted, number));
 }
 
 /// Holds a call with room and, once in four times, one without enough.
 fn hold_with_rooms(tally: &mut Tally, rng: &mut Rng, call: &Call, forms: &[Form]) {
-    let len = room::enough(rng, forms.len(), FORM);
-    let out = rng.bytes(len);
-    hold(tally, call, &out, &listed(forms, &out));
-    if rng.once_in(4) {
-        let out = &out[..room::short(rng, forms.len(), FORM)];
-        hold(tally, call, out, &listed(forms, out));
+    for out in room::for_records(rng, forms.len(), FORM, 4) {
+        hold(tally, call, &out, &listed(forms, &out));
     }
 }
 
-fn against_rust(tally: &mut Tally, context: &Context, calls: impl Iterator<Item = Call>) {
-    let rooms = &mut context.rng("forms, rooms");
-    in_batches(calls, |batch| {
-        for (call, answer) in batch.iter().zip(ask(&context.oracle, batch)) {
-            hold_with_rooms(tally, rooms, call, &read(&answer));
-        }
-    });
-}
+const PEPTIDES: Asked<Call> = Asked {
+    ask: |context, calls| ask(&context.oracle, calls),
+    hold: |tally, rng, call, answer| hold_with_rooms(tally, rng, call, &read(&answer)),
+    rooms: "forms, rooms",
+};
 
 pub fn small_peptides(context: &Context) -> Tally {
     let mut tally = Tally::new("forms: small peptides", Against::Rust);
     let rng = &mut context.rng("forms, small peptides");
-    against_rust(&mut tally, context, cases::single_rules(rng).into_iter());
-    against_rust(&mut tally, context, cases::pairs_of_rules(rng).into_iter());
+    PEPTIDES.hold_all(&mut tally, context, cases::single_rules(rng));
+    PEPTIDES.hold_all(&mut tally, context, cases::pairs_of_rules(rng));
     tally
 }
 
 pub fn random_peptides(context: &Context) -> Tally {
-    let mut tally = Tally::new("forms: random peptides", Against::Rust);
-    let rng = &mut context.rng("forms, random peptides");
-    against_rust(&mut tally, context, (0..280_000).map(|_| cases::random(rng)));
-    tally
+    PEPTIDES.entry(context, "forms: random peptides", |rng| drawn(rng, 280_000, cases::random))
 }
 
 pub fn long_peptides(context: &Context) -> Tally {
-    let mut tally = Tally::new("forms: long peptides", Against::Rust);
-    let rng = &mut context.rng("forms, long peptides");
-    against_rust(&mut tally, context, (0..8000).map(|_| cases::long(rng)));
-    tally
+    PEPTIDES.entry(context, "forms: long peptides", |rng| drawn(rng, 8000, cases::long))
 }
 
 pub fn model_forms(context: &Context) -> Tally {
-    let mut tally = Tally::new("model: forms", Against::Rust);
-    let rng = &mut context.rng("forms, model");
-    in_batches((0..60_000).map(|_| cases::random(rng)), |batch| {
-        for (call, answer) in batch.iter().zip(ask(&context.oracle, batch)) {
-            tally.case(call, &Ok(model::list(call)), &read(&answer));
-        }
-    });
-    tally
+    let calls = |rng| drawn(rng, 60_000, cases::random);
+    PEPTIDES.model(context, "model: forms", calls, |tally, call, answer| {
+        tally.case(call, &Ok(model::list(call)), &read(&answer));
+    })
 }
 
 /// P6: MAM, variable M without limit, combination limit 2: four forms; cap 3: the first three; cap 0: one.

@@ -4,6 +4,7 @@
 //! the entries of one subject up to the first that differs; `compare vectors FOLDER` writes a sample of the original's
 //! answers; `compare stack` prints how much stack each function takes. ORACLE and ORACLE_ALT are the programs that oracle/setup has built. `run` does it all.
 mod answer;
+mod asked;
 mod calls;
 mod cover;
 mod digest;
@@ -29,6 +30,7 @@ mod rng;
 mod room;
 mod rule_records;
 mod rule_texts;
+mod shown;
 mod stack;
 mod table;
 mod update;

@@ -4,10 +4,10 @@ pub mod said;
 pub mod vectors;
 
 use crate::answer::{Answer, Checked, Fault};
+use crate::asked::{drawn, with_larger, Asked};
 use crate::calls::{cover as covers, protein_groups, report_lines};
 use crate::cover::model as cover;
 use crate::entry::{Against, Context, Tally};
-use crate::oracle::in_batches;
 use crate::protein_groups::call;
 use crate::protein_groups::model::{MEMBER, MOST_MEMBERS};
 use crate::report_lines::model::{Call, Line};
@@ -56,27 +56,20 @@ fn lines(rng: &mut Rng, pass: &Pass) -> Checked<Vec<Line>> {
     Ok(lines)
 }
 
-fn against_rust(tally: &mut Tally, context: &Context, passes: impl Iterator<Item = Pass>) {
-    let rng = &mut context.rng("passes, work memory");
-    in_batches(passes, |batch| {
-        for (pass, answer) in batch.iter().zip(ask(&context.oracle, batch)) {
-            tally.case(pass, &lines(rng, pass), &read(&answer, pass.flags.len()));
-        }
-    });
-}
+const PASSES: Asked<Pass> = Asked {
+    ask: |context, passes| ask(&context.oracle, passes),
+    hold: |tally, rng, pass, answer| {
+        tally.case(pass, &lines(rng, pass), &read(&answer, pass.flags.len()));
+    },
+    rooms: "passes, work memory",
+};
 
 pub fn small_passes(context: &Context) -> Tally {
-    let mut tally = Tally::new("passes: small", Against::Rust);
-    let rng = &mut context.rng("passes, small");
-    against_rust(&mut tally, context, (0..60_000).map(|_| cases::small(rng)));
-    tally
+    PASSES.entry(context, "passes: small", |rng| drawn(rng, 60_000, cases::small))
 }
 
 pub fn larger_passes(context: &Context) -> Tally {
-    let mut tally = Tally::new("passes: larger", Against::Rust);
-    let rng = &mut context.rng("passes, larger");
-    against_rust(&mut tally, context, (0..2000).map(|_| cases::larger(rng)));
-    tally
+    PASSES.entry(context, "passes: larger", |rng| drawn(rng, 2000, cases::larger))
 }
 
 /// P10: the cover of its groups is {10}.
@@ -101,15 +94,14 @@ fn rows(rng: &mut Rng, pass: &Pass) -> Checked<Vec<Line>> {
 }
 
 /// The rows that the original's public function annotates.
+const ROWS: Asked<Pass> = Asked {
+    ask: |context, passes| ask_of_rows(&context.oracle, passes),
+    hold: |tally, rng, pass, answer| {
+        tally.case(pass, &rows(rng, pass), &read_rows(&answer, pass.flags.len()));
+    },
+    rooms: "passes, work memory of rows",
+};
+
 pub fn annotated_rows(context: &Context) -> Tally {
-    let mut tally = Tally::new("passes: rows", Against::Rust);
-    let (rng, words) = (&mut context.rng("passes, rows"), &mut context.rng("passes, work memory of rows"));
-    let passes =
-        (0..30_000).map(|number| if number % 50 == 0 { cases::larger(rng) } else { cases::small(rng) });
-    in_batches(passes, |batch| {
-        for (pass, answer) in batch.iter().zip(ask_of_rows(&context.oracle, batch)) {
-            tally.case(pass, &rows(words, pass), &read_rows(&answer, pass.flags.len()));
-        }
-    });
-    tally
+    ROWS.entry(context, "passes: rows", |rng| with_larger(rng, 30_000, 50, cases::larger, cases::small))
 }

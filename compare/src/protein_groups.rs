@@ -5,12 +5,13 @@ pub mod refusals;
 pub mod said;
 pub mod vectors;
 
+use crate::asked::{drawn, with_larger, Asked};
 use crate::calls::protein_groups as calls;
 use crate::cover::model::{bytes_of, EDGE};
 use crate::entry::{Against, Context, Tally};
-use crate::oracle::in_batches;
 use crate::rng::Rng;
 use crate::room;
+use crate::shown::{common, part};
 use model::{filled, Call, Grouped, Groups, Member, MEMBER};
 use said::{ask, ask_of_all, read, with_pairs, Read, Shown};
 
@@ -20,41 +21,27 @@ const PAIRLESS: &str = "with a peptide without a pair (no meta-peptide, the Rust
 /// What is shown of two outcomes that differ: their answers, and the first records in which they do.
 fn shown(mut ours: Grouped, wanted: &Grouped) -> (Grouped, Grouped) {
     let mut wanted = wanted.clone();
-    let common = |a: &[u8], b: &[u8]| a.iter().zip(b).take_while(|(a, b)| a == b).count();
     let edge = common(&ours.edges, &wanted.edges) / EDGE * EDGE;
     let member = common(&ours.members, &wanted.members) / MEMBER * MEMBER;
     for outcome in [&mut ours, &mut wanted] {
-        outcome.edges = outcome.edges.iter().skip(edge).take(2 * EDGE).copied().collect();
-        outcome.members = outcome.members.iter().skip(member).take(2 * MEMBER).copied().collect();
+        outcome.edges = part(&outcome.edges, edge, 2 * EDGE);
+        outcome.members = part(&outcome.members, member, 2 * MEMBER);
     }
     (ours, wanted)
 }
 
 /// Holds one call against what its answer and its lists have to be.
 fn hold(tally: &mut Tally, call: &Call, edges: &[u8], members: &[u8], wanted: &Grouped) {
-    let input = (call, edges.len(), members.len());
-    match calls::group_proteins(call, edges, members) {
-        Ok(ours) if ours != *wanted => {
-            let (ours, wanted) = shown(ours, wanted);
-            tally.case(&input, &Ok(ours), &wanted);
-        }
-        ours => tally.case(&input, &ours, wanted),
-    }
+    let ours = calls::group_proteins(call, edges, members);
+    tally.case_in_part(&(call, edges.len(), members.len()), ours, wanted, shown);
 }
 
 /// Bytes for edges and members: enough, or too few of one or of both.
 fn rooms(rng: &mut Rng, groups: &Groups, short: bool) -> (Vec<u8>, Vec<u8>) {
     let (edges, members) = (groups.edges.len(), groups.members.len());
-    let (few_edges, few_members) = match short && edges > 0 {
-        true => rng.pick(&[(true, false), (false, true), (true, true)]),
-        false => (false, false),
-    };
-    let length = |rng: &mut Rng, few: bool, count: usize, size: usize| match few {
-        true => room::short(rng, count, size),
-        false => room::enough(rng, count, size),
-    };
-    let edges = length(rng, few_edges, edges, EDGE);
-    let members = length(rng, few_members, members, MEMBER);
+    let (few_edges, few_members) = room::either(rng, short && edges > 0);
+    let edges = room::len(rng, edges, EDGE, few_edges);
+    let members = room::len(rng, members, MEMBER, few_members);
     (rng.bytes(edges), rng.bytes(members))
 }
 
@@ -67,73 +54,52 @@ pub fn call(rng: &mut Rng, (pairs, flags, proteins): &Shown) -> Call {
 /// Holds a call with room and, once in four times, one without enough.
 fn hold_with_rooms(tally: &mut Tally, rng: &mut Rng, shown: &Shown, groups: &Groups) {
     let call = call(rng, shown);
-    let shorts = if rng.once_in(4) { &[false, true][..] } else { &[false] };
-    for short in shorts {
+    for short in room::turns(rng, 4) {
         let (edges, members) = rooms(rng, groups, *short);
         hold(tally, &call, &edges, &members, &filled(groups, &edges, &members));
     }
 }
 
-fn against_rust(tally: &mut Tally, context: &Context, all: impl Iterator<Item = Shown>) {
-    let rng = &mut context.rng("protein groups, rooms");
-    in_batches(all, |batch| {
-        for (shown, answer) in batch.iter().zip(ask(&context.oracle, batch)) {
-            let Read { groups, unsorted } = read(&answer);
-            hold_with_rooms(tally, rng, shown, &groups);
-            if unsorted {
-                tally.intended(UNSORTED);
-            }
-        }
-    });
+fn hold_to_rust(tally: &mut Tally, rng: &mut Rng, shown: &Shown, answer: String) {
+    let Read { groups, unsorted } = read(&answer);
+    hold_with_rooms(tally, rng, shown, &groups);
+    if unsorted {
+        tally.intended(UNSORTED);
+    }
 }
 
+const LISTS: Asked<Shown> = Asked {
+    ask: |context, lists| ask(&context.oracle, lists),
+    hold: hold_to_rust,
+    rooms: "protein groups, rooms",
+};
+
 pub fn small_lists(context: &Context) -> Tally {
-    let mut tally = Tally::new("protein groups: small lists", Against::Rust);
-    against_rust(&mut tally, context, cases::exhaustive().into_iter());
-    tally
+    LISTS.entry(context, "protein groups: small lists", |_| cases::exhaustive())
 }
 
 pub fn random_lists(context: &Context) -> Tally {
-    let mut tally = Tally::new("protein groups: random lists", Against::Rust);
-    let rng = &mut context.rng("protein groups, random lists");
-    against_rust(&mut tally, context, (0..250_000).map(|_| cases::random(rng)));
-    tally
+    LISTS.entry(context, "protein groups: random lists", |rng| drawn(rng, 250_000, cases::random))
 }
 
 pub fn larger_lists(context: &Context) -> Tally {
-    let mut tally = Tally::new("protein groups: larger lists", Against::Rust);
-    let rng = &mut context.rng("protein groups, larger lists");
-    against_rust(&mut tally, context, (0..15_000).map(|_| cases::larger(rng)));
-    tally
+    LISTS.entry(context, "protein groups: larger lists", |rng| drawn(rng, 15_000, cases::larger))
 }
 
 pub fn long_lists(context: &Context) -> Tally {
-    let mut tally = Tally::new("protein groups: long lists", Against::Rust);
-    let rng = &mut context.rng("protein groups, long lists");
-    against_rust(&mut tally, context, cases::long(rng).into_iter());
-    tally
+    LISTS.entry(context, "protein groups: long lists", |mut rng| cases::long(&mut rng))
 }
 
 pub fn greatest_lists(context: &Context) -> Tally {
-    let mut tally = Tally::new("protein groups: the most", Against::Rust);
-    for shown in cases::greatest(&mut context.rng("protein groups, the most")) {
-        against_rust(&mut tally, context, std::iter::once(shown));
-    }
-    tally
+    LISTS.one_by_one(context, "protein groups: the most", |mut rng| cases::greatest(&mut rng))
 }
 
 pub fn model_lists(context: &Context) -> Tally {
-    let mut tally = Tally::new("model: protein groups", Against::Rust);
-    let rng = &mut context.rng("protein groups, model");
-    let random =
-        (0..60_000).map(|number| if number % 30 == 0 { cases::larger(rng) } else { cases::random(rng) });
-    in_batches(random, |batch| {
-        for (shown, answer) in batch.iter().zip(ask(&context.oracle, batch)) {
-            let (pairs, flags, _) = shown;
-            tally.case(shown, &Ok(model::groups(pairs, flags)), &read(&answer).groups);
-        }
-    });
-    tally
+    let lists = |rng| with_larger(rng, 60_000, 30, cases::larger, cases::random);
+    LISTS.model(context, "model: protein groups", lists, |tally, shown, answer| {
+        let (pairs, flags, _) = shown;
+        tally.case(shown, &Ok(model::groups(pairs, flags)), &read(&answer).groups);
+    })
 }
 
 /// Where all peptides take part, the original's first meta-peptide is that of the peptides without a pair.

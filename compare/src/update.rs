@@ -5,14 +5,15 @@ pub mod model;
 pub mod refusals;
 pub mod vectors;
 
+use crate::asked::{drawn, with_larger, Asked};
 use crate::calls::cover as calls;
 use crate::cover::cases::work;
+use crate::cover::hold;
 use crate::cover::model::{bytes_of, filled, Edge, MOST_GROUPS};
 use crate::cover::said::{ask, read, Graph};
-use crate::cover::{enough, hold, short};
 use crate::entry::{Against, Context, Tally};
-use crate::oracle::in_batches;
 use crate::rng::Rng;
+use crate::room;
 use cases::Change;
 use model::{mixed, parts, touched, Call};
 use std::collections::BTreeSet;
@@ -63,55 +64,39 @@ pub fn call(rng: &mut Rng, change: &Change) -> Call {
 /// Holds a call with room and, once in four times, one without enough.
 fn hold_with_rooms(tally: &mut Tally, rng: &mut Rng, change: &Change, marks: &[u8]) {
     let call = call(rng, change);
-    let out = enough(rng, call.groups);
-    hold(tally, &(&call, out.len()), calls::update(&call, &out), &filled(marks, &out));
-    if call.groups > 0 && rng.once_in(4) {
-        let out = short(rng, call.groups);
+    for out in room::for_bytes(rng, call.groups, 4) {
         hold(tally, &(&call, out.len()), calls::update(&call, &out), &filled(marks, &out));
     }
 }
 
-fn against_rust(tally: &mut Tally, context: &Context, changes: impl Iterator<Item = Change>) {
-    let rng = &mut context.rng("update, rooms");
-    in_batches(changes, |batch| {
-        for (change, [alone, whole]) in batch.iter().zip(marks_of(context, batch)) {
-            hold_with_rooms(tally, rng, change, &alone);
-            if alone != whole {
-                tally.fail(change, "the Rust covers a part alone otherwise than among all");
-            }
-        }
-    });
+fn hold_to_rust(tally: &mut Tally, rng: &mut Rng, change: &Change, [alone, whole]: [Vec<u8>; 2]) {
+    hold_with_rooms(tally, rng, change, &alone);
+    if alone != whole {
+        tally.fail(change, "the Rust covers a part alone otherwise than among all");
+    }
 }
 
+const CHANGES: Asked<Change, [Vec<u8>; 2]> =
+    Asked { ask: marks_of, hold: hold_to_rust, rooms: "update, rooms" };
+
 pub fn small_changes(context: &Context) -> Tally {
-    let mut tally = Tally::new("update: small changes", Against::Rust);
-    against_rust(&mut tally, context, cases::exhaustive().into_iter());
-    tally
+    CHANGES.entry(context, "update: small changes", |_| cases::exhaustive())
 }
 
 pub fn random_changes(context: &Context) -> Tally {
-    let mut tally = Tally::new("update: random changes", Against::Rust);
-    let rng = &mut context.rng("update, random changes");
-    against_rust(&mut tally, context, (0..240_000).map(|_| cases::random(rng)));
-    tally
+    CHANGES.entry(context, "update: random changes", |rng| drawn(rng, 240_000, cases::random))
 }
 
 pub fn larger_changes(context: &Context) -> Tally {
-    let mut tally = Tally::new("update: larger changes", Against::Rust);
-    let rng = &mut context.rng("update, larger changes");
-    against_rust(&mut tally, context, (0..15_000).map(|_| cases::larger(rng)));
-    tally
+    CHANGES.entry(context, "update: larger changes", |rng| drawn(rng, 15_000, cases::larger))
 }
 
 /// One path through all groups, and many paths of which one is touched.
 pub fn greatest_changes(context: &Context) -> Tally {
-    let mut tally = Tally::new("update: the most", Against::Rust);
-    let rng = &mut context.rng("update, the most");
-    for length in [MOST_GROUPS, MOST_GROUPS / 2, 1000] {
-        let change = cases::along_paths(rng, length);
-        against_rust(&mut tally, context, std::iter::once(change));
-    }
-    tally
+    let lengths = [MOST_GROUPS, MOST_GROUPS / 2, 1000].into_iter();
+    CHANGES.one_by_one(context, "update: the most", |mut rng| {
+        lengths.map(move |length| cases::along_paths(&mut rng, length))
+    })
 }
 
 /// P11: old (0,0),(1,0),(2,1),(3,1), new adds (0,2). Marks 0101 become 1001; marks 0110 become 1010.
@@ -140,15 +125,9 @@ pub fn examples(context: &Context) -> Tally {
 
 /// The model, of which the entries above take which groups are touched, holds on its own too.
 pub fn model_marks(context: &Context) -> Tally {
-    let mut tally = Tally::new("model: update", Against::Rust);
-    let rng = &mut context.rng("update, model");
-    let random =
-        (0..60_000).map(|number| if number % 30 == 0 { cases::larger(rng) } else { cases::random(rng) });
-    in_batches(random, |batch| {
-        for (change, [alone, _]) in batch.iter().zip(marks_of(context, batch)) {
-            let Change { old, new, groups, metas, given } = change;
-            tally.case(change, &Ok(model::marks(old, new, *groups, *metas, given)), &alone);
-        }
-    });
-    tally
+    let changes = |rng| with_larger(rng, 60_000, 30, cases::larger, cases::random);
+    CHANGES.model(context, "model: update", changes, |tally, change, [alone, _]| {
+        let Change { old, new, groups, metas, given } = change;
+        tally.case(change, &Ok(model::marks(old, new, *groups, *metas, given)), &alone);
+    })
 }

@@ -2,12 +2,13 @@
 use super::cases;
 use super::model::{self, work_for, Call, EDGE, MOST_EDGES, MOST_GROUPS, MOST_METAS};
 use super::said::{ask, Graph};
-use super::{call, enough, hold, short};
+use super::{call, hold};
 use crate::calls::cover as calls;
 use crate::digest::said::panicked;
 use crate::entry::{Against, Context, Tally};
 use crate::refusals::{cut_within, spoil, Spoil, Turns};
 use crate::rng::Rng;
+use crate::room::{self, enough_bytes};
 
 /// Edges with a number that is not below its count, also one that is when bits are cut off.
 pub fn damage(rng: &mut Rng, edges: &mut [u8], groups: usize, metas: usize) {
@@ -56,7 +57,7 @@ const SPOILS: [Spoil<Call>; 4] = [bad_edges, little_work, no_length, many];
 fn hold_spoiled(tally: &mut Tally, rng: &mut Rng, reasons: &[Spoil<Call>], few: bool) {
     let graph = cases::random(rng);
     let mut call = call(rng, &graph);
-    let out = if few && call.groups > 0 { short(rng, call.groups) } else { enough(rng, call.groups) };
+    let out = room::bytes(rng, call.groups, few);
     spoil(rng, &mut call, reasons);
     hold(tally, &(&call, out.len()), calls::cover(&call, &out), &model::cover(&call, &out));
 }
@@ -74,7 +75,7 @@ pub fn large(context: &Context) -> Tally {
             let (groups, metas) = (rng.pick(&[2, MOST_GROUPS]), rng.pick(&[2, MOST_METAS]));
             let bytes = vec![0; (MOST_EDGES + edges) * EDGE + part];
             let work = vec![5; words * work_for(groups, metas, MOST_EDGES + edges)];
-            let (call, out) = (Call { edges: bytes, groups, metas, work }, enough(rng, groups));
+            let (call, out) = (Call { edges: bytes, groups, metas, work }, enough_bytes(rng, groups));
             hold(&mut tally, &(&call, out.len()), calls::cover(&call, &out), &model::cover(&call, &out));
         }
     }
@@ -105,7 +106,7 @@ pub fn beyond_the_rust(context: &Context) -> Tally {
     let graphs: Vec<Graph> =
         calls.iter().map(|call| (model::read_edges(&call.edges), call.groups, call.metas)).collect();
     for (call, answer) in calls.iter().zip(ask(&context.oracle, &graphs)) {
-        let out = enough(rng, 12);
+        let out = enough_bytes(rng, 12);
         hold(&mut tally, call, calls::cover(call, &out), &model::cover(call, &out));
         let large = call.groups > MOST_GROUPS || call.metas > MOST_METAS;
         match (large, panicked(&answer)) {

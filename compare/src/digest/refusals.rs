@@ -77,8 +77,7 @@ fn good(rng: &mut Rng) -> (Call, usize) {
 fn hold_spoiled(tally: &mut Tally, rng: &mut Rng, reasons: &[Spoil<Call>], short: bool) {
     let (mut call, count) = good(rng);
     spoil(rng, &mut call, reasons);
-    let short = short && count > 0;
-    let len = if short { room::short(rng, count, DIGEST) } else { room::enough(rng, count, DIGEST) };
+    let len = room::len(rng, count, DIGEST, short && count > 0);
     let out = rng.bytes(len);
     tally.case(&(&call, len), &calls::digest(&call, &out), &model::digest(&call, &out));
 }

@@ -70,7 +70,7 @@ fn hold_spoiled(tally: &mut Tally, rng: &mut Rng, reasons: &[Spoil<Call>], short
     let mut call = cases::random(rng);
     let count = model::list(&call).len();
     spoil(rng, &mut call, reasons);
-    let len = if short { room::short(rng, count, FORM) } else { room::enough(rng, count, FORM) };
+    let len = room::len(rng, count, FORM, short);
     let out = rng.bytes(len);
     hold(tally, &call, &out, &model::forms(&call, &out));
 }

@@ -1,13 +1,14 @@
 //! Every refusal of `report_line`, alone and with others: which one is given, and what it leaves of the line.
 use super::cases;
+use super::hold;
 use super::model::{self, Call, MOST_LIST, MOST_MARKS, MOST_TAG};
-use super::{enough, hold, short};
 use crate::digest_groups::model::{MOST_NAMES, NAME};
 use crate::digest_groups::refusals::damage_names;
 use crate::entry::{Against, Context, Tally};
 use crate::protein_groups::model::{MEMBER, MOST_MEMBERS};
 use crate::refusals::{cut_within, scatter, spoil, Spoil, Turns};
 use crate::rng::Rng;
+use crate::room;
 
 fn bad_names(rng: &mut Rng, call: &mut Call) {
     damage_names(rng, &mut call.names);
@@ -73,7 +74,7 @@ const SPOILS: [Spoil<Call>; 7] = [bad_names, bad_members, bad_marks, bad_list, b
 fn hold_spoiled(tally: &mut Tally, rng: &mut Rng, reasons: &[Spoil<Call>], few: bool) {
     let mut call = cases::random(rng);
     let bytes = model::line(&call).text.len();
-    let out = if few && bytes > 0 { short(rng, bytes) } else { enough(rng, bytes) };
+    let out = room::bytes(rng, bytes, few);
     spoil(rng, &mut call, reasons);
     hold(tally, &call, &out, &model::report_line(&call, &out));
 }

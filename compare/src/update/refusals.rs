@@ -1,13 +1,14 @@
 //! Every refusal of update, alone and with others: which one is given, and what it leaves of the memory.
 use super::cases;
 use super::model::{self, Call};
-use super::{call, enough, hold, short};
+use super::{call, hold};
 use crate::calls::cover as calls;
 use crate::cover::model::{work_for, EDGE, MOST_EDGES, MOST_GROUPS, MOST_METAS};
 use crate::cover::refusals::{damage, large_counts, short_work};
 use crate::entry::{Against, Context, Tally};
 use crate::refusals::{spoil, Spoil, Turns};
 use crate::rng::Rng;
+use crate::room::{self, enough_bytes};
 
 fn bad_given(rng: &mut Rng, call: &mut Call) {
     let given = &mut call.given[..];
@@ -50,7 +51,7 @@ const SPOILS: [Spoil<Call>; 6] = [bad_old, bad_new, bad_given, little_work, no_l
 fn hold_spoiled(tally: &mut Tally, rng: &mut Rng, reasons: &[Spoil<Call>], few: bool) {
     let change = cases::random(rng);
     let mut call = call(rng, &change);
-    let out = if few && call.groups > 0 { short(rng, call.groups) } else { enough(rng, call.groups) };
+    let out = room::bytes(rng, call.groups, few);
     spoil(rng, &mut call, reasons);
     hold(tally, &(&call, out.len()), calls::update(&call, &out), &model::update(&call, &out));
 }
@@ -69,7 +70,7 @@ pub fn large(context: &Context) -> Tally {
             let work = vec![5; words * work_for(groups, metas, 2 * MOST_EDGES + old + new)];
             let (old, new) = (vec![0; (MOST_EDGES + old) * EDGE], vec![0; (MOST_EDGES + new) * EDGE + part]);
             let given = (0..groups).map(|_| rng.below(2) as u8).collect();
-            let (call, out) = (Call { old, new, groups, metas, given, work }, enough(rng, groups));
+            let (call, out) = (Call { old, new, groups, metas, given, work }, enough_bytes(rng, groups));
             hold(&mut tally, &(&call, out.len()), calls::update(&call, &out), &model::update(&call, &out));
         }
     }
