@@ -2,18 +2,17 @@
 use super::cases::{call, enzyme, protein, set_of};
 use super::model::{position, Call, Enzyme, Site, C_SIDE, END, NONE, N_SIDE, SET};
 use super::said::{ask_digests, ask_sites, read_digests, read_sites, Seen};
+use crate::asked::drawn;
 use crate::entry::Context;
-use crate::oracle::or_dash;
+use crate::fields::{letters_field, list_field};
 use crate::rng::Rng;
+use crate::sample::{Limits, Sample};
 
 const LINES: usize = 800;
 const LONGEST_LETTERS: usize = 40;
-const MOST_BYTES: usize = 60_000;
-/// Of lines without digests and of long ones there are few, so that many others fit into the file.
-const EMPTY_LINES: usize = 100;
-const LONG_LINES: usize = 20;
-const SHORT: usize = 130;
-const LONGEST: usize = 1000;
+/// There are few lines without digests.
+const LIMITS: Limits =
+    Limits { lines: LINES, bytes: 60_000, longest: 1000, of_the_sort: 100, long: 20, short: 130 };
 
 fn example(letters: &[u8], kind: u32, cleave: &[u8], missed: u32, bounds: (u32, u32)) -> Call {
     let (minimum, maximum) = bounds;
@@ -70,48 +69,21 @@ fn line(call: &Call, kept: &[Site]) -> String {
         let Site { start, end, missed, semi } = site;
         format!("{start}.{end}.{missed}.{semi}.{}", position(site, count))
     };
-    let letters = or_dash(String::from_utf8(call.letters.clone()).expect("letters"));
+    let letters = letters_field(&call.letters);
     let enzyme = format!("{kind} {cleave:08x} {skip:08x} {side} {semi} {missed} {minimum} {maximum}");
-    let digests = or_dash(kept.iter().map(write).collect::<Vec<_>>().join(";"));
+    let digests = list_field(kept.iter().map(write), ";");
     format!("{letters} {enzyme} {} {digests}\n", kept.len())
 }
 
-/// The lines that are taken, and how many may still be taken of each sort.
-struct Sample {
-    lines: String,
-    left: usize,
-    empty_left: usize,
-    long_left: usize,
-}
-
-impl Sample {
-    fn new() -> Sample {
-        Sample { lines: String::new(), left: LINES, empty_left: EMPTY_LINES, long_left: LONG_LINES }
-    }
-
-    fn add(&mut self, line: &str) {
-        let (empty, long) = (line.ends_with(" 0 -\n"), line.len() > SHORT);
-        let none_left = self.left == 0 || empty && self.empty_left == 0 || long && self.long_left == 0;
-        if none_left || line.len() > LONGEST || self.lines.len() + line.len() >= MOST_BYTES {
-            return;
-        }
-        self.lines += line;
-        self.left -= 1;
-        self.empty_left -= usize::from(empty);
-        self.long_left -= usize::from(long);
-    }
-}
-
 pub fn lines(context: &Context) -> String {
-    let rng = &mut context.rng("vectors: digests");
     let mut calls = examples();
-    calls.extend((0..4 * LINES).map(|_| random(rng)));
-    let mut sample = Sample::new();
+    calls.extend(drawn(context.rng("vectors: digests"), 4 * LINES, random));
+    let mut sample = Sample::new(LIMITS);
     let (sites, digests) = (ask_sites(&context.oracle, &calls), ask_digests(&context.oracle, &calls));
     for ((call, sites), digests) in calls.iter().zip(sites).zip(digests) {
         let sites = read_sites(&sites, call.letters.len());
         let kept = kept(&call.letters, &sites, &read_digests(&digests, 0));
-        sample.add(&line(call, &kept));
+        sample.add(&line(call, &kept), kept.is_empty());
     }
     sample.lines
 }

@@ -1,6 +1,7 @@
 //! A sample of the original's base masses.
 use super::cases::rust_letters;
 use crate::entry::Context;
+use crate::fields::letters_field;
 use crate::peptide_letters::{len, of_len};
 
 const LINES: usize = 300;
@@ -21,8 +22,7 @@ fn texts(context: &Context) -> Vec<Vec<u8>> {
 pub fn lines(context: &Context) -> String {
     let texts = texts(context);
     let line = |(letters, mass): (&Vec<u8>, Option<u32>)| {
-        let letters = std::str::from_utf8(letters).expect("letters");
-        format!("{letters} {:08x}\n", mass.expect("letters that have masses"))
+        format!("{} {:08x}\n", letters_field(letters), mass.expect("letters that have masses"))
     };
     texts.iter().zip(super::ask(&context.oracle, &texts)).map(line).collect()
 }

@@ -2,8 +2,8 @@
 use super::cases::Pass;
 use crate::cover::model::Edge;
 use crate::digest::said::panicked;
+use crate::fields::{digits_field, list_field};
 use crate::oracle::{or_dash, Oracle};
-use crate::protein_groups::said::{flags_field, numbers_field};
 use crate::report_lines::model::Line;
 
 fn text(bytes: &[u8]) -> &str {
@@ -14,7 +14,7 @@ fn text(bytes: &[u8]) -> &str {
 fn database(pass: &Pass) -> String {
     let pair = |(peptide, protein): &Edge| format!("{peptide}.{}", text(pass.name(*protein)));
     let pairs: Vec<String> = pass.pairs.iter().map(pair).collect();
-    format!("{}\t{}", flags_field(&pass.flags), or_dash(pairs.join(";")))
+    format!("{}\t{}", digits_field(&pass.flags), or_dash(pairs.join(";")))
 }
 
 fn tag(pass: &Pass) -> String {
@@ -22,7 +22,7 @@ fn tag(pass: &Pass) -> String {
 }
 
 fn line(pass: &Pass) -> String {
-    format!("LINES\t{}\t{}\t{}", database(pass), numbers_field(&pass.grouped, ","), tag(pass))
+    format!("LINES\t{}\t{}\t{}", database(pass), list_field(&pass.grouped, ","), tag(pass))
 }
 
 /// A row for each peptide: those that are not grouped have a label by which the original leaves them out.

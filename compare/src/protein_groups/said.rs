@@ -1,9 +1,9 @@
 //! What the original says of pairs. Its proteins have names: here a protein's number.
 use super::model::{Groups, Member};
 use crate::cover::model::Edge;
-use crate::cover::vectors::edges_field;
 use crate::digest::said::panicked;
-use crate::oracle::{or_dash, Oracle};
+use crate::fields::{digits_field, edges_field, list_field};
+use crate::oracle::Oracle;
 
 /// Pairs, the decoy flags of peptides, and the number of proteins.
 pub type Shown = (Vec<Edge>, Vec<u8>, usize);
@@ -17,16 +17,8 @@ pub fn with_pairs(pairs: &[Edge], flags: &[u8]) -> Vec<usize> {
     (0..flags.len()).filter(|peptide| paired[*peptide]).collect()
 }
 
-pub fn flags_field(flags: &[u8]) -> String {
-    or_dash(flags.iter().map(|flag| flag.to_string()).collect())
-}
-
-pub fn numbers_field<T: ToString>(numbers: &[T], separator: &str) -> String {
-    or_dash(numbers.iter().map(T::to_string).collect::<Vec<_>>().join(separator))
-}
-
 fn line((pairs, flags, _): &Shown, taking: &[usize]) -> String {
-    format!("GROUPP\t{}\t{}\t{}", flags_field(flags), edges_field(pairs), numbers_field(taking, ","))
+    format!("GROUPP\t{}\t{}\t{}", digits_field(flags), edges_field(pairs), list_field(taking, ","))
 }
 
 /// One answer for each list of pairs: only peptides with a pair take part.

@@ -1,9 +1,9 @@
 //! What the original says of the line of a peptide. It has names where ours has numbers.
 use super::model::{Call, Line};
 use crate::digest::said::panicked;
+use crate::fields::digits_field;
 use crate::oracle::{or_dash, Oracle};
 use crate::protein_groups::model::Member;
-use crate::protein_groups::said::flags_field;
 
 fn text(bytes: &[u8]) -> String {
     String::from_utf8(bytes.to_vec()).expect("bytes below 128")
@@ -21,7 +21,7 @@ fn line(call: &Call) -> String {
     let members: Vec<String> = call.members().map(member).collect();
     let proteins: Vec<String> = call.proteins.iter().map(|protein| text(call.name(*protein))).collect();
     let (members, proteins) = (or_dash(members.join(" ")), or_dash(proteins.join(" ")));
-    let (marks, tag) = (flags_field(&call.marks), or_dash(text(&call.tag)));
+    let (marks, tag) = (digits_field(&call.marks), or_dash(text(&call.tag)));
     let Call { decoy, generated, .. } = call;
     format!("REPORT\t{members}\t{marks}\t{proteins}\t{decoy}\t{tag}\t{generated}")
 }

@@ -2,25 +2,18 @@
 use super::model::{applying, Call, Line};
 use super::said::{ask, can_be_asked, read};
 use super::{cases, distinct};
-use crate::cover::vectors::{marks_field, sample};
-use crate::digest_groups::model::{name, NAME};
+use crate::asked::drawn;
 use crate::entry::Context;
+use crate::fields::{digits_field, list_field, members_field, names_field};
 use crate::oracle::hex;
-use crate::protein_groups::model::Member;
-use crate::protein_groups::said::numbers_field;
 use crate::rng::Rng;
+use crate::sample::sample;
 
 const CALLS: usize = 900;
 
-pub fn names_field(names: &[u8]) -> String {
-    numbers_field(&names.chunks(NAME).map(|record| hex(name(record))).collect::<Vec<_>>(), ";")
-}
-
 fn line(call: &Call, said: &Line) -> String {
-    let member = |Member { group, protein, decoy }: Member| format!("{group}.{protein}.{decoy}");
-    let members: Vec<String> = call.members().map(member).collect();
-    let (names, members) = (names_field(&call.names), numbers_field(&members, ";"));
-    let (marks, proteins) = (marks_field(&call.marks), numbers_field(&call.proteins, "."));
+    let (names, members) = (names_field(&call.names), members_field(call.members()));
+    let (marks, proteins) = (digits_field(&call.marks), list_field(&call.proteins, "."));
     let Call { decoy, generated, tag, .. } = call;
     let given = format!("{names} {members} {marks} {proteins} {decoy} {} {generated}", hex(tag));
     format!("{given} {} {}\n", said.groups, hex(&said.text))
@@ -36,8 +29,8 @@ fn some(rng: &mut Rng) -> Call {
 }
 
 pub fn lines(context: &Context) -> String {
-    let rng = &mut context.rng("vectors: report lines");
-    let calls: Vec<Call> = (0..CALLS).map(|_| some(rng)).filter(can_be_asked).collect();
+    let rng = context.rng("vectors: report lines");
+    let calls: Vec<Call> = drawn(rng, CALLS, some).filter(can_be_asked).collect();
     let answers = ask(&context.oracle, &calls);
     let same = |call: &Call| {
         let groups = applying(call);

@@ -1,21 +1,20 @@
 //! A sample of updates, touched parts as the original covers them alone.
 use super::cases::{self, Change};
 use super::{marks_of, p11};
-use crate::cover::vectors::{edges_field, marks_field, sample};
+use crate::asked::with_larger;
 use crate::entry::Context;
+use crate::fields::{digits_field, edges_field};
+use crate::sample::sample;
 
 const CHANGES: usize = 700;
 
 pub fn lines(context: &Context) -> String {
-    let rng = &mut context.rng("vectors: update");
     let mut changes: Vec<Change> = p11().map(|(change, _)| change).to_vec();
-    changes.extend(
-        (0..CHANGES).map(|number| if number % 20 == 0 { cases::larger(rng) } else { cases::random(rng) }),
-    );
+    changes.extend(with_larger(context.rng("vectors: update"), CHANGES, 20, cases::larger, cases::random));
     let line = |(change, [marks, _]): (&Change, [Vec<u8>; 2])| {
         let Change { old, new, groups, metas, given } = change;
-        let (old, new, given) = (edges_field(old), edges_field(new), marks_field(given));
-        format!("{groups} {metas} {old} {new} {given} {}\n", marks_field(&marks))
+        let (old, new, given) = (edges_field(old), edges_field(new), digits_field(given));
+        format!("{groups} {metas} {old} {new} {given} {}\n", digits_field(&marks))
     };
     sample(changes.iter().zip(marks_of(context, &changes)).map(line))
 }

@@ -1,0 +1,34 @@
+//! The fields of a line, as the original and the gate read them.
+use crate::cover::model::Edge;
+use crate::digest_groups::model::{name, NAME};
+use crate::oracle::{hex, or_dash};
+use crate::protein_groups::model::Member;
+
+/// Items, divided by a separator.
+pub fn list_field<T: ToString>(items: impl IntoIterator<Item = T>, separator: &str) -> String {
+    or_dash(items.into_iter().map(|item| item.to_string()).collect::<Vec<_>>().join(separator))
+}
+
+/// Marks or flags as digits.
+pub fn digits_field(digits: &[u8]) -> String {
+    list_field(digits, "")
+}
+
+/// Edges or pairs.
+pub fn edges_field(edges: &[Edge]) -> String {
+    list_field(edges.iter().map(|(group, meta)| format!("{group}.{meta}")), ";")
+}
+
+pub fn names_field(names: &[u8]) -> String {
+    list_field(names.chunks(NAME).map(|record| hex(name(record))), ";")
+}
+
+pub fn members_field(members: impl IntoIterator<Item = Member>) -> String {
+    let member = |Member { group, protein, decoy }: Member| format!("{group}.{protein}.{decoy}");
+    list_field(members.into_iter().map(member), ";")
+}
+
+/// Letters that the original was sent.
+pub fn letters_field(letters: &[u8]) -> String {
+    or_dash(String::from_utf8(letters.to_vec()).expect("letters"))
+}
