@@ -28,7 +28,11 @@ pub fn members_field(members: impl IntoIterator<Item = Member>) -> String {
     list_field(members.into_iter().map(member), ";")
 }
 
-/// Letters that the original was sent.
+/// Bytes as the original can be sent them.
+pub fn text(bytes: &[u8]) -> &str {
+    std::str::from_utf8(bytes).expect("bytes below 128")
+}
+
 pub fn letters_field(letters: &[u8]) -> String {
-    or_dash(String::from_utf8(letters.to_vec()).expect("letters"))
+    or_dash(text(letters).into())
 }

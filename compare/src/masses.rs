@@ -6,6 +6,7 @@ pub mod vectors;
 use crate::answer::*;
 use crate::calls::peptides as calls;
 use crate::entry::{Against, Context, Tally};
+use crate::fields::letters_field;
 use crate::oracle::Oracle;
 use crate::peptide_letters::{any_letter, any_letters, len, size_reason};
 use crate::rng::Rng;
@@ -16,8 +17,7 @@ use std::fmt::Debug;
 pub type Said = Option<u32>;
 
 fn line(letters: &[u8]) -> String {
-    let letters = if letters.is_empty() { b"-" } else { letters };
-    format!("MASS\t{}", std::str::from_utf8(letters).expect("what the original can be sent"))
+    format!("MASS\t{}", letters_field(letters))
 }
 
 fn read(answer: &str) -> Said {

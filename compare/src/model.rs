@@ -106,8 +106,12 @@ pub fn write(rule: Rule, out: &[u8]) -> Filled<u32> {
     Filled { answer, buffer }
 }
 
-fn word(bytes: &[u8], at: usize) -> u32 {
+pub fn word(bytes: &[u8], at: usize) -> u32 {
     u32::from_le_bytes(bytes[at..at + 4].try_into().expect("four bytes"))
+}
+
+pub fn put_word(bytes: &mut [u8], at: usize, word: u32) {
+    bytes[at..at + 4].copy_from_slice(&word.to_le_bytes());
 }
 
 fn is_record(record: Record) -> bool {

@@ -61,6 +61,16 @@ pub fn in_batches<T>(mut cases: impl Iterator<Item = T>, mut each: impl FnMut(&[
     }
 }
 
+pub fn panicked(answer: &str) -> bool {
+    answer.starts_with("PANIC")
+}
+
+/// An answer that is no panic.
+pub fn answered(answer: &str) -> &str {
+    assert!(!panicked(answer), "the oracle said {answer}");
+    answer
+}
+
 /// A text as a field of a line.
 pub fn or_dash(text: String) -> String {
     match text.is_empty() {

@@ -5,6 +5,7 @@ pub mod model;
 use crate::answer::*;
 use crate::calls::peptides as calls;
 use crate::entry::{Against, Context, Tally};
+use crate::fields::letters_field;
 use crate::masses;
 use crate::oracle::{hex, unhex, Oracle};
 use crate::peptide_letters::{any_letters, size_reason};
@@ -31,8 +32,7 @@ const ENDS: [u8; 2] = [7, 200];
 /// What the original makes of each peptide.
 fn ask(oracle: &Oracle, peptides: &[Peptide]) -> Vec<Peptide> {
     let line = |peptide: &Peptide| {
-        let letters = if peptide.letters.is_empty() { b"-" } else { &peptide.letters[..] };
-        let letters = std::str::from_utf8(letters).expect("what the original can be sent");
+        let letters = letters_field(&peptide.letters);
         let [nterm, cterm] = ENDS;
         format!("REVP\t{letters}\t{}\t{nterm}\t{cterm}\t{}", peptide.decoy, hex(&peptide.ids))
     };

@@ -6,16 +6,14 @@ use crate::answer::*;
 use crate::calls;
 use crate::digest::cases::{all_proteins, SMALL_LETTERS};
 use crate::entry::{Against, Context, Tally};
+use crate::fields::letters_field;
 use crate::oracle::Oracle;
 use crate::rng::Rng;
 use cases::*;
 
 /// The letters and the decoy flag of a digest, and what the original makes of it: these, or that it panics.
 fn ask(oracle: &Oracle, digests: &[(Vec<u8>, u8)]) -> Vec<Option<(Vec<u8>, u8)>> {
-    let line = |(letters, decoy): &(Vec<u8>, u8)| {
-        let letters = if letters.is_empty() { b"-" } else { &letters[..] };
-        format!("REVD\t{}\t{decoy}", std::str::from_utf8(letters).expect("what the original can be sent"))
-    };
+    let line = |(letters, decoy): &(Vec<u8>, u8)| format!("REVD\t{}\t{decoy}", letters_field(letters));
     let read = |answer: &String| {
         let (letters, decoy) = answer.rsplit_once(' ').expect("letters and a flag");
         let letters = if letters == "-" { "" } else { letters };

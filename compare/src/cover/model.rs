@@ -1,5 +1,6 @@
 //! Document 01's cover as plain Rust, sentence by sentence: each choice walks all edges, so for few choices.
 use crate::answer::*;
+use crate::model::word;
 use crate::room;
 use std::fmt;
 
@@ -41,7 +42,6 @@ pub fn bytes_of(edges: &[Edge]) -> Vec<u8> {
 
 /// The edges of whole records.
 pub fn read_edges(bytes: &[u8]) -> Vec<Edge> {
-    let word = |record: &[u8], at| u32::from_le_bytes(std::array::from_fn(|byte| record[at + byte]));
     bytes.chunks_exact(EDGE).map(|record| (word(record, 0), word(record, 4))).collect()
 }
 

@@ -4,8 +4,9 @@ use super::model::{self, work_for, Call, EDGE, MOST_EDGES, MOST_GROUPS, MOST_MET
 use super::said::{ask, Graph};
 use super::{call, hold};
 use crate::calls::cover as calls;
-use crate::digest::said::panicked;
 use crate::entry::{Against, Context, Tally};
+use crate::model::put_word;
+use crate::oracle::panicked;
 use crate::refusals::{cut_within, spoil, Spoil, Turns};
 use crate::rng::Rng;
 use crate::room::{self, enough_bytes};
@@ -17,7 +18,7 @@ pub fn damage(rng: &mut Rng, edges: &mut [u8], groups: usize, metas: usize) {
         let (half, most) = rng.pick(&[(0, groups as u32), (4, metas as u32)]);
         let number = rng.pick(&[most, most, most + 1, most | 1 << 16, most | 1 << 24, u32::MAX]);
         let at = rng.below(count) * EDGE + half;
-        edges[at..at + 4].copy_from_slice(&number.to_le_bytes());
+        put_word(edges, at, number);
     }
 }
 

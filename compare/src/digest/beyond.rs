@@ -2,9 +2,10 @@
 //! original says is counted by its reason.
 use super::cases::{call, enzyme, protein, set_of, too_many, ALL_LETTERS};
 use super::model::{self, Call, DIGEST, END, MOST_DIGESTS, MOST_LETTERS, SET};
-use super::said::{ask_digests, panicked, read_digests};
+use super::said::{ask_digests, read_digests};
 use crate::calls;
 use crate::entry::{Against, Context, Tally};
+use crate::oracle::panicked;
 use crate::rng::Rng;
 use crate::rule_texts::cases::rust_alphabet;
 

@@ -1,6 +1,6 @@
 //! Document 01's "Cutting" as plain Rust, sentence by sentence: quadratic, so for small proteins.
 use crate::answer::*;
-use crate::model;
+use crate::model::{self, put_word};
 use crate::room;
 use std::fmt;
 
@@ -163,10 +163,10 @@ pub fn position(site: &Site, count: usize) -> u8 {
 
 fn record(site: &Site, count: usize, protein: u32) -> [u8; DIGEST] {
     let mut record = [0; DIGEST];
-    record[..4].copy_from_slice(&(site.start as u32).to_le_bytes());
-    record[4..8].copy_from_slice(&(site.end as u32).to_le_bytes());
+    put_word(&mut record, 0, site.start as u32);
+    put_word(&mut record, 4, site.end as u32);
     record[8..12].copy_from_slice(&[site.missed, site.semi, position(site, count), 0]);
-    record[12..].copy_from_slice(&protein.to_le_bytes());
+    put_word(&mut record, 12, protein);
     record
 }
 

@@ -1,7 +1,9 @@
 //! What the original says of a protein: its digests, of which it keeps the letters and no range, and its sites.
 use super::model::{Call, Enzyme, Site, DIGEST, END, N_SIDE, SET};
 use crate::answer::{Checked, Fault};
-use crate::oracle::{or_dash, Oracle};
+use crate::fields::letters_field;
+use crate::model::word;
+use crate::oracle::{answered, or_dash, Oracle};
 
 /// A digest as far as the original shows it.
 #[derive(Clone, Copy, PartialEq)]
@@ -24,11 +26,10 @@ impl std::fmt::Debug for Seen<'_> {
 impl Seen<'_> {
     /// What a record of ours shows of its letters.
     pub fn of<'a>(record: &[u8], letters: &'a [u8]) -> Checked<Seen<'a>> {
-        let word = |at| u32::from_le_bytes(std::array::from_fn(|byte| record[at + byte]));
-        let range = word(0) as usize..word(4) as usize;
+        let range = word(record, 0) as usize..word(record, 4) as usize;
         let letters = letters.get(range.clone()).ok_or(Fault(format!("it wrote the range {range:?}")))?;
         let [missed, semi, position, decoy] = std::array::from_fn(|field| record[8 + field]);
-        Ok(Seen { letters, missed, semi, position, decoy, protein: word(12) })
+        Ok(Seen { letters, missed, semi, position, decoy, protein: word(record, 12) })
     }
 
     pub fn all<'a>(records: &[u8], letters: &'a [u8]) -> Checked<Vec<Seen<'a>>> {
@@ -53,10 +54,8 @@ fn enzyme_fields(enzyme: &Enzyme) -> String {
 }
 
 fn ask(oracle: &Oracle, word: &str, calls: &[Call]) -> Vec<String> {
-    let line = |call: &Call| {
-        let letters = String::from_utf8(call.letters.clone()).expect("what the original can be sent");
-        format!("{word}\t{}\t{}", or_dash(letters), enzyme_fields(&call.enzyme))
-    };
+    let line =
+        |call: &Call| format!("{word}\t{}\t{}", letters_field(&call.letters), enzyme_fields(&call.enzyme));
     oracle.ask(&calls.iter().map(line).collect::<Vec<_>>())
 }
 
@@ -69,13 +68,8 @@ pub fn ask_sites(oracle: &Oracle, calls: &[Call]) -> Vec<String> {
     ask(oracle, "SITES", calls)
 }
 
-pub fn panicked(answer: &str) -> bool {
-    answer.starts_with("PANIC")
-}
-
 fn items(answer: &str) -> impl Iterator<Item = &str> {
-    assert!(!panicked(answer), "the oracle said {answer}");
-    answer.split(';').filter(|item| *item != "-")
+    answered(answer).split(';').filter(|item| *item != "-")
 }
 
 fn number<T: std::str::FromStr>(field: Option<&str>) -> T {

@@ -1,7 +1,7 @@
 //! Document 01's "Grouping digests" as plain Rust, with what it says of catalogues, books and digests that are lent.
 use crate::answer::*;
 use crate::digest::model::{shown, DIGEST, MOST_DIGESTS, MOST_LETTERS, MOST_MISSED};
-use crate::model;
+use crate::model::{self, put_word, word};
 use crate::reversal::model::reversed;
 use crate::room;
 use std::collections::{BTreeMap, HashSet};
@@ -36,7 +36,7 @@ pub struct Digest {
 
 impl Digest {
     fn of(record: &[u8]) -> Digest {
-        let word = |at| u32::from_le_bytes(std::array::from_fn(|byte| record[at + byte]));
+        let word = |at| word(record, at);
         let [missed, semi, position, decoy] = std::array::from_fn(|field| record[8 + field]);
         Digest { start: word(0), end: word(4), missed, semi, position, decoy, protein: word(12) }
     }
@@ -44,10 +44,10 @@ impl Digest {
     pub fn bytes(&self) -> [u8; DIGEST] {
         let Digest { start, end, missed, semi, position, decoy, protein } = *self;
         let mut record = [0; DIGEST];
-        record[..4].copy_from_slice(&start.to_le_bytes());
-        record[4..8].copy_from_slice(&end.to_le_bytes());
+        put_word(&mut record, 0, start);
+        put_word(&mut record, 4, end);
         record[8..12].copy_from_slice(&[missed, semi, position, decoy]);
-        record[12..].copy_from_slice(&protein.to_le_bytes());
+        put_word(&mut record, 12, protein);
         record
     }
 }
@@ -193,8 +193,8 @@ impl Lists {
     pub fn push(&mut self, reference: &[u8; DIGEST], proteins: &[u32]) {
         let mut group = [0; GROUP];
         group[..DIGEST].copy_from_slice(reference);
-        group[DIGEST..DIGEST + 4].copy_from_slice(&(self.proteins.len() as u32).to_le_bytes());
-        group[DIGEST + 4..].copy_from_slice(&(proteins.len() as u32).to_le_bytes());
+        put_word(&mut group, DIGEST, self.proteins.len() as u32);
+        put_word(&mut group, DIGEST + 4, proteins.len() as u32);
         self.groups.push(group);
         self.proteins.extend(proteins);
     }

@@ -5,7 +5,7 @@ use super::{hold, rooms};
 use crate::digest::model::{DIGEST, MOST_DIGESTS, MOST_LETTERS};
 use crate::entry::{Against, Context, Tally};
 use crate::letters::NEAR_LETTERS;
-use crate::model::MOST_BOOK;
+use crate::model::{put_word, word, MOST_BOOK};
 use crate::refusals::{cut_within, scatter, spoil, Spoil, Turns};
 use crate::rng::Rng;
 
@@ -74,14 +74,9 @@ fn bad_letters(rng: &mut Rng, call: &mut Call) {
     scatter(rng, &mut call.letters, &NEAR_LETTERS);
 }
 
-fn put_word(record: &mut [u8], at: usize, word: u32) {
-    record[at..at + 4].copy_from_slice(&word.to_le_bytes());
-}
-
 /// One field out of range: an empty or reversed range, an end past the protein, a protein that is none, marks.
 fn bad_digest(rng: &mut Rng, record: &mut [u8], names: u32) {
-    let word = |at: usize| u32::from_le_bytes(std::array::from_fn(|byte| record[at + byte]));
-    let (start, end) = (word(0), word(4));
+    let (start, end) = (word(record, 0), word(record, 4));
     let above = |rng: &mut Rng, most: u8| rng.pick(&[most + 1, most + 2, 128, 255]);
     match rng.below(8) {
         0 => put_word(record, 4, start),

@@ -1,7 +1,7 @@
 //! What the original says of a list of digests. It has letters where ours has ranges, and names where ours has numbers.
 use super::model::{Call, Digest, Key, Lists};
-use crate::digest::said::panicked;
-use crate::oracle::{hex, or_dash, unhex, Oracle};
+use crate::fields::list_field;
+use crate::oracle::{answered, hex, unhex, Oracle};
 use std::collections::HashMap;
 
 fn item(call: &Call, digest: &Digest) -> String {
@@ -14,8 +14,7 @@ fn item(call: &Call, digest: &Digest) -> String {
 /// One answer for each call.
 pub fn ask(oracle: &Oracle, calls: &[Call]) -> Vec<String> {
     let line = |call: &Call| {
-        let items: Vec<String> = call.digests().map(|digest| item(call, &digest)).collect();
-        format!("GROUPD\t{}", or_dash(items.join(";")))
+        format!("GROUPD\t{}", list_field(call.digests().map(|digest| item(call, &digest)), ";"))
     };
     oracle.ask(&calls.iter().map(line).collect::<Vec<_>>())
 }
@@ -47,11 +46,10 @@ fn first_digests(call: &Call) -> HashMap<Key, Digest> {
 }
 
 pub fn read(call: &Call, answer: &str) -> Read {
-    assert!(!panicked(answer), "the oracle said {answer}");
     let numbers: HashMap<&[u8], u32> = call.names().zip(0..).collect();
     let first = first_digests(call);
     let mut read = Read::default();
-    let groups: Vec<&str> = answer.split(';').collect();
+    let groups: Vec<&str> = answered(answer).split(';').collect();
     for (place, group) in groups.iter().enumerate() {
         let (reference, names) = group.split_once(':').expect("a group of the oracle");
         let digest = first.get(&key_of(reference)).expect("letters of a digest");

@@ -6,6 +6,7 @@ use crate::asked::drawn;
 use crate::digest::model::DIGEST;
 use crate::entry::Context;
 use crate::fields::{letters_field, list_field, names_field};
+use crate::model::word;
 use crate::oracle::hex;
 use crate::rng::Rng;
 use crate::sample::{Limits, Sample};
@@ -20,8 +21,7 @@ fn line(call: &Call, lists: &Lists) -> String {
     let given = format!("{names} {} {letters} {}", list_field(&call.bounds, "."), hex(&call.digests));
     let group = |record: &[u8; 24]| {
         let number = call.digests.chunks(DIGEST).position(|digest| digest == &record[..DIGEST]);
-        let word = |at: usize| u32::from_le_bytes(std::array::from_fn(|byte| record[at + byte]));
-        format!("{}.{}.{}", number.expect("a digest"), word(16), word(20))
+        format!("{}.{}.{}", number.expect("a digest"), word(record, DIGEST), word(record, DIGEST + 4))
     };
     let groups = list_field(lists.groups.iter().map(group), ";");
     format!("{given} {} {groups} {}\n", lists.groups.len(), list_field(&lists.proteins, "."))

@@ -4,6 +4,7 @@ use crate::digest::model::DIGEST;
 use crate::letters::NEAR_LETTERS;
 use crate::masses::cases::{any_table, rust_letters, rust_masses, rust_water, table, water};
 use crate::masses::model::MASSES;
+use crate::model::{put_word, word};
 use crate::peptide_letters::{len, of_len};
 use crate::refusals::Spoil;
 use crate::reversal::cases::{exactly, record_of};
@@ -47,18 +48,17 @@ pub fn of_the_rust(rng: &mut Rng) -> Call {
 }
 
 pub fn range_of(record: &[u8]) -> (usize, usize) {
-    let word = |at: usize| u32::from_le_bytes(std::array::from_fn(|byte| record[at + byte])) as usize;
-    (word(0), word(4))
+    (word(record, 0) as usize, word(record, 4) as usize)
 }
 
-fn put_word(record: &mut [u8], at: usize, word: usize) {
-    record[at..at + 4].copy_from_slice(&(word as u32).to_le_bytes());
+fn put_place(record: &mut [u8], at: usize, place: usize) {
+    put_word(record, at, place as u32);
 }
 
 fn with_bad_size(rng: &mut Rng, call: &mut Call) {
     let (start, _) = range_of(&call.record);
     let size = rng.pick(&[65, 66, 128, 256, 320, 65_536, u32::MAX as usize - start]);
-    put_word(&mut call.record, 4, start + size);
+    put_place(&mut call.record, 4, start + size);
     if rng.once_in(500) {
         call.letters = exactly(rng, 65_537);
         *call = Call { record: record_of(rng, 0..3, 0), ..call.clone() };
@@ -98,11 +98,11 @@ fn with_bad_field(rng: &mut Rng, call: &mut Call) {
         1 => record[9] = rng.pick(&[2, 255]),
         2 => record[10] = rng.pick(&[4, 128, 255]),
         3 => record[11] = rng.pick(&[2, 129, 255]),
-        4 => put_word(record, 0, rng.pick(&[end, end + 1, u32::MAX as usize])),
+        4 => put_place(record, 0, rng.pick(&[end, end + 1, u32::MAX as usize])),
         _ => {
             let past = many + rng.pick(&[1, 2, 60]);
-            put_word(record, 4, past);
-            put_word(record, 0, start.max(past.saturating_sub(64)));
+            put_place(record, 4, past);
+            put_place(record, 0, start.max(past.saturating_sub(64)));
         }
     }
 }

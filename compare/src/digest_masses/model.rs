@@ -2,7 +2,7 @@
 use crate::answer::*;
 use crate::digest::model::{DIGEST, MOST_LETTERS};
 use crate::masses::model::{base_mass, mass, MASSES};
-use crate::model::is_letter;
+use crate::model::{is_letter, word};
 use crate::peptide_letters::MOST_LETTERS as MOST_OF_PEPTIDE;
 use crate::reversal::model::letters_of;
 use std::ops::Range;
@@ -18,8 +18,7 @@ pub struct Call {
 
 /// The range that a record names, whatever its fields are.
 fn named(record: &[u8; DIGEST]) -> Range<usize> {
-    let word = |at| u32::from_le_bytes(std::array::from_fn(|byte| record[at + byte])) as usize;
-    word(0)..word(4)
+    word(record, 0) as usize..word(record, 4) as usize
 }
 
 /// The first byte of a protein that is no letter, or a letter of mass zero inside the range.

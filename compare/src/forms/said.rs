@@ -1,18 +1,19 @@
 //! What the original says of forms.
 use super::model::{records, Call, Form, FORM, NO_CAP};
+use crate::fields::{letters_field, list_field};
 use crate::model::{Record, NO_LIMIT};
-use crate::oracle::{hex, or_dash, unhex, Oracle};
+use crate::oracle::{hex, unhex, Oracle};
 
 fn rules(bytes: &[u8]) -> String {
     let rule = |record: Record| {
         let limit = if record.limit == NO_LIMIT { "~".into() } else { record.limit.to_string() };
         format!("{}.{}.{}.{limit}", record.rule.kind, record.rule.letter, record.id)
     };
-    or_dash(records(bytes).into_iter().map(rule).collect::<Vec<_>>().join(";"))
+    list_field(records(bytes).into_iter().map(rule), ";")
 }
 
 fn line(call: &Call) -> String {
-    let letters = or_dash(String::from_utf8(call.letters.clone()).expect("what the original can be sent"));
+    let letters = letters_field(&call.letters);
     let Call { nterm, cterm, position, limit, .. } = call;
     let cap = if call.cap == NO_CAP { "-".into() } else { call.cap.to_string() };
     let (ids, variable, fixed) = (hex(&call.ids), rules(&call.variable), rules(&call.fixed));

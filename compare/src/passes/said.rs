@@ -1,24 +1,18 @@
 //! What the original says of a pass: the line of every peptide.
 use super::cases::Pass;
 use crate::cover::model::Edge;
-use crate::digest::said::panicked;
-use crate::fields::{digits_field, list_field};
-use crate::oracle::{or_dash, Oracle};
+use crate::fields::{digits_field, letters_field, list_field, text};
+use crate::oracle::{answered, Oracle};
 use crate::report_lines::model::Line;
-
-fn text(bytes: &[u8]) -> &str {
-    std::str::from_utf8(bytes).expect("bytes below 128")
-}
 
 /// The fields of flags and pairs.
 fn database(pass: &Pass) -> String {
     let pair = |(peptide, protein): &Edge| format!("{peptide}.{}", text(pass.name(*protein)));
-    let pairs: Vec<String> = pass.pairs.iter().map(pair).collect();
-    format!("{}\t{}", digits_field(&pass.flags), or_dash(pairs.join(";")))
+    format!("{}\t{}", digits_field(&pass.flags), list_field(pass.pairs.iter().map(pair), ";"))
 }
 
 fn tag(pass: &Pass) -> String {
-    format!("{}\t{}", or_dash(text(&pass.tag).into()), pass.generated)
+    format!("{}\t{}", letters_field(&pass.tag), pass.generated)
 }
 
 fn line(pass: &Pass) -> String {
@@ -30,8 +24,8 @@ fn rows(pass: &Pass) -> String {
     let row = |peptide: usize| {
         format!("{peptide}.{}.00000000", if pass.grouped.contains(&peptide) { 1 } else { -1 })
     };
-    let rows: Vec<String> = (0..pass.flags.len()).map(row).collect();
-    format!("ANNOT\t{}\t{}\t-\t{}\t1", database(pass), or_dash(rows.join(";")), tag(pass))
+    let rows = list_field((0..pass.flags.len()).map(row), ";");
+    format!("ANNOT\t{}\t{rows}\t-\t{}\t1", database(pass), tag(pass))
 }
 
 /// One answer for each pass.
@@ -42,12 +36,11 @@ pub fn ask(oracle: &Oracle, passes: &[Pass]) -> Vec<String> {
 /// No name is just `-` and no peptide has an empty line: `-` is a peptide without a line, and all of the answer where there are
 /// no peptides.
 pub fn read(answer: &str, peptides: usize) -> Vec<Line> {
-    assert!(!panicked(answer), "the oracle said {answer}");
     let line = |text: &str| match text {
         "-" => Line { text: vec![], groups: 0 },
         _ => Line { text: text.into(), groups: text.matches(';').count() as u32 + 1 },
     };
-    answer.split(' ').take(peptides).map(line).collect()
+    answered(answer).split(' ').take(peptides).map(line).collect()
 }
 
 pub fn ask_of_rows(oracle: &Oracle, passes: &[Pass]) -> Vec<String> {
@@ -56,10 +49,9 @@ pub fn ask_of_rows(oracle: &Oracle, passes: &[Pass]) -> Vec<String> {
 
 /// The text and the count of each row.
 pub fn read_rows(answer: &str, peptides: usize) -> Vec<Line> {
-    assert!(!panicked(answer), "the oracle said {answer}");
     let row = |row: &str| {
         let (groups, text) = row.split_once(':').expect("a row of the oracle");
         Line { text: text.into(), groups: groups.parse().expect("a number of the oracle") }
     };
-    answer.split(' ').take(peptides).map(row).collect()
+    answered(answer).split(' ').take(peptides).map(row).collect()
 }

@@ -1,6 +1,7 @@
 //! Document 01's grouping of proteins as plain Rust, sentence by sentence.
 use crate::answer::*;
 use crate::cover::model::{bytes_of, read_edges, shown, Edge, EDGE, MOST_EDGES, MOST_GROUPS, MOST_METAS};
+use crate::model::{put_word, word};
 use crate::room;
 use std::collections::{BTreeMap, BTreeSet, HashMap};
 use std::fmt;
@@ -44,15 +45,14 @@ pub struct Member {
 impl Member {
     pub fn bytes(&self) -> [u8; MEMBER] {
         let mut record = [0; MEMBER];
-        record[..4].copy_from_slice(&self.group.to_le_bytes());
-        record[4..8].copy_from_slice(&self.protein.to_le_bytes());
+        put_word(&mut record, 0, self.group);
+        put_word(&mut record, 4, self.protein);
         record[8] = self.decoy;
         record
     }
 
     pub fn of(record: &[u8]) -> Member {
-        let word = |at| u32::from_le_bytes(std::array::from_fn(|byte| record[at + byte]));
-        Member { group: word(0), protein: word(4), decoy: record[8] }
+        Member { group: word(record, 0), protein: word(record, 4), decoy: record[8] }
     }
 }
 

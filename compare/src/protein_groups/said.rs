@@ -1,9 +1,8 @@
 //! What the original says of pairs. Its proteins have names: here a protein's number.
 use super::model::{Groups, Member};
 use crate::cover::model::Edge;
-use crate::digest::said::panicked;
 use crate::fields::{digits_field, edges_field, list_field};
-use crate::oracle::Oracle;
+use crate::oracle::{answered, Oracle};
 
 /// Pairs, the decoy flags of peptides, and the number of proteins.
 pub type Shown = (Vec<Edge>, Vec<u8>, usize);
@@ -51,8 +50,7 @@ fn numbers<const N: usize>(item: &str) -> [u32; N] {
 }
 
 pub fn read(answer: &str) -> Read {
-    assert!(!panicked(answer), "the oracle said {answer}");
-    let parts: Vec<&str> = answer.split(" | ").collect();
+    let parts: Vec<&str> = answered(answer).split(" | ").collect();
     let edge = |item| {
         let [group, meta] = numbers(item);
         (group, meta)

@@ -5,6 +5,7 @@ use super::model::{self, Call, MOST_LIST, MOST_MARKS, MOST_TAG};
 use crate::digest_groups::model::{MOST_NAMES, NAME};
 use crate::digest_groups::refusals::damage_names;
 use crate::entry::{Against, Context, Tally};
+use crate::model::put_word;
 use crate::protein_groups::model::{MEMBER, MOST_MEMBERS};
 use crate::refusals::{cut_within, scatter, spoil, Spoil, Turns};
 use crate::rng::Rng;
@@ -22,8 +23,8 @@ fn bad_members(rng: &mut Rng, call: &mut Call) {
         let at = rng.below(count) * MEMBER;
         let record = &mut call.members[at..at + MEMBER];
         match rng.below(4) {
-            0 => record[..4].copy_from_slice(&above(rng, call.marks.len()).to_le_bytes()),
-            1 => record[4..8].copy_from_slice(&above(rng, names).to_le_bytes()),
+            0 => put_word(record, 0, above(rng, call.marks.len())),
+            1 => put_word(record, 4, above(rng, names)),
             2 => record[8] = rng.pick(&[2, 3, 128, 129, 255]),
             _ => record[9 + rng.below(3)] = rng.pick(&[1, 2, 128, 255]),
         }

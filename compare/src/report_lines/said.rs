@@ -1,13 +1,8 @@
 //! What the original says of the line of a peptide. It has names where ours has numbers.
 use super::model::{Call, Line};
-use crate::digest::said::panicked;
-use crate::fields::digits_field;
-use crate::oracle::{or_dash, Oracle};
+use crate::fields::{digits_field, letters_field, list_field, text};
+use crate::oracle::{answered, Oracle};
 use crate::protein_groups::model::Member;
-
-fn text(bytes: &[u8]) -> String {
-    String::from_utf8(bytes.to_vec()).expect("bytes below 128")
-}
 
 /// A list or a tag that is just `-` would be taken for none.
 pub fn can_be_asked(call: &Call) -> bool {
@@ -18,10 +13,9 @@ pub fn can_be_asked(call: &Call) -> bool {
 fn line(call: &Call) -> String {
     let member =
         |Member { group, protein, decoy }: Member| format!("{group}.{decoy}.{}", text(call.name(protein)));
-    let members: Vec<String> = call.members().map(member).collect();
-    let proteins: Vec<String> = call.proteins.iter().map(|protein| text(call.name(*protein))).collect();
-    let (members, proteins) = (or_dash(members.join(" ")), or_dash(proteins.join(" ")));
-    let (marks, tag) = (digits_field(&call.marks), or_dash(text(&call.tag)));
+    let names = call.proteins.iter().map(|protein| text(call.name(*protein)));
+    let (members, proteins) = (list_field(call.members().map(member), " "), list_field(names, " "));
+    let (marks, tag) = (digits_field(&call.marks), letters_field(&call.tag));
     let Call { decoy, generated, .. } = call;
     format!("REPORT\t{members}\t{marks}\t{proteins}\t{decoy}\t{tag}\t{generated}")
 }
@@ -32,8 +26,7 @@ pub fn ask<'a>(oracle: &Oracle, calls: impl IntoIterator<Item = &'a Call>) -> Ve
 }
 
 pub fn read(answer: &str) -> Line {
-    assert!(!panicked(answer), "the oracle said {answer}");
-    let (groups, text) = answer.split_once(' ').expect("an answer of the oracle");
+    let (groups, text) = answered(answer).split_once(' ').expect("an answer of the oracle");
     let groups = groups.parse().expect("a number of the oracle");
     Line { text: if groups == 0 { vec![] } else { text.into() }, groups }
 }

@@ -1,7 +1,7 @@
 //! Document 01's reversal of letters and of digest records as plain Rust.
 use crate::answer::*;
 use crate::digest::model::{DIGEST, MOST_LETTERS, MOST_MISSED};
-use crate::model;
+use crate::model::{self, word};
 use std::ops::Range;
 
 /// All but the first and the last reversed.
@@ -24,8 +24,7 @@ pub fn letters_reverse(letters: &[u8]) -> Filled<()> {
 
 /// The range of a record whose fields are in order, for a protein of at most so many letters.
 fn range(record: &[u8; DIGEST], most: usize) -> Option<Range<usize>> {
-    let word = |at| u32::from_le_bytes(std::array::from_fn(|byte| record[at + byte])) as usize;
-    let (start, end) = (word(0), word(4));
+    let (start, end) = (word(record, 0) as usize, word(record, 4) as usize);
     let [missed, semi, position, decoy] = std::array::from_fn(|field| u32::from(record[8 + field]));
     let fields = missed <= MOST_MISSED && semi <= 1 && position <= 3 && decoy <= 1;
     (fields && start < end && end <= most).then_some(start..end)
