@@ -125,7 +125,7 @@ uint32_t sendumaal_cover(const uint8_t *edges, size_t edges_len, uint32_t groups
         if (planted("cover: a byte past the marks is written"))
             marks[groups] ^= 1;
         if (planted("cover: the work memory to spare is not cleared"))
-            copy_bytes(work + work_len - work_len / 8, work_before + work_len - work_len / 8, 4 * (work_len / 8));
+            put_back_end(work, work_before, work_len);
     }
     if (planted("cover: 11 leaves the marks as they were") && number == 11)
         copy_bytes(marks, marks_before, marks_len);
