@@ -44,44 +44,46 @@ impl<C, A> Asked<C, A> {
         self.hold_in(tally, context, &mut context.rng(self.rooms), cases);
     }
 
-    /// An entry of the cases that are made from its stream.
-    pub fn entry<I: IntoIterator<Item = C>>(
-        &self,
-        context: &Context,
-        name: &'static str,
-        cases: impl FnOnce(Rng) -> I,
-    ) -> Tally {
-        let mut tally = Tally::new(name, Against::Rust);
-        self.hold_all(&mut tally, context, cases(context.rng(&stream(name))));
-        tally
+    pub fn entry<'a>(&'a self, context: &'a Context, name: &'static str) -> Cases<'a, C, A> {
+        let rng = context.rng(&stream(name));
+        Cases { asked: self, context, tally: Tally::new(name, Against::Rust), rng }
+    }
+}
+
+/// The cases of an entry, made from its stream.
+pub struct Cases<'a, C: 'static, A: 'static> {
+    asked: &'a Asked<C, A>,
+    context: &'a Context,
+    tally: Tally,
+    rng: Rng,
+}
+
+impl<C, A> Cases<'_, C, A> {
+    pub fn made<I: IntoIterator<Item = C>>(mut self, cases: impl FnOnce(Rng) -> I) -> Tally {
+        self.asked.hold_all(&mut self.tally, self.context, cases(self.rng));
+        self.tally
     }
 
-    /// The same for cases so large that they are asked about one at a time, each with the first rooms.
-    pub fn one_by_one<I: IntoIterator<Item = C>>(
-        &self,
-        context: &Context,
-        name: &'static str,
-        cases: impl FnOnce(Rng) -> I,
-    ) -> Tally {
-        let mut tally = Tally::new(name, Against::Rust);
-        for case in cases(context.rng(&stream(name))) {
-            self.hold_all(&mut tally, context, [case]);
+    /// So many cases, drawn one by one.
+    pub fn drawn(self, count: usize, draw: fn(&mut Rng) -> C) -> Tally {
+        self.made(|rng| drawn(rng, count, draw))
+    }
+
+    /// Cases so large that they are asked about one at a time, each with the first rooms.
+    pub fn one_by_one<I: IntoIterator<Item = C>>(mut self, cases: impl FnOnce(Rng) -> I) -> Tally {
+        for case in cases(self.rng) {
+            self.asked.hold_all(&mut self.tally, self.context, [case]);
         }
-        tally
+        self.tally
     }
 
-    /// An entry that holds the model against the original.
-    pub fn model<I: IntoIterator<Item = C>>(
-        &self,
-        context: &Context,
-        name: &'static str,
-        cases: impl FnOnce(Rng) -> I,
-        hold: fn(&mut Tally, &C, A),
-    ) -> Tally {
-        let mut tally = Tally::new(name, Against::Rust);
-        let cases = cases(context.rng(&stream(name)));
-        self.each(context, cases, |case, answer| hold(&mut tally, case, answer));
-        tally
+    /// Holds the model against the original.
+    pub fn model<I>(mut self, cases: impl FnOnce(Rng) -> I, hold: fn(&mut Tally, &C, A)) -> Tally
+    where
+        I: IntoIterator<Item = C>,
+    {
+        self.asked.each(self.context, cases(self.rng), |case, answer| hold(&mut self.tally, case, answer));
+        self.tally
     }
 }
 

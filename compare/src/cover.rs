@@ -6,7 +6,7 @@ pub mod said;
 pub mod vectors;
 
 use crate::answer::*;
-use crate::asked::{drawn, with_larger, Asked};
+use crate::asked::{with_larger, Asked};
 use crate::calls::cover as calls;
 use crate::entry::{Against, Context, Tally};
 use crate::rng::Rng;
@@ -41,30 +41,30 @@ const GRAPHS: Asked<Graph> = Asked {
 };
 
 pub fn small_graphs(context: &Context) -> Tally {
-    GRAPHS.entry(context, "cover: small graphs", |_| cases::exhaustive())
+    GRAPHS.entry(context, "cover: small graphs").made(|_| cases::exhaustive())
 }
 
 pub fn random_graphs(context: &Context) -> Tally {
-    GRAPHS.entry(context, "cover: random graphs", |rng| drawn(rng, 250_000, cases::random))
+    GRAPHS.entry(context, "cover: random graphs").drawn(250_000, cases::random)
 }
 
 pub fn larger_graphs(context: &Context) -> Tally {
-    GRAPHS.entry(context, "cover: larger graphs", |rng| drawn(rng, 20_000, cases::larger))
+    GRAPHS.entry(context, "cover: larger graphs").drawn(20_000, cases::larger)
 }
 
 pub fn long_graphs(context: &Context) -> Tally {
-    GRAPHS.entry(context, "cover: long graphs", |mut rng| cases::long(&mut rng))
+    GRAPHS.entry(context, "cover: long graphs").made(|mut rng| cases::long(&mut rng))
 }
 
 pub fn greatest_graphs(context: &Context) -> Tally {
-    GRAPHS.one_by_one(context, "cover: the most", |mut rng| cases::greatest(&mut rng))
+    GRAPHS.entry(context, "cover: the most").one_by_one(|mut rng| cases::greatest(&mut rng))
 }
 
 pub fn model_marks(context: &Context) -> Tally {
     let graphs = |rng| {
         cases::exhaustive().into_iter().chain(with_larger(rng, 60_000, 30, cases::larger, cases::random))
     };
-    GRAPHS.model(context, "model: cover", graphs, |tally, graph, answer| {
+    GRAPHS.entry(context, "model: cover").model(graphs, |tally, graph, answer| {
         let (edges, groups, metas) = graph;
         tally.case(graph, &Ok(model::marks(edges, *groups, *metas)), &read(&answer));
     })

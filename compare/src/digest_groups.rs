@@ -7,7 +7,7 @@ pub mod said;
 pub mod vectors;
 
 use crate::answer::{Checked, Fault};
-use crate::asked::{drawn, with_larger, Asked};
+use crate::asked::{with_larger, Asked};
 use crate::calls::digest_groups as calls;
 use crate::entry::{Against, Context, Tally};
 use crate::oracle::panicked;
@@ -106,22 +106,24 @@ const CALLS: Asked<Call> = Asked {
 };
 
 pub fn small_lists(context: &Context) -> Tally {
-    CALLS.entry(context, "digest groups: small lists", |mut rng| cases::exhaustive(&mut rng))
+    CALLS.entry(context, "digest groups: small lists").made(|mut rng| cases::exhaustive(&mut rng))
 }
 
 pub fn random_lists(context: &Context) -> Tally {
-    CALLS.entry(context, "digest groups: random lists", |rng| drawn(rng, 240_000, cases::small))
+    CALLS.entry(context, "digest groups: random lists").drawn(240_000, cases::small)
 }
 
 pub fn long_lists(context: &Context) -> Tally {
-    CALLS.entry(context, "digest groups: long lists", |rng| drawn(rng, 10_000, cases::long))
+    CALLS.entry(context, "digest groups: long lists").drawn(10_000, cases::long)
 }
 
 pub fn model_lists(context: &Context) -> Tally {
     let calls = |rng| with_larger(rng, 60_000, 30, cases::long, cases::small);
-    CALLS.model(context, "model: digest groups", calls, |tally, call, answer| match lists_of(call, &answer) {
-        Ok(read) => tally.case(call, &Ok(model::lists(call)), &read.lists),
-        Err(Fault(fault)) => tally.fail(call, &fault),
+    CALLS.entry(context, "model: digest groups").model(calls, |tally, call, answer| {
+        match lists_of(call, &answer) {
+            Ok(read) => tally.case(call, &Ok(model::lists(call)), &read.lists),
+            Err(Fault(fault)) => tally.fail(call, &fault),
+        }
     })
 }
 

@@ -59,16 +59,16 @@ pub fn small_peptides(context: &Context) -> Tally {
 }
 
 pub fn random_peptides(context: &Context) -> Tally {
-    PEPTIDES.entry(context, "forms: random peptides", |rng| drawn(rng, 280_000, cases::random))
+    PEPTIDES.entry(context, "forms: random peptides").drawn(280_000, cases::random)
 }
 
 pub fn long_peptides(context: &Context) -> Tally {
-    PEPTIDES.entry(context, "forms: long peptides", |rng| drawn(rng, 8000, cases::long))
+    PEPTIDES.entry(context, "forms: long peptides").drawn(8000, cases::long)
 }
 
 pub fn model_forms(context: &Context) -> Tally {
     let calls = |rng| drawn(rng, 60_000, cases::random);
-    PEPTIDES.model(context, "model: forms", calls, |tally, call, answer| {
+    PEPTIDES.entry(context, "model: forms").model(calls, |tally, call, answer| {
         tally.case(call, &Ok(model::list(call)), &read(&answer));
     })
 }

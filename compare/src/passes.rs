@@ -4,7 +4,7 @@ pub mod said;
 pub mod vectors;
 
 use crate::answer::{Answer, Checked, Fault};
-use crate::asked::{drawn, with_larger, Asked};
+use crate::asked::{with_larger, Asked};
 use crate::calls::{cover as covers, protein_groups, report_lines};
 use crate::cover::model as cover;
 use crate::entry::{Against, Context, Tally};
@@ -65,11 +65,11 @@ const PASSES: Asked<Pass> = Asked {
 };
 
 pub fn small_passes(context: &Context) -> Tally {
-    PASSES.entry(context, "passes: small", |rng| drawn(rng, 60_000, cases::small))
+    PASSES.entry(context, "passes: small").drawn(60_000, cases::small)
 }
 
 pub fn larger_passes(context: &Context) -> Tally {
-    PASSES.entry(context, "passes: larger", |rng| drawn(rng, 2000, cases::larger))
+    PASSES.entry(context, "passes: larger").drawn(2000, cases::larger)
 }
 
 /// P10: the cover of its groups is {10}.
@@ -103,5 +103,5 @@ const ROWS: Asked<Pass> = Asked {
 };
 
 pub fn annotated_rows(context: &Context) -> Tally {
-    ROWS.entry(context, "passes: rows", |rng| with_larger(rng, 30_000, 50, cases::larger, cases::small))
+    ROWS.entry(context, "passes: rows").made(|rng| with_larger(rng, 30_000, 50, cases::larger, cases::small))
 }

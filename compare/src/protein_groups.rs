@@ -5,7 +5,7 @@ pub mod refusals;
 pub mod said;
 pub mod vectors;
 
-use crate::asked::{drawn, with_larger, Asked};
+use crate::asked::{with_larger, Asked};
 use crate::calls::protein_groups as calls;
 use crate::cover::model::{bytes_of, EDGE};
 use crate::entry::{Against, Context, Tally};
@@ -75,28 +75,28 @@ const LISTS: Asked<Shown> = Asked {
 };
 
 pub fn small_lists(context: &Context) -> Tally {
-    LISTS.entry(context, "protein groups: small lists", |_| cases::exhaustive())
+    LISTS.entry(context, "protein groups: small lists").made(|_| cases::exhaustive())
 }
 
 pub fn random_lists(context: &Context) -> Tally {
-    LISTS.entry(context, "protein groups: random lists", |rng| drawn(rng, 250_000, cases::random))
+    LISTS.entry(context, "protein groups: random lists").drawn(250_000, cases::random)
 }
 
 pub fn larger_lists(context: &Context) -> Tally {
-    LISTS.entry(context, "protein groups: larger lists", |rng| drawn(rng, 15_000, cases::larger))
+    LISTS.entry(context, "protein groups: larger lists").drawn(15_000, cases::larger)
 }
 
 pub fn long_lists(context: &Context) -> Tally {
-    LISTS.entry(context, "protein groups: long lists", |mut rng| cases::long(&mut rng))
+    LISTS.entry(context, "protein groups: long lists").made(|mut rng| cases::long(&mut rng))
 }
 
 pub fn greatest_lists(context: &Context) -> Tally {
-    LISTS.one_by_one(context, "protein groups: the most", |mut rng| cases::greatest(&mut rng))
+    LISTS.entry(context, "protein groups: the most").one_by_one(|mut rng| cases::greatest(&mut rng))
 }
 
 pub fn model_lists(context: &Context) -> Tally {
     let lists = |rng| with_larger(rng, 60_000, 30, cases::larger, cases::random);
-    LISTS.model(context, "model: protein groups", lists, |tally, shown, answer| {
+    LISTS.entry(context, "model: protein groups").model(lists, |tally, shown, answer| {
         let (pairs, flags, _) = shown;
         tally.case(shown, &Ok(model::groups(pairs, flags)), &read(&answer).groups);
     })

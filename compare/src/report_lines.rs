@@ -63,30 +63,30 @@ const CALLS: Asked<Call> = Asked {
 
 pub fn small_calls(context: &Context) -> Tally {
     let calls = |_| cases::exhaustive().into_iter().filter(can_be_asked);
-    CALLS.entry(context, "report lines: small calls", calls)
+    CALLS.entry(context, "report lines: small calls").made(calls)
 }
 
 pub fn random_calls(context: &Context) -> Tally {
     let calls = |rng| drawn(rng, 250_000, cases::random).filter(can_be_asked);
-    CALLS.entry(context, "report lines: random calls", calls)
+    CALLS.entry(context, "report lines: random calls").made(calls)
 }
 
 pub fn larger_calls(context: &Context) -> Tally {
     let calls = |rng| drawn(rng, 10_000, cases::larger).filter(can_be_asked);
-    CALLS.entry(context, "report lines: larger calls", calls)
+    CALLS.entry(context, "report lines: larger calls").made(calls)
 }
 
 /// Numbers around which the library takes more memory.
 pub fn long_calls(context: &Context) -> Tally {
     let sizes = [vec![1024; 48], vec![16_384; 18], vec![65_536; 18]].concat().into_iter();
-    CALLS.entry(context, "report lines: long calls", |mut rng| {
-        sizes.map(move |most| cases::around(&mut rng, most)).filter(can_be_asked)
-    })
+    CALLS
+        .entry(context, "report lines: long calls")
+        .made(|mut rng| sizes.map(move |most| cases::around(&mut rng, most)).filter(can_be_asked))
 }
 
 pub fn model_lines(context: &Context) -> Tally {
     let calls = |rng| with_larger(rng, 60_000, 30, cases::larger, cases::random).filter(can_be_asked);
-    CALLS.model(context, "model: report lines", calls, |tally, call, answer| {
+    CALLS.entry(context, "model: report lines").model(calls, |tally, call, answer| {
         tally.case(call, &Ok(line_of(call, &distinct(&applying(call)))), &read(&answer));
     })
 }

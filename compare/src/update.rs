@@ -5,7 +5,7 @@ pub mod model;
 pub mod refusals;
 pub mod vectors;
 
-use crate::asked::{drawn, with_larger, Asked};
+use crate::asked::{with_larger, Asked};
 use crate::calls::cover as calls;
 use crate::cover::cases::work;
 use crate::cover::hold;
@@ -80,23 +80,23 @@ const CHANGES: Asked<Change, [Vec<u8>; 2]> =
     Asked { ask: marks_of, hold: hold_to_rust, rooms: "update, rooms" };
 
 pub fn small_changes(context: &Context) -> Tally {
-    CHANGES.entry(context, "update: small changes", |_| cases::exhaustive())
+    CHANGES.entry(context, "update: small changes").made(|_| cases::exhaustive())
 }
 
 pub fn random_changes(context: &Context) -> Tally {
-    CHANGES.entry(context, "update: random changes", |rng| drawn(rng, 240_000, cases::random))
+    CHANGES.entry(context, "update: random changes").drawn(240_000, cases::random)
 }
 
 pub fn larger_changes(context: &Context) -> Tally {
-    CHANGES.entry(context, "update: larger changes", |rng| drawn(rng, 15_000, cases::larger))
+    CHANGES.entry(context, "update: larger changes").drawn(15_000, cases::larger)
 }
 
 /// One path through all groups, and many paths of which one is touched.
 pub fn greatest_changes(context: &Context) -> Tally {
     let lengths = [MOST_GROUPS, MOST_GROUPS / 2, 1000].into_iter();
-    CHANGES.one_by_one(context, "update: the most", |mut rng| {
-        lengths.map(move |length| cases::along_paths(&mut rng, length))
-    })
+    CHANGES
+        .entry(context, "update: the most")
+        .one_by_one(|mut rng| lengths.map(move |length| cases::along_paths(&mut rng, length)))
 }
 
 /// P11: old (0,0),(1,0),(2,1),(3,1), new adds (0,2). Marks 0101 become 1001; marks 0110 become 1010.
@@ -126,7 +126,7 @@ pub fn examples(context: &Context) -> Tally {
 /// The model, of which the entries above take which groups are touched, holds on its own too.
 pub fn model_marks(context: &Context) -> Tally {
     let changes = |rng| with_larger(rng, 60_000, 30, cases::larger, cases::random);
-    CHANGES.model(context, "model: update", changes, |tally, change, [alone, _]| {
+    CHANGES.entry(context, "model: update").model(changes, |tally, change, [alone, _]| {
         let Change { old, new, groups, metas, given } = change;
         tally.case(change, &Ok(model::marks(old, new, *groups, *metas, given)), &alone);
     })
