@@ -77,10 +77,10 @@ pub fn fixed_rules_test(rules: &[u8]) -> Checked<Answer<()>> {
 pub fn rule_parse(text: &[u8], alphabet: u32) -> Checked<Answer<Rule>> {
     lend(text, |mut text| {
         let (mut kind, mut letter, mut place) = (Lent::result(), Lent::result(), Lent::result());
-        let (pointer, len) = (text.pointer(), text.len());
+        let (text_at, text_len) = text.parts();
         let number = unsafe {
             let (kind, letter) = (kind.pointer(), letter.pointer());
-            ffi::sendumaal_rule_parse(pointer, len, alphabet, kind, letter, place.pointer())
+            ffi::sendumaal_rule_parse(text_at, text_len, alphabet, kind, letter, place.pointer())
         };
         let lent: [(&str, &dyn Memory, May); 3] =
             [("text", &text, May::Read), ("kind", &kind, May::Answer), ("letter", &letter, May::Answer)];
@@ -93,10 +93,10 @@ pub fn rule_parse(text: &[u8], alphabet: u32) -> Checked<Answer<Rule>> {
 pub fn rule_write(rule: Rule, out: &[u8]) -> Checked<Filled<u32>> {
     lend(out, |mut out| {
         let (mut count, mut place) = (Lent::result(), Lent::result());
-        let (pointer, len) = (out.pointer(), out.len());
+        let (out_at, out_len) = out.parts();
         let number = unsafe {
             let Rule { kind, letter } = rule;
-            ffi::sendumaal_rule_write(kind, letter, pointer, len, count.pointer(), place.pointer())
+            ffi::sendumaal_rule_write(kind, letter, out_at, out_len, count.pointer(), place.pointer())
         };
         let said = answer(number, &place, &[("out", &out, May::Fill), ("count", &count, May::Answer)])?;
         Ok(Filled { answer: said.map(|()| count.value()), buffer: out.contents().to_vec() })
@@ -107,10 +107,10 @@ pub fn rule_read(rules: &[u8], index: usize) -> Checked<Answer<Record>> {
     lend(rules, |mut rules| {
         let mut parts: [Lent<u32>; 4] = std::array::from_fn(|_| Lent::result());
         let mut place = Lent::result();
-        let (pointer, len) = (rules.pointer(), rules.len());
+        let (rules_at, rules_len) = rules.parts();
         let [kind, letter, id, limit] = parts.each_mut().map(Lent::pointer);
         let number = unsafe {
-            ffi::sendumaal_rule_read(pointer, len, index, kind, letter, id, limit, place.pointer())
+            ffi::sendumaal_rule_read(rules_at, rules_len, index, kind, letter, id, limit, place.pointer())
         };
         let [kind, letter, id, limit] = &parts;
         let lent: [(&str, &dyn Memory, May); 5] = [
@@ -129,10 +129,10 @@ pub fn rule_read(rules: &[u8], index: usize) -> Checked<Answer<Record>> {
 pub fn rule_record(record: Record, out: &[u8]) -> Checked<Filled<()>> {
     lend(out, |mut out| {
         let mut place = Lent::result();
-        let (pointer, len) = (out.pointer(), out.len());
+        let (out_at, out_len) = out.parts();
         let number = unsafe {
             let Record { rule: Rule { kind, letter }, id, limit } = record;
-            ffi::sendumaal_rule_record(kind, letter, id, limit, pointer, len, place.pointer())
+            ffi::sendumaal_rule_record(kind, letter, id, limit, out_at, out_len, place.pointer())
         };
         let said = answer(number, &place, &[("out", &out, May::Fill)])?;
         Ok(Filled { answer: said, buffer: out.contents().to_vec() })
@@ -143,10 +143,10 @@ pub fn rule_record(record: Record, out: &[u8]) -> Checked<Filled<()>> {
 pub fn modification_id(table: &[u8], count: u32, mass_bits: u32, name: u32) -> Checked<Filled<u32>> {
     lend(table, |mut table| {
         let (mut id, mut place) = (Lent::result(), Lent::result());
-        let (pointer, len) = (table.pointer(), table.len());
+        let (table_at, table_len) = table.parts();
         let number = unsafe {
             let (id, place) = (id.pointer(), place.pointer());
-            ffi::sendumaal_modification_id(pointer, len, count, mass_bits, name, id, place)
+            ffi::sendumaal_modification_id(table_at, table_len, count, mass_bits, name, id, place)
         };
         let said = answer(number, &place, &[("table", &table, May::Fill), ("id", &id, May::Answer)])?;
         Ok(Filled { answer: said.map(|()| id.value()), buffer: table.contents().to_vec() })
@@ -158,15 +158,15 @@ pub fn digest(call: &Call, out: &[u8]) -> Checked<Filled<u32>> {
     let Enzyme { kind, cleave, skip, side, semi, missed, minimum, maximum } = call.enzyme;
     let (alphabet, protein) = (call.alphabet, call.protein);
     lend(&call.letters, |mut letters| {
-        let (first, many) = (letters.pointer(), letters.len());
+        let (letters_at, letters_len) = letters.parts();
         lend(out, |mut out| {
             let (mut count, mut place) = (Lent::result(), Lent::result());
-            let (pointer, len) = (out.pointer(), out.len());
+            let (out_at, out_len) = out.parts();
             #[rustfmt::skip]
             let number = unsafe {
                 ffi::sendumaal_digest(
-                    first, many, alphabet, kind, cleave, skip, side, semi, missed, minimum, maximum, protein,
-                    pointer, len, count.pointer(), place.pointer(),
+                    letters_at, letters_len, alphabet, kind, cleave, skip, side, semi, missed, minimum, maximum, protein,
+                    out_at, out_len, count.pointer(), place.pointer(),
                 )
             };
             let lent: [(&str, &dyn Memory, May); 3] =
@@ -200,15 +200,18 @@ pub fn digest_reverse(record: &[u8]) -> Checked<Filled<()>> {
 /// The answer is the number of letters.
 pub fn digest_letters(letters: &[u8], record: &[u8], out: &[u8]) -> Checked<Filled<u32>> {
     lend(letters, |mut letters| {
-        let (first, many) = (letters.pointer(), letters.len());
+        let (letters_at, letters_len) = letters.parts();
         lend(record, |mut record| {
-            let (bytes, size) = (record.pointer(), record.len());
+            let (record_at, record_len) = record.parts();
             lend(out, |mut out| {
                 let (mut count, mut place) = (Lent::result(), Lent::result());
-                let (pointer, len) = (out.pointer(), out.len());
+                let (out_at, out_len) = out.parts();
+                #[rustfmt::skip]
                 let number = unsafe {
-                    let (count, place) = (count.pointer(), place.pointer());
-                    ffi::sendumaal_digest_letters(first, many, bytes, size, pointer, len, count, place)
+                    ffi::sendumaal_digest_letters(
+                        letters_at, letters_len, record_at, record_len, out_at, out_len,
+                        count.pointer(), place.pointer(),
+                    )
                 };
                 let lent: [(&str, &dyn Memory, May); 4] = [
                     ("letters", &letters, May::Read),

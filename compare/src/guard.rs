@@ -70,6 +70,11 @@ impl<T: Element> Lent<T> {
         self.now.len() - 2 * GUARD
     }
 
+    /// A slice as C takes it.
+    pub fn parts(&mut self) -> (*mut T, usize) {
+        (self.pointer(), self.len())
+    }
+
     pub fn contents(&self) -> &[T] {
         &self.now[GUARD..GUARD + self.len()]
     }

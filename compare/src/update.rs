@@ -57,8 +57,8 @@ fn marks_of(context: &Context, changes: &[Change]) -> Vec<[Vec<u8>; 2]> {
 pub fn call(rng: &mut Rng, change: &Change) -> Call {
     let Change { old, new, groups, metas, given } = change;
     let work = work(rng, *groups, *metas, old.len() + new.len());
-    let (old, new) = (bytes_of(old), bytes_of(new));
-    Call { old, new, groups: *groups, metas: *metas, given: given.clone(), work }
+    let (old_edges, new_edges) = (bytes_of(old), bytes_of(new));
+    Call { old_edges, new_edges, groups: *groups, metas: *metas, given: given.clone(), work }
 }
 
 /// Holds a call with room and, once in four times, one without enough.

@@ -40,26 +40,26 @@ pub fn cover(call: &cover::Call, marks: &[u8]) -> Checked<Filled<u32>> {
 
 /// As above.
 pub fn update(call: &update::Call, marks: &[u8]) -> Checked<Filled<u32>> {
-    let update::Call { old, new, groups, metas, given, work } = call;
-    let slices: [&[u8]; 4] = [old, new, given, marks];
+    let update::Call { old_edges, new_edges, groups, metas, given, work } = call;
+    let slices: [&[u8]; 4] = [old_edges, new_edges, given, marks];
     let some_empty = work.is_empty() || slices.iter().any(|slice| slice.is_empty());
     also_with_null(some_empty, |null| {
         let mut slices = slices.map(|slice| Lent::or_null(slice, null));
         let mut work = Lent::or_null(work, null);
         let (mut count, mut place) = (Lent::result(), Lent::result());
-        let [old, new, given, marks] = slices.each_mut().map(|slice| (slice.pointer(), slice.len()));
+        let [old_edges, new_edges, given, marks] = slices.each_mut().map(Lent::parts);
         #[rustfmt::skip]
         let said = unsafe {
             ffi::sendumaal_update(
-                old.0, old.1, new.0, new.1, number(*groups), number(*metas),
+                old_edges.0, old_edges.1, new_edges.0, new_edges.1, number(*groups), number(*metas),
                 given.0, given.1, work.pointer(), work.len(),
                 marks.0, marks.1, count.pointer(), place.pointer(),
             )
         };
-        let [old, new, given, marks] = &slices;
+        let [old_edges, new_edges, given, marks] = &slices;
         let memory: [(&str, &dyn Memory, May); 6] = [
-            ("old edges", old, May::Read),
-            ("new edges", new, May::Read),
+            ("old edges", old_edges, May::Read),
+            ("new edges", new_edges, May::Read),
             ("given marks", given, May::Read),
             ("work", &work, May::Work),
             ("marks", marks, May::Fill),

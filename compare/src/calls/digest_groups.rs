@@ -14,8 +14,8 @@ pub fn group_digests(call: &Call, groups: &[u8], proteins: &[u32]) -> Checked<Gr
         let mut bytes = bytes.map(|slice| Lent::or_null(slice, null));
         let mut words = words.map(|slice| Lent::or_null(slice, null));
         let (mut count, mut place) = (Lent::result(), Lent::result());
-        let [names, letters, digests, groups] = bytes.each_mut().map(|slice| (slice.pointer(), slice.len()));
-        let [bounds, work, proteins] = words.each_mut().map(|slice| (slice.pointer(), slice.len()));
+        let [names, letters, digests, groups] = bytes.each_mut().map(Lent::parts);
+        let [bounds, work, proteins] = words.each_mut().map(Lent::parts);
         #[rustfmt::skip]
         let number = unsafe {
             ffi::sendumaal_group_digests(

@@ -9,13 +9,16 @@ use crate::peptides::model::Peptide;
 /// The answer is the bit pattern of the mass.
 pub fn base_mass(letters: &[u8], masses: &[u32], water: u32) -> Checked<Answer<u32>> {
     lend(letters, |mut letters| {
-        let (first, many) = (letters.pointer(), letters.len());
+        let (letters_at, letters_len) = letters.parts();
         lend(masses, |mut masses| {
             let (mut mass, mut place) = (Lent::<u32>::result(), Lent::result());
-            let (table, size) = (masses.pointer().cast(), masses.len());
+            let (masses_at, masses_len) = (masses.pointer().cast(), masses.len());
+            #[rustfmt::skip]
             let number = unsafe {
-                let (water, mass) = (f32::from_bits(water), mass.pointer().cast());
-                ffi::sendumaal_base_mass(first, many, table, size, water, mass, place.pointer())
+                ffi::sendumaal_base_mass(
+                    letters_at, letters_len, masses_at, masses_len, f32::from_bits(water),
+                    mass.pointer().cast(), place.pointer(),
+                )
             };
             let lent: [(&str, &dyn Memory, May); 3] = [
                 ("letters", &letters, May::Read),
@@ -30,16 +33,16 @@ pub fn base_mass(letters: &[u8], masses: &[u32], water: u32) -> Checked<Answer<u
 /// The answer is the bit pattern of the mass, and the position.
 pub fn digest_mass(letters: &[u8], record: &[u8], masses: &[u32], water: u32) -> Checked<Answer<(u32, u32)>> {
     lend_all([letters, record], |[mut letters, mut record]| {
-        let (first, many) = (letters.pointer(), letters.len());
-        let (bytes, long) = (record.pointer(), record.len());
+        let (letters_at, letters_len) = letters.parts();
+        let (record_at, record_len) = record.parts();
         lend(masses, |mut masses| {
             let (mut mass, mut position) = (Lent::<u32>::result(), Lent::<u32>::result());
             let mut place = Lent::result();
-            let (table, size) = (masses.pointer().cast(), masses.len());
+            let (masses_at, masses_len) = (masses.pointer().cast(), masses.len());
             #[rustfmt::skip]
             let number = unsafe {
                 ffi::sendumaal_digest_mass(
-                    first, many, bytes, long, table, size, f32::from_bits(water),
+                    letters_at, letters_len, record_at, record_len, masses_at, masses_len, f32::from_bits(water),
                     mass.pointer().cast(), position.pointer(), place.pointer(),
                 )
             };
@@ -57,12 +60,16 @@ pub fn digest_mass(letters: &[u8], record: &[u8], masses: &[u32], water: u32) ->
 
 pub fn peptide_test(letters: &[u8], masses: &[u32], position: u8) -> Checked<Answer<()>> {
     lend(letters, |mut letters| {
-        let (first, many) = (letters.pointer(), letters.len());
+        let (letters_at, letters_len) = letters.parts();
         lend(masses, |mut masses| {
             let mut place = Lent::result();
-            let (table, size) = (masses.pointer().cast(), masses.len());
-            let number =
-                unsafe { ffi::sendumaal_peptide_test(first, many, table, size, position, place.pointer()) };
+            let (masses_at, masses_len) = (masses.pointer().cast(), masses.len());
+            #[rustfmt::skip]
+            let number = unsafe {
+                ffi::sendumaal_peptide_test(
+                    letters_at, letters_len, masses_at, masses_len, position, place.pointer(),
+                )
+            };
             answer(number, &place, &[("letters", &letters, May::Read), ("masses", &masses, May::Read)])
         })
     })
@@ -72,10 +79,12 @@ pub fn peptide_test(letters: &[u8], masses: &[u32], position: u8) -> Checked<Ans
 pub fn peptide_reverse(peptide: &Peptide) -> Checked<(Answer<()>, Peptide)> {
     lend_all([&peptide.letters, &peptide.ids], |[mut letters, mut ids]| {
         let (mut decoy, mut place) = (Lent::new(&[peptide.decoy]), Lent::result());
+        let ((letters_at, letters_len), (ids_at, ids_len)) = (letters.parts(), ids.parts());
+        #[rustfmt::skip]
         let number = unsafe {
-            let (letters, many) = (letters.pointer(), letters.len());
-            let (ids, size) = (ids.pointer(), ids.len());
-            ffi::sendumaal_peptide_reverse(letters, many, ids, size, decoy.pointer(), place.pointer())
+            ffi::sendumaal_peptide_reverse(
+                letters_at, letters_len, ids_at, ids_len, decoy.pointer(), place.pointer(),
+            )
         };
         let lent: [(&str, &dyn Memory, May); 3] =
             [("letters", &letters, May::Answer), ("ids", &ids, May::Answer), ("decoy", &decoy, May::Answer)];
@@ -91,8 +100,7 @@ pub fn forms(call: &Call, out: &[u8]) -> Checked<Filled<u32>> {
     let slices = [&call.letters, &call.ids, &call.variable, &call.fixed, out];
     lend_all(slices, |mut lent| {
         let (mut count, mut place) = (Lent::result(), Lent::result());
-        let [letters, ids, variable, fixed, out] =
-            lent.each_mut().map(|slice| (slice.pointer(), slice.len()));
+        let [letters, ids, variable, fixed, out] = lent.each_mut().map(Lent::parts);
         #[rustfmt::skip]
         let number = unsafe {
             ffi::sendumaal_forms(

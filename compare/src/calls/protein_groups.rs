@@ -16,7 +16,7 @@ pub fn group_proteins(call: &Call, edges: &[u8], members: &[u8]) -> Checked<Grou
         let mut work = Lent::or_null(&call.work, null);
         let mut sizes: [Lent<u32>; 4] = std::array::from_fn(|_| Lent::result());
         let mut place = Lent::result();
-        let [pairs, flags, edges, members] = bytes.each_mut().map(|slice| (slice.pointer(), slice.len()));
+        let [pairs, flags, edges, members] = bytes.each_mut().map(Lent::parts);
         let [groups, metas, edge_count, member_count] = sizes.each_mut().map(Lent::pointer);
         #[rustfmt::skip]
         let said = unsafe {

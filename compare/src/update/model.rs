@@ -7,8 +7,8 @@ use std::fmt;
 /// A call of `update` but for its marks.
 #[derive(Clone, PartialEq)]
 pub struct Call {
-    pub old: Vec<u8>,
-    pub new: Vec<u8>,
+    pub old_edges: Vec<u8>,
+    pub new_edges: Vec<u8>,
     pub groups: usize,
     pub metas: usize,
     pub given: Vec<u8>,
@@ -17,9 +17,14 @@ pub struct Call {
 
 impl fmt::Debug for Call {
     fn fmt(&self, f: &mut fmt::Formatter<'_>) -> fmt::Result {
-        let Call { old, new, groups, metas, given, work } = self;
+        let Call { old_edges, new_edges, groups, metas, given, work } = self;
         let front = &given[..given.len().min(40)];
-        write!(f, "{groups} groups, {metas} meta-peptides, old {}, new {}, ", shown(old), shown(new))?;
+        write!(
+            f,
+            "{groups} groups, {metas} meta-peptides, old {}, new {}, ",
+            shown(old_edges),
+            shown(new_edges)
+        )?;
         write!(f, "marks {front:?} of {}, {} words", given.len(), work.len())
     }
 }
@@ -77,18 +82,18 @@ pub fn marks(old: &[Edge], new: &[Edge], groups: usize, metas: usize, given: &[u
 
 /// 1, 8, 10, then old edges, new edges and given marks.
 fn test(call: &Call) -> Answer<()> {
-    let Call { old, new, groups, metas, given, work } = call;
-    if too_large(old, *groups, *metas) || too_large(new, *groups, *metas) {
+    let Call { old_edges, new_edges, groups, metas, given, work } = call;
+    if too_large(old_edges, *groups, *metas) || too_large(new_edges, *groups, *metas) {
         return refuse(SIZE, 0);
     }
-    if old.len() % EDGE != 0 || new.len() % EDGE != 0 || given.len() != *groups {
+    if old_edges.len() % EDGE != 0 || new_edges.len() % EDGE != 0 || given.len() != *groups {
         return refuse(LENGTH, 0);
     }
-    if work.len() < cover::work_for(*groups, *metas, old.len() / EDGE + new.len() / EDGE) {
+    if work.len() < cover::work_for(*groups, *metas, old_edges.len() / EDGE + new_edges.len() / EDGE) {
         return refuse(SHORT_WORK, 0);
     }
-    edges_test(old, *groups, *metas)?;
-    edges_test(new, *groups, *metas)?;
+    edges_test(old_edges, *groups, *metas)?;
+    edges_test(new_edges, *groups, *metas)?;
     match given.iter().position(|mark| *mark > 1) {
         Some(place) => refuse(FIELD, place),
         None => Ok(()),
@@ -97,9 +102,9 @@ fn test(call: &Call) -> Answer<()> {
 
 /// The answer is the number of groups.
 pub fn update(call: &Call, out: &[u8]) -> Filled<u32> {
-    let Call { old, new, groups, metas, given, .. } = call;
+    let Call { old_edges, new_edges, groups, metas, given, .. } = call;
     match test(call) {
-        Ok(()) => filled(&marks(&read_edges(old), &read_edges(new), *groups, *metas, given), out),
+        Ok(()) => filled(&marks(&read_edges(old_edges), &read_edges(new_edges), *groups, *metas, given), out),
         Err(refusal) => Filled { answer: Err(refusal), buffer: out.to_vec() },
     }
 }

@@ -21,22 +21,22 @@ fn bad_given(rng: &mut Rng, call: &mut Call) {
 fn no_length(rng: &mut Rng, call: &mut Call) {
     let tail = 1 + rng.below(EDGE - 1);
     match rng.below(3) {
-        0 => call.old.extend(rng.bytes(tail)),
-        1 => call.new.extend(rng.bytes(tail)),
+        0 => call.old_edges.extend(rng.bytes(tail)),
+        1 => call.new_edges.extend(rng.bytes(tail)),
         _ => call.given.resize(rng.pick(&[0, call.groups.saturating_sub(1), call.groups + 1]), 0),
     }
 }
 
 fn bad_old(rng: &mut Rng, call: &mut Call) {
-    damage(rng, &mut call.old, call.groups, call.metas);
+    damage(rng, &mut call.old_edges, call.groups, call.metas);
 }
 
 fn bad_new(rng: &mut Rng, call: &mut Call) {
-    damage(rng, &mut call.new, call.groups, call.metas);
+    damage(rng, &mut call.new_edges, call.groups, call.metas);
 }
 
 fn little_work(rng: &mut Rng, call: &mut Call) {
-    let (old, new) = (call.old.len() / EDGE, call.new.len() / EDGE);
+    let (old, new) = (call.old_edges.len() / EDGE, call.new_edges.len() / EDGE);
     let needed = work_for(call.groups, call.metas, old + new);
     short_work(rng, &mut call.work, needed, work_for(call.groups, call.metas, new));
 }
@@ -68,9 +68,11 @@ pub fn large(context: &Context) -> Tally {
         for words in [0, 1] {
             let (groups, metas) = (rng.pick(&[2, MOST_GROUPS]), rng.pick(&[2, MOST_METAS]));
             let work = vec![5; words * work_for(groups, metas, 2 * MOST_EDGES + old + new)];
-            let (old, new) = (vec![0; (MOST_EDGES + old) * EDGE], vec![0; (MOST_EDGES + new) * EDGE + part]);
+            let old_edges = vec![0; (MOST_EDGES + old) * EDGE];
+            let new_edges = vec![0; (MOST_EDGES + new) * EDGE + part];
             let given = (0..groups).map(|_| rng.below(2) as u8).collect();
-            let (call, out) = (Call { old, new, groups, metas, given, work }, enough_bytes(rng, groups));
+            let call = Call { old_edges, new_edges, groups, metas, given, work };
+            let out = enough_bytes(rng, groups);
             hold(&mut tally, &(&call, out.len()), calls::update(&call, &out), &model::update(&call, &out));
         }
     }
