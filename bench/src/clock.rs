@@ -26,3 +26,8 @@ pub fn seconds(work: impl FnOnce()) -> f64 {
     work();
     now() - begun
 }
+
+/// The least seconds of so many calls.
+pub fn least(calls: usize, mut call: impl FnMut()) -> f64 {
+    (0..calls).map(|_| seconds(&mut call)).fold(f64::MAX, f64::min)
+}

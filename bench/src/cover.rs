@@ -3,7 +3,7 @@
 mod graphs;
 mod sides;
 
-use crate::clock::seconds;
+use crate::clock::{least, seconds};
 use crate::rng::Rng;
 use crate::turns::{measure, Measured, Sides};
 use graphs::{graphs, Graph};
@@ -51,12 +51,9 @@ fn update_time(ours: &mut Ours, graph: &Graph) -> f64 {
     let given = ours.cover(&old).to_vec();
     let updated = ours.update(&old, graph, &given).to_vec();
     assert!(updated == ours.cover(graph), "the update of {} is no cover", graph.name);
-    let time = |_| {
-        seconds(|| {
-            black_box(ours.update(&old, graph, &given));
-        })
-    };
-    (0..5).map(time).fold(f64::MAX, f64::min)
+    least(5, || {
+        black_box(ours.update(&old, graph, &given));
+    })
 }
 
 pub fn print() {

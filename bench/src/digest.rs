@@ -2,7 +2,7 @@
 mod rows;
 mod sides;
 
-use crate::clock::seconds;
+use crate::clock::{least, seconds};
 use crate::rng::Rng;
 use crate::turns::{measure, Measured, Sides};
 use rows::{doubling_rows, greatest_rows, rows, Cutting, Row, TRYPTIC};
@@ -68,13 +68,11 @@ pub fn print_greatest() {
 }
 
 /// The least of seven calls, in milliseconds.
-fn least(ours: &mut Ours, cutting: &Cutting, protein: &str) -> f64 {
-    let mut call = || {
-        seconds(|| {
-            black_box(ours.count(cutting, protein));
-        })
-    };
-    (0..7).map(|_| call()).fold(f64::MAX, f64::min) * 1e3
+fn least_time(ours: &mut Ours, cutting: &Cutting, protein: &str) -> f64 {
+    let seconds = least(7, || {
+        black_box(ours.count(cutting, protein));
+    });
+    seconds * 1e3
 }
 
 /// Ours alone: how the time grows where the letters double.
@@ -83,7 +81,8 @@ pub fn print_doubling() {
     println!("|---|--:|--:|--:|--:|--:|");
     let mut ours = Ours::new();
     for (name, cutting, proteins) in doubling_rows(&mut Rng::new(crate::SEED, "proteins that double")) {
-        let times: Vec<f64> = proteins.iter().map(|protein| least(&mut ours, &cutting, protein)).collect();
+        let times: Vec<f64> =
+            proteins.iter().map(|protein| least_time(&mut ours, &cutting, protein)).collect();
         let cells: Vec<String> = times.iter().map(|time| format!("{time:.3}")).collect();
         println!("| {name} | {} | {:.2} |", cells.join(" | "), times[3] / times[2]);
     }

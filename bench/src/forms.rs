@@ -3,7 +3,7 @@
 mod rows;
 mod sides;
 
-use crate::clock::seconds;
+use crate::clock::{least, seconds};
 use crate::rng::Rng;
 use crate::turns::{measure, Measured, Sides};
 use rows::{extremes, rows, Extreme, Rules};
@@ -55,8 +55,7 @@ fn print_extremes(ours: &mut Ours) {
     println!("|---|--:|--:|--:|");
     for Extreme { name, rules, letters } in extremes() {
         let (mut number, mut count) = (0, 0);
-        let mut call = |_| seconds(|| (number, count) = ours.list(&rules, &letters));
-        let least = (0..7).map(&mut call).fold(f64::MAX, f64::min);
+        let least = least(7, || (number, count) = ours.list(&rules, &letters));
         println!("| {name} | {count} | {number} | {:.3} |", least * 1e3);
     }
 }

@@ -3,6 +3,7 @@ mod sets;
 mod sides;
 
 use crate::clock::seconds;
+use crate::records::PAIR;
 use crate::rng::Rng;
 use crate::turns::{measure, Measured, Sides};
 use oracle::protein_grouping::probe;
@@ -64,7 +65,7 @@ pub fn print() {
     println!("| set | pairs | groups | Rust, ms | ours, ms | ours/Rust | marked | Rust, with cover, ms | ours, with cover, ms | ours/Rust |");
     println!("|---|--:|--:|--:|--:|--:|--:|--:|--:|--:|");
     for set in sets(&mut Rng::new(crate::SEED, "benchmark of protein groups")) {
-        let (name, pairs) = (set.name.clone(), set.pairs.len() / 8);
+        let (name, pairs) = (set.name.clone(), set.pairs.len() / PAIR);
         let block = [vec![set]];
         let mut cells = format!("| {name} | {pairs} |");
         for covers in [false, true] {

@@ -1,8 +1,9 @@
 //! Times report lines: single calls of `sendumaal_report_line`, which is lent and tests the whole catalogue, all members and all
 //! marks each time, and the original's look-up in a table that is made before.
-use crate::clock::seconds;
+use crate::clock::{least, seconds};
 use crate::ffi::sendumaal_report_line;
 use crate::inference::{sets, Ours, Set};
+use crate::records::MEMBER;
 use crate::rng::Rng;
 use oracle::protein_grouping::probe;
 use std::hint::black_box;
@@ -54,14 +55,12 @@ fn ours(given: &Given, lookup: &probe::Lookup) -> f64 {
 
 /// The time of a line, of many.
 fn rust(set: &Set, lookup: &probe::Lookup) -> f64 {
-    let time = |_| {
-        seconds(|| {
-            for peptide in 0..LINES as u32 {
-                black_box(probe::line(black_box(&set.rust), lookup, peptide));
-            }
-        })
-    };
-    (0..CALLS).map(time).fold(f64::MAX, f64::min) / LINES as f64
+    let seconds = least(CALLS, || {
+        for peptide in 0..LINES as u32 {
+            black_box(probe::line(black_box(&set.rust), lookup, peptide));
+        }
+    });
+    seconds / LINES as f64
 }
 
 pub fn print() {
@@ -76,7 +75,7 @@ pub fn print() {
             "| {} | {} | {} | {rust:.2} | {ours:.2} |",
             set.name,
             set.proteins(),
-            given.members.len() / 12
+            given.members.len() / MEMBER
         );
     }
 }

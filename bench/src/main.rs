@@ -13,6 +13,7 @@ mod groups;
 mod inference;
 mod lines;
 mod proteins;
+mod records;
 #[path = "../../compare/src/rng.rs"]
 #[allow(dead_code)]
 mod rng;

@@ -1,4 +1,5 @@
 //! What is covered: random edges, equal parts, and a path.
+use crate::records::EDGE;
 use crate::rng::Rng;
 
 pub struct Graph {
@@ -9,8 +10,6 @@ pub struct Graph {
     pub groups: usize,
     pub metas: usize,
 }
-
-const EDGE: usize = 8;
 
 fn graph(what: &str, edges: Vec<(u32, u32)>, groups: usize, metas: usize) -> Graph {
     let record = |(group, meta): &(u32, u32)| [group.to_le_bytes(), meta.to_le_bytes()].concat();

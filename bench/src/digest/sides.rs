@@ -1,6 +1,7 @@
 //! The two sides: each answers how many digests a protein has, after it has made all of them.
 use super::rows::Cutting;
 use crate::ffi::sendumaal_digest;
+use crate::records::{range, DIGEST};
 use oracle::enzyme::{Digest, Enzyme, EnzymeParameters};
 use std::hint::black_box;
 use std::sync::Arc;
@@ -35,7 +36,6 @@ impl Rust {
     }
 }
 
-const RECORD: usize = 16;
 const MOST_DIGESTS: usize = 1_048_576;
 const ALL_LETTERS: u32 = 0x03ff_ffff;
 
@@ -51,28 +51,28 @@ fn set_of(letters: &str) -> u32 {
 impl Ours {
     /// Filled with ones: memory that is only reserved would have to be found in the time of the first call.
     pub fn new() -> Ours {
-        Ours { out: vec![1; MOST_DIGESTS * RECORD] }
+        Ours { out: vec![1; MOST_DIGESTS * DIGEST] }
     }
 
-    pub fn count(&mut self, cutting: &Cutting, protein: &str) -> usize {
-        self.cut(cutting, protein, 1)
+    pub fn count(&mut self, cutting: &Cutting, letters: &str) -> usize {
+        self.cut(cutting, letters, 1)
     }
 
     /// The records of a protein that has a number.
-    pub fn records(&mut self, cutting: &Cutting, protein: &str, number: u32) -> Vec<u8> {
-        let count = self.cut(cutting, protein, number);
-        self.out[..count * RECORD].to_vec()
+    pub fn records(&mut self, cutting: &Cutting, letters: &str, protein: u32) -> Vec<u8> {
+        let count = self.cut(cutting, letters, protein);
+        self.out[..count * DIGEST].to_vec()
     }
 
-    fn cut(&mut self, cutting: &Cutting, protein: &str, protein_number: u32) -> usize {
+    fn cut(&mut self, cutting: &Cutting, letters: &str, protein: u32) -> usize {
         let (mut count, mut place) = (0, 0);
         let kind = if cutting.set { 2 } else { 0 };
-        let letters = black_box(protein);
+        let letters = black_box(letters);
         #[rustfmt::skip]
         let number = unsafe {
             sendumaal_digest(
                 letters.as_ptr(), letters.len(), ALL_LETTERS, kind, set_of(CLEAVE), set_of(SKIP), 0, cutting.semi.into(),
-                cutting.missed.into(), cutting.minimum, cutting.maximum, protein_number,
+                cutting.missed.into(), cutting.minimum, cutting.maximum, protein,
                 self.out.as_mut_ptr(), self.out.len(), &mut count, &mut place,
             )
         };
@@ -82,9 +82,8 @@ impl Ours {
     }
 
     /// The letters of the digests that stand in the buffer.
-    pub fn letters<'a>(&'a self, count: usize, protein: &'a str) -> impl Iterator<Item = &'a str> {
-        let word = |bytes: &[u8]| u32::from_le_bytes(bytes.try_into().expect("four bytes")) as usize;
-        let records = self.out[..count * RECORD].chunks(RECORD);
-        records.map(move |record| &protein[word(&record[..4])..word(&record[4..8])])
+    pub fn letters<'a>(&'a self, count: usize, letters: &'a str) -> impl Iterator<Item = &'a str> {
+        let records = self.out[..count * DIGEST].chunks(DIGEST);
+        records.map(move |record| &letters[range(record)])
     }
 }

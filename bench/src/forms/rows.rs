@@ -69,10 +69,24 @@ fn different(limit: u32) -> Extreme {
 fn used_up(limit: u32) -> Extreme {
     let rule = |limit: u32| Rule { letter: b'A', limit };
     let variable = [vec![rule(1); 3], vec![rule(0); 13]].concat();
-    extreme("64 times A, 3 times the rule A of limit 1 and 13 times of limit 0", variable, "A".repeat(64), limit)
+    extreme(
+        "64 times A, 3 times the rule A of limit 1 and 13 times of limit 0",
+        variable,
+        "A".repeat(64),
+        limit,
+    )
 }
 
 /// These have up to C(1024, 8) choices, of which nearly all use a slot twice or a rule above its limit.
 pub fn extremes() -> Vec<Extreme> {
-    vec![equal(0, 8), equal(1, 1), equal(1, 2), equal(1, 8), used_up(8), different(2), different(3), different(8)]
+    vec![
+        equal(0, 8),
+        equal(1, 1),
+        equal(1, 2),
+        equal(1, 8),
+        used_up(8),
+        different(2),
+        different(3),
+        different(8),
+    ]
 }

@@ -87,16 +87,17 @@ impl Ours {
     /// The number of the answer, and how many forms stand in the buffer. Writing down the rules is part of the time.
     pub fn list(&mut self, rules: &Rules, letters: &str) -> (u32, usize) {
         let Rules { variable, fixed, limit } = rules;
-        let many = variable.len();
-        let first = records(variable.iter().copied(), 1);
-        let second = records(fixed.iter().map(|letter| Rule { letter: *letter, limit: NO_LIMIT }), 1 + many);
+        let (variable_len, fixed_len) = (variable.len() * RECORD, fixed.len() * RECORD);
+        let on_letters = fixed.iter().map(|letter| Rule { letter: *letter, limit: NO_LIMIT });
+        let fixed = records(on_letters, 1 + variable.len());
+        let variable = records(variable.iter().copied(), 1);
         let (letters, ids) = (black_box(letters), [0; 64]);
         let (mut count, mut place) = (0, 0);
         #[rustfmt::skip]
         let number = unsafe {
             sendumaal_forms(
                 letters.as_ptr(), letters.len(), ids.as_ptr(), letters.len(), 0, 0, INTERNAL,
-                first.as_ptr().cast(), many * RECORD, second.as_ptr().cast(), fixed.len() * RECORD,
+                variable.as_ptr().cast(), variable_len, fixed.as_ptr().cast(), fixed_len,
                 *limit, NO_CAP, self.out.as_mut_ptr(), self.out.len(), &mut count, &mut place,
             )
         };

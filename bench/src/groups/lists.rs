@@ -1,6 +1,7 @@
 //! What is grouped: the tryptic digests of generated proteins and their decoys.
 use crate::digest::cut;
 use crate::proteins::{letters, name, protein};
+use crate::records::{range, DIGEST, NAME};
 use crate::rng::Rng;
 use oracle::enzyme::{Digest, Position};
 use std::sync::Arc;
@@ -14,8 +15,6 @@ pub struct List {
     pub digests: Vec<u8>,
 }
 
-const NAME: usize = 64;
-const RECORD: usize = 16;
 const ABOUT: usize = 450;
 /// Of a database many proteins are near others: an isoform has its protein's letters but for one in so many.
 const CHANGED: usize = 100;
@@ -44,11 +43,10 @@ fn position(number: u8) -> Position {
 
 /// The digest of a record for the original.
 fn digest(record: &[u8], protein: &str, name: &Arc<str>) -> Digest {
-    let word = |at: usize| u32::from_le_bytes(std::array::from_fn(|byte| record[at + byte])) as usize;
     Digest {
         decoy: false,
         semi_enzymatic: record[9] == 1,
-        sequence: protein[word(0)..word(4)].into(),
+        sequence: protein[range(record)].into(),
         protein: Arc::clone(name),
         missed_cleavages: record[8],
         position: position(record[10]),
@@ -64,7 +62,7 @@ impl List {
         let mut padded = [0; NAME];
         padded[..name.len()].copy_from_slice(name.as_bytes());
         self.names.extend(padded);
-        for record in cut(protein, number).chunks(RECORD) {
+        for record in cut(protein, number).chunks(DIGEST) {
             for decoy in [0, 1] {
                 if self.rust.len() == most {
                     return;
@@ -72,7 +70,7 @@ impl List {
                 let target = digest(record, protein, &shared);
                 self.rust.push(if decoy == 1 { target.reverse() } else { target });
                 self.digests.extend(record);
-                let last = self.digests.len() - RECORD;
+                let last = self.digests.len() - DIGEST;
                 self.digests[last + 11] = decoy;
             }
         }

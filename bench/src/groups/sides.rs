@@ -1,11 +1,9 @@
 //! Our side: lent buffers, which are made once and not cleared between calls.
 use super::lists::List;
 use crate::ffi::sendumaal_group_digests;
+use crate::records::{range, word, GROUP, NAME};
 use oracle::enzyme::DigestGroup;
 use std::hint::black_box;
-
-const NAME: usize = 64;
-const GROUP: usize = 24;
 
 pub struct Ours {
     work: Vec<u32>,
@@ -49,8 +47,8 @@ impl Ours {
         let same = |(record, group): (&[u8], &DigestGroup)| {
             let mut names: Vec<&str> = group.proteins.iter().map(|name| &**name).collect();
             names.sort_unstable();
-            let word = |at: usize| u32::from_le_bytes(std::array::from_fn(|byte| record[at + byte])) as usize;
-            let stretch = &self.proteins[word(16)..word(16) + word(20)];
+            let (first, count) = (word(record, 16) as usize, word(record, 20) as usize);
+            let stretch = &self.proteins[first..first + count];
             list.letters_of(record) == group.reference.sequence.as_bytes()
                 && stretch.iter().map(|protein| list.name(*protein)).eq(names)
         };
@@ -65,9 +63,8 @@ impl List {
     }
 
     fn letters_of(&self, record: &[u8]) -> Vec<u8> {
-        let word = |at: usize| u32::from_le_bytes(std::array::from_fn(|byte| record[at + byte])) as usize;
-        let first = self.bounds[word(12)] as usize;
-        let mut letters = self.letters[first + word(0)..first + word(4)].to_vec();
+        let first = self.bounds[word(record, 12) as usize] as usize;
+        let mut letters = self.letters[first..][range(record)].to_vec();
         if let ([_, inner @ .., _], 1) = (&mut letters[..], record[11]) {
             inner.reverse();
         }

@@ -1,5 +1,6 @@
 //! What is grouped: peptides that show generated proteins, of which many have a family.
 use crate::proteins::name;
+use crate::records::NAME;
 use crate::rng::Rng;
 use oracle::database::IndexedDatabase;
 use oracle::peptide::Peptide;
@@ -17,7 +18,6 @@ pub struct Set {
     pub shown: Vec<Vec<u32>>,
 }
 
-const NAME: usize = 64;
 const LARGEST_FAMILY: usize = 8;
 
 /// First and count of each protein's family: of ten families, three have two to eight members.

@@ -1,13 +1,10 @@
 //! Our side: lent buffers, which are made once and not cleared between calls.
 use super::sets::Set;
 use crate::ffi::{sendumaal_cover, sendumaal_group_proteins};
+use crate::records::{word, EDGE, MEMBER, PAIR};
 use oracle::protein_grouping::probe;
 use std::collections::BTreeSet;
 use std::hint::black_box;
-
-const PAIR: usize = 8;
-const EDGE: usize = 8;
-const MEMBER: usize = 12;
 
 #[derive(Clone, Copy, Default)]
 pub struct Sizes {
@@ -89,7 +86,6 @@ impl Ours {
     pub fn holds(&self, set: &Set, sizes: Sizes) -> bool {
         let all: Vec<u32> = (0..set.flags.len() as u32).collect();
         let (edges, groups, metas) = probe::build(&set.rust, &all);
-        let word = |bytes: &[u8], at: usize| u32::from_le_bytes(std::array::from_fn(|byte| bytes[at + byte]));
         let own_edges = self.edges.chunks(EDGE).map(|record| (word(record, 0), word(record, 4)));
         let members: BTreeSet<(u32, &str, bool)> = (0..)
             .zip(&groups)
