@@ -1,5 +1,5 @@
--- What a reader has to believe: Covering and Updating, and below them Cover, Update and Marks of cover_spec and Edges of cover_edges.
--- Theorems says what the cover and the update achieve.
+-- What a reader has to believe: Covering and Updating, and below them Refusals of cover_tests, Cover, Update and Marks of cover_spec and
+-- Edges of cover_edges. Theorems says what the cover and the update achieve.
 pub mod Covering
 pub mod Updating
 pub mod Cases

@@ -9,6 +9,8 @@ use lib.ListN.{length, getD, List·getD-eq-default}
 use lib.Dec.{eqb}
 use lib.Seq.{ext-getD}
 use borrow.Author.Tests.{eqb-true, ltb-true}
+use Rattle.cover_tests.specs.Refusals.{coverTested, updateTested}
+use Rattle.cover_tests.specs.ReadyLaws.{ready, UpdateReady, update-ready}
 use Rattle.lists.specs.Tests.{below?, both}
 use Rattle.lists.specs.Lists.{bit, count, keep, All}
 use Rattle.lists.specs.KeepLaws.{count-keep, every, keep-same}
@@ -24,10 +26,9 @@ use Rattle.cover_spec.specs.TouchedLaws.{Touched, touched-to, touched-of}
 use Rattle.cover_spec.specs.CoverLaws.{neighbour, Marking, cover-marking}
 use Rattle.cover_edges.specs.Edges.{edgesOf}
 use Rattle.cover_edges.specs.EdgeLaws.{edges-under}
-use Rattle.cover.specs.Covering.{coverTested, coverMarks}
-use Rattle.cover.specs.CoveringLaws.{ready}
-use Rattle.cover.specs.Updating.{updateTested, updateMarks}
-use Rattle.cover.specs.UpdatingLaws.{UpdateReady, update-ready, mark-of}
+use Rattle.cover.specs.Covering.{coverMarks}
+use Rattle.cover.specs.Updating.{updateMarks}
+use Rattle.cover.specs.UpdatingLaws.{mark-of}
 
 -- the edge stands in the list
 abbrev pub In : Edge → List Edge → Type 0

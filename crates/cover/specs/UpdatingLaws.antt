@@ -1,83 +1,33 @@
 -- What is known where the tests of an update passed, and the marks that it hands out. Assumes nothing.
-use Prim.Native.Nat.{ℕ, zero, suc, _+_, _/_, _%_, _≤_, _<_, min}
-use mathlib.Core.Path.{_≡_, refl, sym, ap, _∙_, subst}
-use mathlib.Core.Bool.{Bool, true, false, cond, not, _||_}
+use Prim.Native.Nat.{ℕ, zero, suc, _+_, _/_, _≤_, _<_, min}
+use mathlib.Core.Path.{_≡_, sym, ap, _∙_, subst}
+use mathlib.Core.Bool.{true, false, cond, not}
 use mathlib.Core.Logic.{inl, inr, ⊎-elim}
 use mathlib.Core.List.{List, [], _∷_}
 use native.Mathlib.Omega.{arith}
 use native.Mathlib.Nat.{add-zero}
 use lib.ListN.{length, getD, set, replicate, length-set}
 use lib.Seq.{sets, length-sets, ext-getD, getD-set-same}
-use lib.Dec.{eqb, ltb}
-use borrow.Author.Tests.{ltb-false, eqb-true, eqb-false}
-use Rattle.lists.specs.Tests.{below?, neither, truth?}
+use lib.Dec.{eqb}
+use borrow.Author.Tests.{eqb-true, eqb-false}
+use Rattle.lists.specs.Tests.{below?, truth?}
 use Rattle.lists.specs.Lists.{bit}
-use Rattle.records.specs.declared.refusal.Refusal.the-variants.{Size, Length, Work, Room}
-use Rattle.records.specs.declared.refusal.Tested.{Tested}
-use Rattle.records.specs.declared.refusal.Tested.the-variants.{Passed}
+use Rattle.records.specs.declared.refusal.Refusal.the-variants.{Room}
 use Rattle.records.specs.declared.refusal.Counted.{Counted}
 use Rattle.records.specs.declared.refusal.Counted.the-variants.{Count, Refused as No}
 use Rattle.records.specs.LeLaws.{getD-sets-other}
 use Rattle.records.specs.Outcome.{Outcome, outcome}
 use Rattle.records.specs.Room.{fits, fitted, singly}
 use Rattle.records.specs.RoomLaws.{stored-text, fits-text}
-use Rattle.records.specs.Tested.{andThen, fieldTested}
-use Rattle.records.specs.TestedLaws.{passed-both, passed-first, passed-field}
 use Rattle.cover_spec.specs.Cover.{coverList}
 use Rattle.cover_spec.specs.ListedLaws.{length-listed, getD-listed, length-cover}
-use Rattle.cover_spec.specs.Marks.{workNeeded, handed}
+use Rattle.cover_spec.specs.Marks.{handed}
 use Rattle.cover_spec.specs.Update.{touched, update, updateList}
-use Rattle.cover_edges.specs.Edges.{edgesOf, firstBadMark}
-use Rattle.cover_edges.specs.RangeLaws.{InRange, all-bits}
+use Rattle.cover_edges.specs.Edges.{edgesOf}
 use Rattle.cover_touched.specs.Touching.{Sized, Mixed}
-use Rattle.cover.specs.Covering.{tooLarge, edgesTested, coverMarks}
-use Rattle.cover.specs.CoveringLaws.{Ready, Small, small, edges-inside}
-use Rattle.cover.specs.Updating.{eitherTooLarge, lengthsWrong, updateTested, updateMarks}
-
-pub record UpdateReady (old new : List ℕ) (groups metas : ℕ) (given : List ℕ) (words : ℕ) : Type 0 where
-  pub of-new : Ready new groups metas words
-  pub old-few : length old / 8 ≤ 1048576
-  pub old-inside : InRange old (length old / 8) groups metas
-  pub enough : workNeeded groups metas (length old / 8 + length new / 8) ≤ words
-  pub as-many : length given ≡ groups
-  pub bits : (i : ℕ) → i < length given → getD given i 0 ≤ 1
-
-pub both-small : (on nn groups metas : ℕ) → eitherTooLarge on nn groups metas ≡ false → Small on groups metas × Small nn groups metas
-both-small on nn groups metas h = let y = neither (tooLarge on groups metas) (tooLarge nn groups metas) h in (small on groups metas (y .0), small nn groups metas (y .1))
-
-as-many-as : (given : List ℕ) (groups : ℕ) (b : Bool) → (b || not (eqb (length given) groups)) ≡ false → length given ≡ groups
-as-many-as given groups b h = eqb-true (length given) groups (is (eqb (length given) groups) (neither b (not (eqb (length given) groups)) h .1))
-  where
-    is : (t : Bool) → not t ≡ false → t ≡ true
-    is true e = refl
-    is false e = sym e
-
-pub update-ready : (old new : List ℕ) (groups metas : ℕ) (given : List ℕ) (words : ℕ) → updateTested old new groups metas given words ≡ Passed → UpdateReady old new groups metas given words
-update-ready old new groups metas given words e =
-    let on : ℕ = length old / 8 in
-    let nn : ℕ = length new / 8 in
-    let marked : Tested = fieldTested (firstBadMark given) (length given) in
-    let p1 = passed-first (eitherTooLarge on nn groups metas) Size _ e in
-    let p8 = passed-first (lengthsWrong old new groups given) Length _ (p1 .1) in
-    let p10 = passed-first (ltb words (workNeeded groups metas (on + nn))) Work _ (p8 .1) in
-    let po = passed-both (edgesTested old groups metas) (andThen (edgesTested new groups metas) marked) (p10 .1) in
-    let pn = passed-both (edgesTested new groups metas) marked (po .1) in
-    let s = both-small on nn groups metas (p1 .0) in
-    let enough : workNeeded groups metas (on + nn) ≤ words = ltb-false words (workNeeded groups metas (on + nn)) (p10 .0) in
-    record {
-      of-new = record {
-        groups-max = s .1 .groups-max;
-        metas-max = s .1 .metas-max;
-        few = s .1 .few;
-        enough = omega arith;
-        inside = edges-inside new groups metas (pn .0);
-      };
-      old-few = s .0 .few;
-      old-inside = edges-inside old groups metas (po .0);
-      enough = enough;
-      as-many = as-many-as given groups (not (eqb (length old % 8) 0) || not (eqb (length new % 8) 0)) (p8 .0);
-      bits = all-bits given (ltb-false (firstBadMark given) (length given) (passed-field (firstBadMark given) (length given) (pn .1)));
-    }
+use Rattle.cover_tests.specs.ReadyLaws.{UpdateReady}
+use Rattle.cover.specs.Covering.{coverMarks}
+use Rattle.cover.specs.Updating.{updateMarks}
 
 pub sized : {old new given : List ℕ} {groups metas words : ℕ} → UpdateReady old new groups metas given words → 1 ≤ groups → Sized old (length old / 8) new (length new / 8) groups metas words
 sized {old} {new} {given} {groups} {metas} {words} r h = record {

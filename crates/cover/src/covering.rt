@@ -1,7 +1,7 @@
 // The cover as a call.
 use crate::handing::cover_all;
 use crate::handing::cover_short;
-use crate::tests::tested;
+use cover_tests::cover_tested;
 use records::Counted;
 use records::Refusal;
 use records::Tested;
@@ -9,10 +9,10 @@ use records::clear;
 ghost use mathlib.Core.Path.{_≡_};
 ghost use mathlib.Core.List.{[], _∷_};
 ghost use lib.ListN.{length};
+ghost use Rattle.cover_tests.specs.ReadyLaws.{Ready};
 ghost use Rattle.records.specs.Outcome.{outcome};
 ghost use Rattle.cover_spec.specs.Marks.{handed};
 ghost use Rattle.cover.specs.Covering.{coverMarks, coverOutcome};
-ghost use Rattle.cover.specs.CoveringLaws.{Ready};
 
 // The cover of edges that are in order.
 pub(crate) fn cover_passed(
@@ -45,7 +45,7 @@ pub fn cover(edges: &[u8], groups: u32, metas: u32, work: &mut [u32], marks: &mu
 {
     let left = groups as usize;
     let right = metas as usize;
-    let found = tested(edges, left, right, work.len());
+    let found = cover_tested(edges, left, right, work.len());
     match found {
         Tested::Refused(why) => Counted::Refused(why),
         Tested::Passed => cover_passed(edges, left, right, work, marks),

@@ -2,8 +2,6 @@
 // the marks of parts alone in which no edge differs.
 mod covering;
 mod handing;
-mod tests;
-mod update_tests;
 mod updating;
 
 pub use covering::cover;

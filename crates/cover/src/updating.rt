@@ -1,6 +1,6 @@
 // The update as a call.
 use crate::covering::cover_passed;
-use crate::update_tests::update_tested;
+use cover_tests::update_tested;
 use cover_touched::renew;
 use records::Counted;
 use records::Tested;
@@ -9,12 +9,12 @@ ghost use mathlib.Core.Path.{_≡_};
 ghost use mathlib.Core.List.{[], _∷_};
 ghost use Prim.Native.Nat.{min};
 ghost use lib.ListN.{length, replicate};
+ghost use Rattle.cover_tests.specs.ReadyLaws.{UpdateReady};
 ghost use Rattle.records.specs.Outcome.{outcome};
 ghost use Rattle.cover_spec.specs.Marks.{handed};
 ghost use Rattle.cover_edges.specs.Edges.{edgesOf};
 ghost use Rattle.cover_touched.specs.Touching.{Mixed};
 ghost use Rattle.cover.specs.Updating.{updateMarks, updateOutcome};
-ghost use Rattle.cover.specs.UpdatingLaws.{UpdateReady};
 
 fn least(a: usize, b: usize) -> usize
     ensures { λ r. ⌜ r ≡ min a b ⌝ }

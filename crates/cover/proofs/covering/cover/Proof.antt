@@ -1,19 +1,19 @@
 -- `cover` meets its contract: a refusal, or the cover. Assumes nothing.
 use mathlib.Core.Path.{sym, _∙_}
 use lib.ListN.{length}
-use Rattle.cover.specs.CoveringLaws.{ready}
 use borrow.Author.Needs.{needs}
+use Rattle.cover_tests.specs.ReadyLaws.{ready}
 use Rattle.cover.proofs.covering.cover.Statement.{statement}
 use Rattle.cover.proofs.covering.cover.Tie as tie
 
 cover-passed-requires : tie.Need-cover-passed-requires
-cover-passed-requires c κs = let a = c .before .before .before .before .before .before .before .before .args in ready (a .edges .now) (a .groups) (a .metas) (length (a .work .now)) (sym (c .before .before .before .before .tested .ensures) ∙ c .before .before .enum-told .given .1)
+cover-passed-requires c κs = let a = c .before .before .before .before .before .before .before .before .args in ready (a .edges .now) (a .groups) (a .metas) (length (a .work .now)) (sym (c .before .before .before .before .cover-tested .ensures) ∙ c .before .before .enum-told .given .1)
 
 returns : tie.Need-returns
-returns c = rw (sym (c .before .before .before .tested .ensures) ∙ c .before .found .given .1)
+returns c = rw (sym (c .before .before .before .cover-tested .ensures) ∙ c .before .found .given .1)
 
 returns-2 : tie.Need-returns-2
-returns-2 c = rw (sym (c .before .before .before .before .before .before .before .before .before .tested .ensures) ∙ c .before .before .before .before .before .before .before .enum-told .given .1) (c .before .before .before .before .cover-passed .ensures)
+returns-2 c = rw (sym (c .before .before .before .before .before .before .before .before .before .cover-tested .ensures) ∙ c .before .before .before .before .before .before .before .enum-told .given .1) (c .before .before .before .before .cover-passed .ensures)
 
 pub cover-spec : {M : Type 1} → statement M
 cover-spec =

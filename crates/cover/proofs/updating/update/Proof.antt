@@ -1,8 +1,8 @@
 -- `update` meets its contract. Assumes nothing.
 use mathlib.Core.Path.{sym, _∙_}
 use lib.ListN.{length}
-use Rattle.cover.specs.UpdatingLaws.{update-ready}
 use borrow.Author.Needs.{needs}
+use Rattle.cover_tests.specs.ReadyLaws.{update-ready}
 use Rattle.cover.proofs.updating.update.Statement.{statement}
 use Rattle.cover.proofs.updating.update.Tie as tie
 

@@ -1,7 +1,8 @@
 use Prim.Native.Nat.{ℕ}
 use mathlib.Core.Path.{sym, subst}
 use lib.ListN.{length}
-use Rattle.cover.specs.UpdatingLaws.{UpdateReady, renewed}
+use Rattle.cover_tests.specs.ReadyLaws.{UpdateReady}
+use Rattle.cover.specs.UpdatingLaws.{renewed}
 -- `update_passed` meets its contract. Assumes nothing.
 use borrow.Author.Needs.{needs}
 use Rattle.cover.proofs.updating.update_passed.Statement.{statement}

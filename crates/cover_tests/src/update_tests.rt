@@ -9,7 +9,7 @@ use records::field_tested;
 ghost use mathlib.Core.Path.{_≡_};
 ghost use Prim.Native.Nat.{_/_, _≤_};
 ghost use lib.ListN.{length};
-ghost use Rattle.cover.specs.Updating.{eitherTooLarge, lengthsWrong, contentsTested, updateTested};
+ghost use Rattle.cover_tests.specs.Refusals.{eitherTooLarge, lengthsWrong, contentsTested, updateTested};
 
 fn either_too_large(on: usize, nn: usize, groups: usize, metas: usize) -> bool
     ensures { λ r. ⌜ r ≡ eitherTooLarge on nn groups metas ⌝ }
@@ -43,7 +43,7 @@ fn contents(old: &[u8], new: &[u8], groups: usize, metas: usize, given: &[u8]) -
 }
 
 // The first refusal that applies before the update is made, where the work slice has so many words.
-pub(crate) fn update_tested(
+pub fn update_tested(
     old: &[u8],
     new: &[u8],
     groups: usize,

@@ -6,13 +6,12 @@ use native.Mathlib.Omega.{arith}
 use lib.ListN.{length}
 use lib.Dec.{ltb}
 use borrow.Author.Tests.{lt-ltb, le-ltb}
+use Rattle.cover_tests.specs.ReadyLaws.{Small, both-small}
+use Rattle.cover_tests.specs.Refusals.{eitherTooLarge, lengthsWrong}
 use Rattle.cover_spec.specs.Marks.{workNeeded}
-use Rattle.cover.specs.CoveringLaws.{Small}
-use Rattle.cover.specs.Updating.{eitherTooLarge, lengthsWrong}
-use Rattle.cover.specs.UpdatingLaws.{both-small}
 use borrow.Author.Needs.{needs}
-use Rattle.cover.proofs.update_tests.update_tested.Statement.{statement}
-use Rattle.cover.proofs.update_tests.update_tested.Tie as tie
+use Rattle.cover_tests.proofs.update_tests.update_tested.Statement.{statement}
+use Rattle.cover_tests.proofs.update_tests.update_tested.Tie as tie
 
 -- the sizes are within their limits
 sizes : (c : tie.Else1) → eitherTooLarge (length (c .before .before .before .before .before .args .old .now) / 8) (length (c .before .before .before .before .before .args .new .now) / 8) (c .before .before .before .before .before .args .groups) (c .before .before .before .before .before .args .metas) ≡ false

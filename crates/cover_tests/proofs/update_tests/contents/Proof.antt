@@ -1,10 +1,10 @@
 -- `contents` meets its contract: the first list that refuses. Assumes nothing.
 use mathlib.Core.Path.{_≡_, sym, _∙_}
 use borrow.Author.Needs.{needs}
+use Rattle.cover_tests.specs.Refusals.{edgesTested}
 use Rattle.records.specs.declared.refusal.Tested.the-variants.{Passed}
-use Rattle.cover.specs.Covering.{edgesTested}
-use Rattle.cover.proofs.update_tests.contents.Statement.{statement}
-use Rattle.cover.proofs.update_tests.contents.Tie as tie
+use Rattle.cover_tests.proofs.update_tests.contents.Statement.{statement}
+use Rattle.cover_tests.proofs.update_tests.contents.Tie as tie
 
 returns : tie.Need-returns
 returns c = rw (sym (c .before .before .edges-tested .ensures) ∙ c .enum-told2 .given .1) (c .enum-told2 .given .1)

@@ -1,7 +1,7 @@
 -- `either_too_large` meets its contract. Assumes nothing.
 use borrow.Author.Needs.{needs}
-use Rattle.cover.proofs.update_tests.either_too_large.Statement.{statement}
-use Rattle.cover.proofs.update_tests.either_too_large.Tie as tie
+use Rattle.cover_tests.proofs.update_tests.either_too_large.Statement.{statement}
+use Rattle.cover_tests.proofs.update_tests.either_too_large.Tie as tie
 
 returns : tie.Need-returns
 returns c = rw (c .before .too-large .ensures, c .too-large2 .ensures)

@@ -1,7 +1,7 @@
 -- `edges_tested` meets its contract. Assumes nothing.
 use borrow.Author.Needs.{needs}
-use Rattle.cover.proofs.tests.edges_tested.Statement.{statement}
-use Rattle.cover.proofs.tests.edges_tested.Tie as tie
+use Rattle.cover_tests.proofs.tests.edges_tested.Statement.{statement}
+use Rattle.cover_tests.proofs.tests.edges_tested.Tie as tie
 
 returns : tie.Need-returns
 returns c = rw (c .before .first-bad-edge .ensures) at (c .field-tested .ensures)

@@ -6,8 +6,8 @@ use records::field_tested;
 ghost use mathlib.Core.Path.{_≡_};
 ghost use Prim.Native.Nat.{_/_, _≤_};
 ghost use lib.ListN.{length};
+ghost use Rattle.cover_tests.specs.Refusals.{tooLarge, edgesTested, coverTested};
 ghost use Rattle.cover_spec.specs.Marks.{workNeeded};
-ghost use Rattle.cover.specs.Covering.{tooLarge, edgesTested, coverTested};
 
 pub(crate) fn too_large(n: usize, groups: usize, metas: usize) -> bool
     ensures { λ r. ⌜ r ≡ tooLarge n groups metas ⌝ }
@@ -32,7 +32,7 @@ pub(crate) fn edges_tested(edges: &[u8], groups: usize, metas: usize) -> Tested
 }
 
 // The first refusal that applies before the cover is made, where the work slice has so many words.
-pub(crate) fn tested(edges: &[u8], groups: usize, metas: usize, words: usize) -> Tested
+pub fn cover_tested(edges: &[u8], groups: usize, metas: usize, words: usize) -> Tested
     ensures { λ r. ⌜ r ≡ coverTested (now (edges .entry)) groups metas words ⌝ }
 {
     let n = edges.len() / 8;

@@ -1,4 +1,4 @@
--- `tested` meets its contract, test by test. Assumes nothing.
+-- `cover_tested` meets its contract, test by test. Assumes nothing.
 use Prim.Native.Nat.{_/_}
 use mathlib.Core.Path.{_≡_, sym, _∙_}
 use mathlib.Core.Bool.{true, false}
@@ -7,11 +7,11 @@ use lib.Dec.{ltb}
 use borrow.Author.Tests.{lt-ltb, le-ltb, eq-eqb, ne-eqb}
 use native.Mathlib.Omega.{arith}
 use borrow.Author.Needs.{needs}
+use Rattle.cover_tests.specs.Refusals.{tooLarge}
+use Rattle.cover_tests.specs.ReadyLaws.{Small, small}
 use Rattle.cover_spec.specs.Marks.{workNeeded}
-use Rattle.cover.specs.Covering.{tooLarge}
-use Rattle.cover.specs.CoveringLaws.{Small, small}
-use Rattle.cover.proofs.tests.tested.Statement.{statement}
-use Rattle.cover.proofs.tests.tested.Tie as tie
+use Rattle.cover_tests.proofs.tests.cover_tested.Statement.{statement}
+use Rattle.cover_tests.proofs.tests.cover_tested.Tie as tie
 
 returns : tie.Need-returns
 returns c = rw (sym (c .before .too-large .ensures) ∙ c .if1 .taken)
@@ -45,7 +45,7 @@ edges-tested-requires c κs = limits (c .before .before .before) .few
 returns-4 : tie.Need-returns-4
 returns-4 c = rw (sizes (c .before .before .before .before), eq-eqb _ _ (c .before .before .before .if2 .left), enough (c .before)) (c .edges-tested .ensures)
 
-pub tested-spec : {M : Type 1} → statement M
-tested-spec =
+pub cover-tested-spec : {M : Type 1} → statement M
+cover-tested-spec =
     tie.close (tie.spec (λ c κs. search needs) returns returns-2 work-needed-requires returns-3
     edges-tested-requires returns-4)
