@@ -1,9 +1,4 @@
--- Nothing here has to be believed: Joining, Walking and Touching say what the tables hold, the files named Laws why the code
--- keeps them so.
-pub mod Joining
-pub mod JoiningLaws
-pub mod Walking
-pub mod WalkingLaws
+-- Nothing here has to be believed: Touching says what the tables hold, the files named Laws why the code keeps them so.
 pub mod Touching
 pub mod TouchingLaws
 pub mod SetUpLaws

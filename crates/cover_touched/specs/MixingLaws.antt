@@ -8,12 +8,12 @@ use mathlib.Core.List.{List}
 use lib.ListN.{length, getD, set}
 use lib.Seq.{getD-set-same, getD-set-other}
 use lib.Dec.{eqb}
+use Rattle.cover_joining.specs.Joining.{Forest, Found, nodes}
+use Rattle.cover_joining.specs.JoiningLaws.{less-than}
 use Rattle.lists.specs.Tests.{same?}
 use Rattle.cover_spec.specs.Cover.{Edge}
 use Rattle.cover_spec.specs.Update.{touched}
-use Rattle.cover_touched.specs.Joining.{Forest, Found}
-use Rattle.cover_touched.specs.JoiningLaws.{less-than}
-use Rattle.cover_touched.specs.Touching.{nodes, Told, Mixed}
+use Rattle.cover_touched.specs.Touching.{Told, Mixed}
 
 pub record Mixing (groups metas : ℕ) (w₀ w given : List ℕ) (k : ℕ) (marks marks′ : List ℕ) : Type 0 where
   pub forest : Forest w metas (nodes groups metas)

@@ -6,12 +6,14 @@ use mathlib.Core.Path.{_≡_, sym, ap, _∙_}
 use mathlib.Core.Logic.{inl, inr}
 use mathlib.Core.List.{List}
 use lib.ListN.{length, getD, replicate, length-replicate}
+use Rattle.cover_joining.specs.Joining.{nodes}
+use Rattle.cover_differing.specs.Walking.{atOld, atNew, nextOld, nextNew, Linked}
 use Rattle.records.specs.Le.{numberAt}
 use Rattle.cover_edges.specs.Chains.{Out, Chains}
 use Rattle.cover_edges.specs.ChainLaws.{chains-same}
 use Rattle.cover_edges.specs.RangeLaws.{InRange}
 use Rattle.cover_edges.specs.TableLaws.{zero-at}
-use Rattle.cover_touched.specs.Touching.{nodes, atOld, atNew, nextOld, nextNew, Sized, Linked}
+use Rattle.cover_touched.specs.Touching.{Sized}
 
 pub cleared-at : (w w₁ : List ℕ) (i : ℕ) → w₁ ≡ replicate (length w) 0 → getD w₁ i 0 ≡ 0
 cleared-at w w₁ i e = zero-at w₁ i (e ∙ ap (λ (n : ℕ). replicate n 0) (sym (ap length e ∙ length-replicate {A = ℕ} (length w) 0)))

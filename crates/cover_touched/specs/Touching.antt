@@ -1,44 +1,20 @@
 -- The tables of the update in the lent work slice, and what they say.
-use Prim.Native.Nat.{ℕ, zero, suc, _+_, _*_, _≤_, _<_}
+use Prim.Native.Nat.{ℕ, zero, suc, _+_, _≤_, _<_}
 use mathlib.Core.Path.{_≡_}
 use mathlib.Core.Bool.{Bool, cond}
 use mathlib.Core.List.{List, _∷_}
 use lib.ListN.{getD}
 use lib.Dec.{eqb}
-use Rattle.records.specs.Le.{numberAt}
+use Rattle.cover_joining.specs.Joining.{Forest, Reps, nodes}
+use Rattle.cover_differing.specs.Walking.{nextNew}
 use Rattle.cover_spec.specs.Cover.{Edge}
 use Rattle.cover_spec.specs.Update.{touched}
 use Rattle.cover_edges.specs.RangeLaws.{InRange}
-use Rattle.cover_touched.specs.Joining.{Forest, Reps}
-use Rattle.cover_touched.specs.Walking.{Walkable}
-
--- ---- the nodes: 0 for what is touched, then one for each group, then one for each meta-peptide
-abbrev pub nodes : ℕ → ℕ → ℕ
-nodes groups metas = 1 + groups + metas
-
--- a link for each of the first i records
-unfoldable pub edgeLinks : ℕ → List ℕ → ℕ → List Edge → List Edge
-edgeLinks groups bs zero links = links
-edgeLinks groups bs (suc i) links = (1 + numberAt 4 bs (8 * i), 1 + groups + numberAt 4 bs (8 * i + 4)) ∷ edgeLinks groups bs i links
 
 -- a link to what is touched for each of the first k groups that pass the test
 unfoldable pub seeds : (ℕ → Bool) → ℕ → List Edge → List Edge
 seeds d zero links = links
 seeds d (suc k) links = cond (d k) ((0, 1 + k) ∷ seeds d k links) (seeds d k links)
-
--- ---- the layout: from 0 on a count for each meta-peptide, from `metas` on the nodes, then the heads of the groups' old records, of
--- their new records, the nexts of the old records and of the new ones
-abbrev pub atOld : ℕ → ℕ → ℕ
-atOld groups metas = metas + (1 + groups + metas)
-
-abbrev pub atNew : ℕ → ℕ → ℕ
-atNew groups metas = metas + (1 + groups + metas) + groups
-
-abbrev pub nextOld : ℕ → ℕ → ℕ
-nextOld groups metas = metas + (1 + groups + metas) + groups + groups
-
-abbrev pub nextNew : ℕ → ℕ → ℕ → ℕ
-nextNew groups metas on = metas + (1 + groups + metas) + groups + groups + on
 
 -- what the update asks of the sizes
 pub record Sized (old : List ℕ) (on : ℕ) (new : List ℕ) (nn groups metas words : ℕ) : Type 0 where
@@ -49,14 +25,6 @@ pub record Sized (old : List ℕ) (on : ℕ) (new : List ℕ) (nn groups metas w
   pub old-inside : InRange old on groups metas
   pub new-inside : InRange new nn groups metas
   pub room : nextNew groups metas on + nn ≤ words
-
--- the groups' records are linked, and nothing is counted
-pub record Linked (old : List ℕ) (on : ℕ) (new : List ℕ) (nn groups metas : ℕ) (w : List ℕ) : Type 0 where
-  pub groups-max : groups ≤ 131072
-  pub metas-max : metas ≤ 262144
-  pub by-old : Walkable old on groups metas w (atOld groups metas) (nextOld groups metas)
-  pub by-new : Walkable new nn groups metas w (atNew groups metas) (nextNew groups metas on)
-  pub clean : (m : ℕ) → m < metas → getD w m 0 ≡ 0
 
 -- a group is touched exactly if its node is in the part of node 0
 pub record Told (old new : List Edge) (groups metas : ℕ) (w : List ℕ) : Type 0 where

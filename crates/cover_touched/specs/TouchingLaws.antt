@@ -1,49 +1,33 @@
 -- Laws of the update's tables. Assumes nothing.
-use Prim.Native.Nat.{ℕ, zero, suc, _+_, _-_, _*_, _≤_, _<_}
+use Prim.Native.Nat.{ℕ, zero, suc, _+_, _-_, _≤_, _<_}
 use native.Mathlib.Omega.{arith}
 use native.Mathlib.Numerals.{add-one}
 use mathlib.Core.Path.{_≡_, refl, sym, ap, _∙_, subst}
-use mathlib.Core.Bool.{Bool, true, false, cond, not, _&&_, _||_, true≢false, false≢true}
+use mathlib.Core.Bool.{Bool, true, false, cond, _&&_, true≢false, false≢true}
 use mathlib.Core.Logic.{inl, inr, ⊎-elim}
 use mathlib.Core.List.{List, [], _∷_, _++_}
 use lib.ListN.{length, getD}
-use lib.Seq.{ext-getD}
 use lib.Dec.{eqb, ltb}
-use borrow.Author.Tests.{eqb-true, eq-eqb, ne-eqb, ltb-true, lt-ltb, le-ltb}
-use Rattle.lists.specs.Tests.{same?, below?, truth?, both}
+use borrow.Author.Tests.{eqb-true, eq-eqb, ltb-true, lt-ltb, le-ltb}
+use Rattle.cover_joining.specs.Joining.{Forest, Held, Joined, nodes, edgeLinks}
+use Rattle.cover_differing.specs.Walking.{differing, atOld, atNew, nextOld, nextNew, Linked}
+use Rattle.lists.specs.Tests.{same?, below?, both}
 use Rattle.lists.specs.Lists.{count, All}
-use Rattle.lists.specs.KeepLaws.{all-map, all-has, all-append, all-two, count-append, none}
-use Rattle.records.specs.Le.{numberAt}
+use Rattle.lists.specs.KeepLaws.{all-map, all-has, all-append, all-two, all-both}
 use Rattle.cover_spec.specs.Cover.{Edge, group, meta, sameEdge}
 use Rattle.cover_spec.specs.Update.{differs, touched}
 use Rattle.cover_spec.specs.CountLaws.{find}
-use Rattle.cover_spec.specs.ConnectedLaws.{here, has}
+use Rattle.cover_spec.specs.ConnectedLaws.{here}
 use Rattle.cover_spec.specs.TouchedLaws.{Touched, touchedMeta, touched-to, touched-of, touched-linked, flags-touched}
 use Rattle.cover_edges.specs.Chains.{Out}
-use Rattle.cover_edges.specs.ChainLaws.{chains-same}
 use Rattle.cover_edges.specs.Edges.{edgeAt, edgesTo}
 use Rattle.cover_edges.specs.RangeLaws.{InRange}
 use Rattle.cover_edges.specs.EdgeLaws.{edges-all}
-use Rattle.cover_touched.specs.Joining.{Forest, Held, Joined}
-use Rattle.cover_touched.specs.Walking.{differing, ofPair, Walkable, Tallied, Taken, Swept}
-use Rattle.cover_touched.specs.Touching.{nodes, edgeLinks, seeds, atOld, atNew, nextOld, nextNew, Linked, Told}
+use Rattle.cover_touched.specs.Touching.{seeds, Told}
+use Rattle.cover_joining.specs.JoiningLaws.{joined-none, joined-then}
+use Rattle.cover_differing.specs.DifferingLaws.{differing-has, walkable-same}
 
 -- ---- more links, one by one
-
-joined-none : (w : List ℕ) (p n : ℕ) → Forest w p n → Joined (λ links. links) w w p n
-joined-none w p n f = record { forest = f; held = λ links h. h; rest = λ i o. refl }
-
-joined-then : {f g : List Edge → List Edge} {u v w : List ℕ} {p n : ℕ} → Joined f u v p n → Joined g v w p n → Joined (λ links. g (f links)) u w p n
-joined-then {f} a b = record { forest = b .forest; held = λ links h. b .held (f links) (a .held links h); rest = λ i o. b .rest i o ∙ a .rest i o }
-
-pub edges-start : (groups : ℕ) (bs w : List ℕ) (p n : ℕ) → Forest w p n → Joined (edgeLinks groups bs 0) w w p n
-unfolding edgeLinks
-edges-start groups bs w p n f = joined-none w p n f
-
-pub edges-turn : (groups : ℕ) (bs u v w : List ℕ) (p n i : ℕ) → Joined (edgeLinks groups bs i) u v p n
-    → Joined (λ links. (1 + numberAt 4 bs (8 * i), 1 + groups + numberAt 4 bs (8 * i + 4)) ∷ links) v w p n → Joined (edgeLinks groups bs (i + 1)) u w p n
-unfolding edgeLinks
-edges-turn groups bs u v w p n i a b = rw add-one (joined-then a b)
 
 pub seeds-start : (d : ℕ → Bool) (w : List ℕ) (p n : ℕ) → Forest w p n → Joined (seeds d 0) w w p n
 unfolding seeds
@@ -67,15 +51,11 @@ seed-no {w} {p} {n} r false g e t f = joined-none w p n f
 
 -- ---- what holds of all links
 
-all-join : (P : Edge → Type 0) (A B : List Edge) → All P A → All P B → All P (A ++ B)
-all-join P [] B a b = b
-all-join P (e ∷ A) B a b = (a .0, all-join P A B (a .1) b)
-
 module _ (P : Edge → Type 0) where
   edges-split : (groups : ℕ) (bs : List ℕ) (n : ℕ) (links : List Edge) → All P (edgeLinks groups bs n links) → All (λ e. P (1 + group e, 1 + groups + meta e)) (edgesTo bs n) × All P links
   unfolding edgeLinks edgesTo
   edges-split groups bs zero links h = (tt, h)
-  edges-split groups bs (suc n) links h = let (a, b) = edges-split groups bs n links (h .1) in (all-join _ (edgesTo bs n) (edgeAt bs n ∷ []) a (h .0, tt), b)
+  edges-split groups bs (suc n) links h = let (a, b) = edges-split groups bs n links (h .1) in (all-both _ (edgesTo bs n) (edgeAt bs n ∷ []) a (h .0, tt), b)
 
   edges-make : (groups : ℕ) (bs : List ℕ) (n : ℕ) (links : List Edge) → All (λ e. P (1 + group e, 1 + groups + meta e)) (edgesTo bs n) → All P links → All P (edgeLinks groups bs n links)
   unfolding edgeLinks edgesTo
@@ -109,25 +89,6 @@ module _ (P : Edge → Type 0) where
 module _ (old new : List Edge) where
   abbrev J : List Edge
   J = old ++ new
-
-  differing-has : (e : Edge) → 0 < count (sameEdge e) J → differs old new e ≡ true → differing old new (group e) ≡ true
-  unfolding differing
-  differing-has e i q = has (λ d. eqb (group d) (group e) && differs old new d) e J i (rw (eq-eqb (group e) (group e) refl) q)
-
-  pub differing-yes : (g m : ℕ) → (count (sameEdge (g, m)) old ≡ count (sameEdge (g, m)) new → ⊥) → differing old new g ≡ true
-  differing-yes g m u =
-      differing-has (g, m) (⊎-elim (λ (h : 0 < count (sameEdge (g, m)) J). h) (λ (h : count (sameEdge (g, m)) J ≤ 0). absurd (u (omega (arith, count-append (sameEdge (g, m)) old new)))) (below? 0 (count (sameEdge (g, m)) J)))
-      (ap not (ne-eqb (count (sameEdge (g, m)) old) (count (sameEdge (g, m)) new) u))
-
-  pub differing-no : (g metas : ℕ) → All (λ e. meta e < metas) J → ((m : ℕ) → m < metas → count (sameEdge (g, m)) old ≡ count (sameEdge (g, m)) new) → differing old new g ≡ false
-  unfolding differing
-  differing-no g metas inside h = none (λ e. eqb (group e) g && differs old new e) J (all-map (λ e l. go e l (eqb (group e) g) refl) J inside)
-    where
-      go : (e : Edge) → meta e < metas → (b : Bool) → eqb (group e) g ≡ b → (b && differs old new e) ≡ false
-      go e l true i =
-          let q : count (sameEdge e) old ≡ count (sameEdge e) new = subst (λ (x : ℕ). count (sameEdge (x, meta e)) old ≡ count (sameEdge (x, meta e)) new) (sym (eqb-true (group e) g i)) (h (meta e) l) in
-          ap not (eq-eqb (count (sameEdge e) old) (count (sameEdge e) new) q)
-      go e l false i = refl
 
   seed-edge : (g : ℕ) → differing old new g ≡ true → touched old new g ≡ true
   unfolding differing
@@ -170,7 +131,7 @@ module _ (old : List ℕ) (on : ℕ) (new : List ℕ) (nn groups metas : ℕ) (w
   both-lists = olds ++ news
 
   inside : All (λ e. (group e < groups) × (meta e < metas)) both-lists
-  inside = all-join _ olds news (edges-all old on groups metas io) (edges-all new nn groups metas iw)
+  inside = all-both _ olds news (edges-all old on groups metas io) (edges-all new nn groups metas iw)
 
   abbrev touches : ℕ → Bool
   touches x = eqb (h .rep x) 0
@@ -183,7 +144,7 @@ module _ (old : List ℕ) (on : ℕ) (new : List ℕ) (nn groups metas : ℕ) (w
       let P : Edge → Type 0 = λ l. h .rep (l .0) ≡ h .rep (l .1) in
       let s = seeds-split P (differing olds news) groups (edgeLinks groups new nn (edgeLinks groups old on [])) (h .joins) .1 in
       let (a, r) = edges-split P groups new nn (edgeLinks groups old on []) s in
-      all-join _ olds news (edges-split P groups old on [] r .0) a
+      all-both _ olds news (edges-split P groups old on [] r .0) a
 
   zero-top : h .rep 0 ≡ 0
   zero-top = h .reps .top 0 (omega arith) (omega (arith, f .down 0 (omega arith)))
@@ -218,16 +179,6 @@ module _ (old : List ℕ) (on : ℕ) (new : List ℕ) (nn groups metas : ℕ) (w
 
 -- ---- one group's edges counted, taken off and swept
 
-pub walkable-same : {bs : List ℕ} {n groups metas : ℕ} (w w′ : List ℕ) (hd nx : ℕ) → length w′ ≡ length w → ((i : ℕ) → hd ≤ i → getD w′ i 0 ≡ getD w i 0) → Walkable bs n groups metas w hd nx → Walkable bs n groups metas w′ hd nx
-walkable-same {bs} {n} {groups} {metas} w w′ hd nx e s t = record {
-  few = t .few;
-  inside = t .inside;
-  above = t .above;
-  order = t .order;
-  room = omega (arith, t .room);
-  chains = chains-same w w′ bs 0 n groups hd nx (λ x l. s (hd + x) (omega arith)) (λ i l. s (nx + i) (omega (arith, t .order))) (t .chains);
-}
-
 -- a table that agrees outside of the nodes
 pub linked-same : {old new : List ℕ} {on nn groups metas : ℕ} (w w′ : List ℕ) → length w′ ≡ length w → ((i : ℕ) → Out i metas (nodes groups metas) → getD w′ i 0 ≡ getD w i 0) → Linked old on new nn groups metas w → Linked old on new nn groups metas w′
 linked-same {old} {new} {on} {nn} {groups} {metas} w w′ e s k = record {
@@ -237,32 +188,3 @@ linked-same {old} {new} {on} {nn} {groups} {metas} w w′ e s k = record {
   by-new = walkable-same w w′ (atNew groups metas) (nextNew groups metas on) e (λ i l. s i (inr (omega arith))) (k .by-new);
   clean = λ m l. s m (inl l) ∙ k .clean m l;
 }
-
--- what the sweep asks: a meta-peptide without old edges has nothing left
-pub swept-clean : {w w₁ w₂ old new : List ℕ} {on nn metas g : ℕ} {lack : Bool} → Tallied w w₁ old on metas g → Taken w₁ w₂ new nn metas g lack → (m : ℕ) → m < metas → ofPair g m old on ≡ 0 → getD w₂ m 0 ≡ 0
-swept-clean a b m l e = omega (arith, b .counts m l, a .counts m l)
-
-module _ (old : List ℕ) (on : ℕ) (new : List ℕ) (nn groups metas g : ℕ) (w w₁ w₂ w₃ : List ℕ) (lack left : Bool) (k : Linked old on new nn groups metas w)
-    (a : Tallied w w₁ old on metas g) (b : Taken w₁ w₂ new nn metas g lack) (c : Swept w₂ w₃ metas left) where
-  pub differ-made : (lack || left) ≡ differing (edgesTo old on) (edgesTo new nn) g
-  unfolding ofPair
-  differ-made = sym (⊎-elim yes (λ (u : lack ≡ false). ⊎-elim (yes-left u) (λ (v : left ≡ false). nope u v) (truth? left)) (truth? lack))
-    where
-      yes : lack ≡ true → differing (edgesTo old on) (edgesTo new nn) g ≡ (lack || left)
-      yes e =
-          let (m, l, q) = b .less e in
-          differing-yes (edgesTo old on) (edgesTo new nn) g m (λ z. omega (arith, a .counts m l)) ∙ sym (ap (λ (t : Bool). t || left) e)
-
-      yes-left : lack ≡ false → left ≡ true → differing (edgesTo old on) (edgesTo new nn) g ≡ (lack || left)
-      yes-left u e =
-          let (m, l, q) = c .more e in
-          differing-yes (edgesTo old on) (edgesTo new nn) g m (λ z. omega (arith, a .counts m l, b .counts m l)) ∙ sym (ap (λ (t : Bool). t || left) u ∙ e)
-
-      nope : lack ≡ false → left ≡ false → differing (edgesTo old on) (edgesTo new nn) g ≡ (lack || left)
-      nope u v =
-          differing-no (edgesTo old on) (edgesTo new nn) g metas
-          (all-join _ (edgesTo old on) (edgesTo new nn) (all-map (λ e h. h .1) (edgesTo old on) (edges-all old on groups metas (k .by-old .inside))) (all-map (λ e h. h .1) (edgesTo new nn) (edges-all new nn groups metas (k .by-new .inside))))
-          (λ m l. omega (arith, a .counts m l, b .counts m l, b .enough u m l, c .none v m l)) ∙ sym (ap (λ (t : Bool). t || left) u ∙ v)
-
-  pub differ-same : length w₃ ≡ length w → w₃ ≡ w
-  differ-same e = ext-getD 0 w₃ w e (λ i l. ⊎-elim (λ (q : i < metas). c .clean i q ∙ sym (k .clean i q)) (λ (q : metas ≤ i). c .rest i q ∙ b .rest i q ∙ a .rest i q) (below? i metas))

@@ -1,7 +1,5 @@
 // Which groups an update touches: the groups and meta-peptides of both lists joined into parts, and the groups whose edges differ. No
 // entries: only crates of this repository call these.
-mod differing;
-mod joining;
 mod mixing;
 mod touching;
 

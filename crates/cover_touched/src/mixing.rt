@@ -1,6 +1,6 @@
 // The marks of an update.
-use crate::joining::lowest;
 use crate::touching::touch;
+use cover_joining::lowest;
 use records::clear;
 ghost use mathlib.Core.Path.{_≡_};
 ghost use mathlib.Core.Bool.{cond};
@@ -8,10 +8,10 @@ ghost use mathlib.Core.List.{List};
 ghost use Prim.Native.Nat.{_≤_, _<_};
 ghost use lib.ListN.{length, replicate};
 ghost use lib.Dec.{eqb};
+ghost use Rattle.cover_joining.specs.Joining.{Forest, nodes};
 ghost use Rattle.cover_spec.specs.Cover.{Edge};
 ghost use Rattle.cover_edges.specs.Edges.{edgesTo};
-ghost use Rattle.cover_touched.specs.Joining.{Forest};
-ghost use Rattle.cover_touched.specs.Touching.{nodes, Sized, Told, Mixed};
+ghost use Rattle.cover_touched.specs.Touching.{Sized, Told, Mixed};
 
 fn picked(low: usize, made: u8, kept: u8) -> u8
     ensures { λ r. ⌜ r ≡ cond (eqb low 0) made kept ⌝ }

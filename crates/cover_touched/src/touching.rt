@@ -1,19 +1,19 @@
 // The parts that an update touches.
-use crate::differing::differs_at;
-use crate::joining::join;
-use crate::joining::join_edges;
-use crate::joining::part;
+use cover_differing::differs_at;
 use cover_edges::link;
+use cover_joining::each_alone;
+use cover_joining::join;
+use cover_joining::join_edges;
 use records::clear;
 ghost use mathlib.Core.Path.{_≡_};
 ghost use mathlib.Core.Bool.{cond};
 ghost use mathlib.Core.List.{_∷_};
 ghost use Prim.Native.Nat.{ℕ, _+_, _<_};
 ghost use lib.ListN.{length, getD};
+ghost use Rattle.cover_joining.specs.Joining.{Forest, Joined, nodes};
+ghost use Rattle.cover_differing.specs.Walking.{differing, Linked};
 ghost use Rattle.cover_edges.specs.Edges.{edgesTo};
-ghost use Rattle.cover_touched.specs.Joining.{Forest, Joined};
-ghost use Rattle.cover_touched.specs.Walking.{differing};
-ghost use Rattle.cover_touched.specs.Touching.{nodes, seeds, Sized, Linked, Told};
+ghost use Rattle.cover_touched.specs.Touching.{seeds, Sized, Told};
 
 // Makes all tables: each node is a part of its own.
 fn set_up(old: &[u8], on: usize, new: &[u8], nn: usize, groups: usize, metas: usize, w: &mut [u32])
@@ -28,7 +28,7 @@ fn set_up(old: &[u8], on: usize, new: &[u8], nn: usize, groups: usize, metas: us
     clear(w);
     link(old, on, 0, w, groups, ho, no);
     link(new, nn, 0, w, groups, hn, no + on);
-    part(w, metas, size);
+    each_alone(w, metas, size);
 }
 
 // Joins group g to what is touched if some edge of it differs.

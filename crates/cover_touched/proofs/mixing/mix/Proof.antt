@@ -3,7 +3,8 @@ use Prim.Native.Nat.{ℕ, _-_, _≤_}
 use native.Mathlib.Omega.{arith}
 use mathlib.Core.Path.{_≡_, refl, _∙_, subst}
 use lib.ListN.{length, length-set}
-use Rattle.cover_touched.specs.Touching.{nodes, Mixed}
+use Rattle.cover_joining.specs.Joining.{nodes}
+use Rattle.cover_touched.specs.Touching.{Mixed}
 use Rattle.cover_touched.specs.MixingLaws.{Mixing, mixing-start, mixing-turn}
 use borrow.Author.Needs.{needs}
 use Rattle.cover_touched.proofs.mixing.mix.Statement.{statement}

@@ -3,10 +3,10 @@ use Prim.Native.Nat.{_-_, _≤_}
 use native.Mathlib.Omega.{arith}
 use mathlib.Core.Path.{_≡_, refl, _∙_}
 use lib.ListN.{length}
+use Rattle.cover_joining.specs.Joining.{Joined, nodes}
+use Rattle.cover_differing.specs.Walking.{differing, Linked}
 use Rattle.cover_edges.specs.Edges.{edgesTo}
-use Rattle.cover_touched.specs.Joining.{Joined}
-use Rattle.cover_touched.specs.Walking.{differing}
-use Rattle.cover_touched.specs.Touching.{nodes, seeds, Linked}
+use Rattle.cover_touched.specs.Touching.{seeds}
 use Rattle.cover_touched.specs.TouchingLaws.{seeds-start, seeds-turn, seeds-end, linked-same}
 use borrow.Author.Needs.{needs}
 use Rattle.cover_touched.proofs.touching.join_differing.Statement.{statement}

@@ -1,7 +1,7 @@
 -- `join_if` meets its contract. Assumes nothing.
 use native.Mathlib.Omega.{arith}
+use Rattle.cover_differing.specs.Walking.{differing}
 use Rattle.cover_edges.specs.Edges.{edgesTo}
-use Rattle.cover_touched.specs.Walking.{differing}
 use Rattle.cover_touched.specs.TouchingLaws.{seed-yes, seed-no}
 use borrow.Author.Needs.{needs}
 use Rattle.cover_touched.proofs.touching.join_if.Statement.{statement}

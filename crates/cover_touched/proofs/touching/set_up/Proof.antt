@@ -2,7 +2,7 @@
 use Prim.Native.Nat.{_+_}
 use native.Mathlib.Omega.{arith}
 use mathlib.Core.Path.{_∙_}
-use Rattle.cover_touched.specs.Touching.{atOld}
+use Rattle.cover_differing.specs.Walking.{atOld}
 use Rattle.cover_touched.specs.SetUpLaws.{cleared-at, field-inside, new-heads, set-up-linked}
 use borrow.Author.Needs.{needs}
 use Rattle.cover_touched.proofs.touching.set_up.Statement.{statement}
@@ -25,8 +25,8 @@ link-requires-2 c κs =
     let r = st .pre .room in
     ((st .pre .new-few, omega arith), ((omega arith, omega (arith, cleared .kept .0, first .kept .1 .1 .1 .0)), (field-inside (a .new .now) (a .nn) (a .groups) (a .metas) (st .pre .new-inside), new-heads (a .old .now) (a .on) (a .new .now) (a .nn) (a .groups) (a .metas) (a .w .now) (cleared .last .0) (first .last .1 .1 .1 .0) (st .pre) (cleared .ensures) (first .ensures .1))))
 
-part-requires : tie.Need-part-requires
-part-requires c κs =
+each-alone-requires : tie.Need-each-alone-requires
+each-alone-requires c κs =
     let st = c .before .before .before .before .before .before .before .before .before .before .before .before .before .before .before .before in
     (omega (arith, st .pre .room, c .before .before .before .before .before .before .before .before .before .before .before .clear .kept .0, c .before .before .before .before .before .before .before .link .kept .1 .1 .1 .0, c .before .before .before .link2 .kept .1 .1 .1 .0), omega (arith, st .pre .groups-max, st .pre .metas-max))
 
@@ -37,7 +37,7 @@ returns c =
     let cleared = c .before .before .before .before .before .before .before .before .before .before .before .before .before .before .clear in
     let first = c .before .before .before .before .before .before .before .before .before .before .link in
     let second = c .before .before .before .before .before .before .link2 in
-    let own = c .before .before .part in (
+    let own = c .before .before .each-alone in (
       set-up-linked (a .old .now) (a .on) (a .new .now) (a .nn) (a .groups) (a .metas) (a .w .now) (cleared .last .0) (first .last .1 .1 .1 .0) (st .pre) (cleared .ensures) (first .ensures .1) (second .last .1 .1 .1 .0) (own .last .0) (own .kept .0 ∙ second .kept .1 .1 .1 .0 ∙ first .kept .1 .1 .1 .0 ∙ cleared .kept .0) (first .ensures .0) (second .ensures .0) (second .ensures .1) (own .ensures .1),
       own .ensures .0,
     )
@@ -45,5 +45,5 @@ returns c =
 pub set-up-spec : {M : Type 1} → statement M
 set-up-spec =
     tie.close (tie.spec (λ c. search needs) (λ c. search needs) (λ c. search needs) (λ c. search needs)
-    (λ c. search needs) (λ c κs. search needs) link-requires (λ c. search needs) link-requires-2 part-requires
+    (λ c. search needs) (λ c κs. search needs) link-requires (λ c. search needs) link-requires-2 each-alone-requires
     (λ c. search needs) returns)

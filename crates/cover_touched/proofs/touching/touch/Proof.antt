@@ -2,8 +2,8 @@
 use native.Mathlib.Omega.{arith}
 use mathlib.Core.Path.{_∙_}
 use mathlib.Core.List.{[]}
-use Rattle.cover_touched.specs.Touching.{nodes}
-use Rattle.cover_touched.specs.JoiningLaws.{part-forest, part-held}
+use Rattle.cover_joining.specs.Joining.{nodes}
+use Rattle.cover_joining.specs.JoiningLaws.{alone-forest, alone-held}
 use Rattle.cover_touched.specs.TouchingLaws.{linked-same, parts-told}
 use borrow.Author.Needs.{needs}
 use Rattle.cover_touched.proofs.touching.touch.Statement.{statement}
@@ -14,7 +14,7 @@ join-edges-requires c κs =
     let st = c .before .before .before .before .before .before .before .before in
     let a = st .args in
     let made = c .before .before .before .set-up in
-    ((st .pre .old-few, st .pre .groups-max, st .pre .metas-max, st .pre .old-inside), part-forest (made .last .1 .1 .1 .1 .1 .1 .0) (a .metas) (nodes (a .groups) (a .metas)) (made .ensures .1) (omega (arith, st .pre .room, made .kept .1 .1 .1 .1 .1 .1 .0)))
+    ((st .pre .old-few, st .pre .groups-max, st .pre .metas-max, st .pre .old-inside), alone-forest (made .last .1 .1 .1 .1 .1 .1 .0) (a .metas) (nodes (a .groups) (a .metas)) (made .ensures .1) (omega (arith, st .pre .room, made .kept .1 .1 .1 .1 .1 .1 .0)))
 
 join-differing-requires : tie.Need-join-differing-requires
 join-differing-requires c κs =
@@ -31,7 +31,7 @@ returns c =
     let first = c .before .before .before .before .before .before .before .before .before .before .join-edges .ensures in
     let second = c .before .before .before .before .before .before .join-edges2 .ensures in
     let last = c .before .before .join-differing in
-    let none = part-held (made .last .1 .1 .1 .1 .1 .1 .0) (a .metas) (nodes (a .groups) (a .metas)) (made .ensures .1) in
+    let none = alone-held (made .last .1 .1 .1 .1 .1 .1 .0) (a .metas) (nodes (a .groups) (a .metas)) (made .ensures .1) in
     parts-told (a .old .now) (a .on) (a .new .now) (a .nn) (a .groups) (a .metas) (last .last .1 .1 .1 .1 .1 .1 .0) (st .pre .old-inside) (st .pre .new-inside) (last .ensures .forest) (last .ensures .held _ (second .held _ (first .held [] none)))
 
 pub touch-spec : {M : Type 1} → statement M

@@ -3,10 +3,10 @@ use Prim.Native.Nat.{ℕ, _+_, _-_, _<_}
 use native.Mathlib.Omega.{arith}
 use mathlib.Core.Path.{refl}
 use lib.ListN.{length, getD, set}
-use Rattle.cover_touched.specs.WalkingLaws.{Walk, walk-start, walk-in, walk-room, walk-falls, walk-turn, Taking, taking-start, taking-turn, taking-end}
 use borrow.Author.Needs.{needs}
-use Rattle.cover_touched.proofs.differing.take_off.Statement.{statement}
-use Rattle.cover_touched.proofs.differing.take_off.Tie as tie
+use Rattle.cover_differing.specs.WalkingLaws.{Walk, walk-start, walk-in, walk-room, walk-falls, walk-turn, Taking, taking-start, taking-turn, taking-end}
+use Rattle.cover_differing.proofs.differing.take_off.Statement.{statement}
+use Rattle.cover_differing.proofs.differing.take_off.Tie as tie
 
 abbrev Inv-loop : tie.InvT-loop
 Inv-loop edges n groups metas w₀ hd nx g lack₀ h₀ w lack h = Walk w₀ w edges n metas g h × Taking w₀ edges n metas g w h lack

@@ -3,12 +3,11 @@ use Prim.Native.Nat.{_-_, _≤_}
 use native.Mathlib.Omega.{arith}
 use mathlib.Core.Path.{_≡_, refl, _∙_}
 use lib.ListN.{length}
-use Rattle.cover_touched.specs.Joining.{Joined}
-use Rattle.cover_touched.specs.Touching.{nodes, edgeLinks}
-use Rattle.cover_touched.specs.TouchingLaws.{edges-start, edges-turn}
 use borrow.Author.Needs.{needs}
-use Rattle.cover_touched.proofs.joining.join_edges.Statement.{statement}
-use Rattle.cover_touched.proofs.joining.join_edges.Tie as tie
+use Rattle.cover_joining.specs.Joining.{Joined, nodes, edgeLinks}
+use Rattle.cover_joining.specs.JoiningLaws.{edges-start, edges-turn}
+use Rattle.cover_joining.proofs.joining.join_edges.Statement.{statement}
+use Rattle.cover_joining.proofs.joining.join_edges.Tie as tie
 
 abbrev Inv-loop : tie.InvT-loop
 Inv-loop edges n groups metas w₀ p size i₀ w i = (i ≤ n) × (size ≡ nodes groups metas) × (length w ≡ length w₀) × Joined (edgeLinks groups edges i) w₀ w p (nodes groups metas)

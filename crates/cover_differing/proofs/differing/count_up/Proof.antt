@@ -3,10 +3,10 @@ use Prim.Native.Nat.{ℕ, _+_, _-_, _<_}
 use native.Mathlib.Omega.{arith}
 use mathlib.Core.Path.{refl}
 use lib.ListN.{length, getD, set}
-use Rattle.cover_touched.specs.WalkingLaws.{pair-le, Walk, walk-start, walk-inside, walk-in, walk-room, walk-falls, walk-turn, Counting, counting-start, counting-turn, counting-end}
 use borrow.Author.Needs.{needs}
-use Rattle.cover_touched.proofs.differing.count_up.Statement.{statement}
-use Rattle.cover_touched.proofs.differing.count_up.Tie as tie
+use Rattle.cover_differing.specs.WalkingLaws.{pair-le, Walk, walk-start, walk-inside, walk-in, walk-room, walk-falls, walk-turn, Counting, counting-start, counting-turn, counting-end}
+use Rattle.cover_differing.proofs.differing.count_up.Statement.{statement}
+use Rattle.cover_differing.proofs.differing.count_up.Tie as tie
 
 abbrev Inv-loop : tie.InvT-loop
 Inv-loop edges n groups metas w₀ hd nx g h₀ w h = Walk w₀ w edges n metas g h × Counting edges n metas g w h

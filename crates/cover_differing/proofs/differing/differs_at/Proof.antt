@@ -1,11 +1,11 @@
 -- `differs_at` meets its contract. Assumes nothing.
 use native.Mathlib.Omega.{arith}
 use mathlib.Core.Path.{_∙_}
-use Rattle.cover_touched.specs.Touching.{atOld, atNew, nextOld, nextNew}
-use Rattle.cover_touched.specs.TouchingLaws.{walkable-same, swept-clean, differ-made, differ-same}
 use borrow.Author.Needs.{needs}
-use Rattle.cover_touched.proofs.differing.differs_at.Statement.{statement}
-use Rattle.cover_touched.proofs.differing.differs_at.Tie as tie
+use Rattle.cover_differing.specs.Walking.{atOld, atNew, nextOld, nextNew}
+use Rattle.cover_differing.specs.DifferingLaws.{walkable-same, swept-clean, differ-made, differ-same}
+use Rattle.cover_differing.proofs.differing.differs_at.Statement.{statement}
+use Rattle.cover_differing.proofs.differing.differs_at.Tie as tie
 
 take-off-requires : tie.Need-take-off-requires
 take-off-requires c κs =

@@ -3,10 +3,10 @@ use Prim.Native.Nat.{_+_, _<_}
 use native.Mathlib.Omega.{arith}
 use mathlib.Core.Path.{_≡_, refl, _∙_}
 use lib.ListN.{length, getD, length-set}
-use Rattle.cover_touched.specs.JoiningLaws.{Finding, finding-start, finding-less, finding-turn, finding-end}
 use borrow.Author.Needs.{needs}
-use Rattle.cover_touched.proofs.joining.lowest.Statement.{statement}
-use Rattle.cover_touched.proofs.joining.lowest.Tie as tie
+use Rattle.cover_joining.specs.JoiningLaws.{Finding, finding-start, finding-less, finding-turn, finding-end}
+use Rattle.cover_joining.proofs.joining.lowest.Statement.{statement}
+use Rattle.cover_joining.proofs.joining.lowest.Tie as tie
 
 abbrev Inv-loop : tie.InvT-loop
 Inv-loop w₀ p n x y₀ up₀ w y up = (length w ≡ length w₀) × Finding w₀ w p n x y up

@@ -5,13 +5,12 @@ ghost use mathlib.Core.Path.{_≡_};
 ghost use mathlib.Core.List.{_∷_};
 ghost use Prim.Native.Nat.{ℕ, _+_, _≤_, _<_};
 ghost use lib.ListN.{length, getD};
+ghost use Rattle.cover_joining.specs.Joining.{Forest, Found, Joined, nodes, edgeLinks};
 ghost use Rattle.cover_edges.specs.Chains.{Out};
 ghost use Rattle.cover_edges.specs.RangeLaws.{InRange};
-ghost use Rattle.cover_touched.specs.Joining.{Forest, Found, Joined};
-ghost use Rattle.cover_touched.specs.Touching.{nodes, edgeLinks};
 
 // Each of n nodes is a part of its own.
-pub(crate) fn part(w: &mut [u32], p: usize, n: usize)
+pub fn each_alone(w: &mut [u32], p: usize, n: usize)
     requires { ⌜ (p + n ≤ length (now w)) × (n ≤ 4294967295) ⌝ }
     ensures { λ _. ⌜ ((x : ℕ) → x < n → getD (now (w .exit)) (p + x) 0 ≡ x) ⌝ }
     ensures { λ _. ⌜ ((i : ℕ) → Out i p n → getD (now (w .exit)) i 0 ≡ getD (now (w .entry)) i 0) ⌝ }
@@ -25,7 +24,7 @@ pub(crate) fn part(w: &mut [u32], p: usize, n: usize)
 }
 
 // The lowest node of the part of x. Each node on the way is led past the one that it named, so that later ways are half as long.
-pub(crate) fn lowest(w: &mut [u32], p: usize, n: usize, x: usize) -> usize
+pub fn lowest(w: &mut [u32], p: usize, n: usize, x: usize) -> usize
     requires { ⌜ Forest (now w) p n ⌝ }
     requires { ⌜ x < n ⌝ }
     ensures { λ r. ⌜ Found (now (w .entry)) (now (w .exit)) p n x r ⌝ }
@@ -42,7 +41,7 @@ pub(crate) fn lowest(w: &mut [u32], p: usize, n: usize, x: usize) -> usize
 }
 
 // Joins the parts of x and y.
-pub(crate) fn join(w: &mut [u32], p: usize, n: usize, x: usize, y: usize)
+pub fn join(w: &mut [u32], p: usize, n: usize, x: usize, y: usize)
     requires { ⌜ Forest (now w) p n ⌝ }
     requires { ⌜ (x < n) × (y < n) × (n ≤ 4294967295) ⌝ }
     ensures { λ _. ⌜ Joined (λ links. (x, y) ∷ links) (now (w .entry)) (now (w .exit)) p n ⌝ }
@@ -59,14 +58,7 @@ pub(crate) fn join(w: &mut [u32], p: usize, n: usize, x: usize, y: usize)
 }
 
 // Joins the group and the meta-peptide of each of n records.
-pub(crate) fn join_edges(
-    edges: &[u8],
-    n: usize,
-    groups: usize,
-    metas: usize,
-    w: &mut [u32],
-    p: usize,
-)
+pub fn join_edges(edges: &[u8], n: usize, groups: usize, metas: usize, w: &mut [u32], p: usize)
     requires { ⌜ (n ≤ 1048576) × (groups ≤ 131072) × (metas ≤ 262144) × InRange (now edges) n groups metas ⌝ }
     requires { ⌜ Forest (now w) p (nodes groups metas) ⌝ }
     ensures { λ _. ⌜ Joined (edgeLinks groups (now (edges .entry)) n) (now (w .entry)) (now (w .exit)) p (nodes groups metas) ⌝ }

@@ -1,5 +1,6 @@
 -- Laws of nodes joined into parts. Assumes nothing.
-use Prim.Native.Nat.{ℕ, _+_, _≤_, _<_}
+use Prim.Native.Nat.{ℕ, _+_, _*_, _≤_, _<_}
+use native.Mathlib.Numerals.{add-one}
 use native.Mathlib.Omega.{arith}
 use mathlib.Core.Path.{_≡_, refl, sym, ap, _∙_}
 use mathlib.Core.Bool.{Bool, cond}
@@ -9,20 +10,21 @@ use lib.ListN.{length, getD, set, length-set}
 use lib.Seq.{getD-set-same, getD-set-other}
 use lib.Dec.{eqb}
 use borrow.Author.Tests.{eq-eqb, ne-eqb}
+use Rattle.cover_joining.specs.Joining.{Forest, Reps, Held, Found, Joined, edgeLinks}
 use Rattle.lists.specs.Tests.{same?, below?}
 use Rattle.lists.specs.Lists.{All}
 use Rattle.lists.specs.KeepLaws.{all-map}
+use Rattle.records.specs.Le.{numberAt}
 use Rattle.cover_spec.specs.Cover.{Edge}
 use Rattle.cover_edges.specs.Chains.{Out}
-use Rattle.cover_touched.specs.Joining.{Forest, Reps, Held, Found, Joined}
 
 -- ---- parts of one node each
 module _ (w : List ℕ) (p n : ℕ) (own : (x : ℕ) → x < n → getD w (p + x) 0 ≡ x) where
-  pub part-forest : p + n ≤ length w → Forest w p n
-  part-forest h = record { room = h; down = λ x l. omega (arith, own x l) }
+  pub alone-forest : p + n ≤ length w → Forest w p n
+  alone-forest h = record { room = h; down = λ x l. omega (arith, own x l) }
 
-  pub part-held : Held [] w p n
-  part-held = record { rep = λ x. x; reps = record { along = own; top = λ x l e. refl }; joins = tt; only = λ f h x l. refl }
+  pub alone-held : Held [] w p n
+  alone-held = record { rep = λ x. x; reps = record { along = own; top = λ x l e. refl }; joins = tt; only = λ f h x l. refl }
 
 pub less-than : (j i : ℕ) → j < i + 1 → (j ≡ i → ⊥) → j < i
 less-than j i m q = ⊎-elim (λ (y : j < i). y) (λ (y : i ≤ j). absurd (q (omega arith))) (below? j i)
@@ -183,3 +185,18 @@ module _ (w w₁ w₂ : List ℕ) (p n x y a b : ℕ) (lx : x < n) (ly : y < n) 
     where
       same-moved : (rep : ℕ → ℕ) → a ≡ rep x → b ≡ rep y → cond (eqb (rep x) a) b (rep x) ≡ cond (eqb (rep y) a) b (rep y)
       same-moved rep s s′ = rw (← s, ← s′, eq-eqb a a refl) (⊎-elim (λ (e : b ≡ a). rw (eq-eqb b a e)) (λ (u : b ≡ a → ⊥). rw (ne-eqb b a u)) (same? b a))
+
+pub joined-none : (w : List ℕ) (p n : ℕ) → Forest w p n → Joined (λ links. links) w w p n
+joined-none w p n f = record { forest = f; held = λ links h. h; rest = λ i o. refl }
+
+pub joined-then : {f g : List Edge → List Edge} {u v w : List ℕ} {p n : ℕ} → Joined f u v p n → Joined g v w p n → Joined (λ links. g (f links)) u w p n
+joined-then {f} a b = record { forest = b .forest; held = λ links h. b .held (f links) (a .held links h); rest = λ i o. b .rest i o ∙ a .rest i o }
+
+pub edges-start : (groups : ℕ) (bs w : List ℕ) (p n : ℕ) → Forest w p n → Joined (edgeLinks groups bs 0) w w p n
+unfolding edgeLinks
+edges-start groups bs w p n f = joined-none w p n f
+
+pub edges-turn : (groups : ℕ) (bs u v w : List ℕ) (p n i : ℕ) → Joined (edgeLinks groups bs i) u v p n
+    → Joined (λ links. (1 + numberAt 4 bs (8 * i), 1 + groups + numberAt 4 bs (8 * i + 4)) ∷ links) v w p n → Joined (edgeLinks groups bs (i + 1)) u w p n
+unfolding edgeLinks
+edges-turn groups bs u v w p n i a b = rw add-one (joined-then a b)

@@ -4,9 +4,8 @@ use records::u32_at;
 ghost use mathlib.Core.Path.{_≡_};
 ghost use Prim.Native.Nat.{ℕ, _+_, _-_, _<_};
 ghost use lib.ListN.{getD};
+ghost use Rattle.cover_differing.specs.Walking.{differing, ofPair, Walkable, Tallied, Taken, Swept, Linked};
 ghost use Rattle.cover_edges.specs.Edges.{edgesTo};
-ghost use Rattle.cover_touched.specs.Walking.{differing, ofPair, Walkable, Tallied, Taken, Swept};
-ghost use Rattle.cover_touched.specs.Touching.{Linked};
 
 // Counts the records of group g.
 fn count_up(
@@ -98,7 +97,7 @@ fn sweep(
 }
 
 // Whether some edge of group g stands a different number of times in the two lists. The work slice is then as it was.
-pub(crate) fn differs_at(
+pub fn differs_at(
     old: &[u8],
     on: usize,
     new: &[u8],

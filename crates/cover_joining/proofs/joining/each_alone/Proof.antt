@@ -1,14 +1,14 @@
--- `part` meets its contract. Assumes nothing.
+-- `each_alone` meets its contract. Assumes nothing.
 use Prim.Native.Nat.{ℕ, _+_, _-_, _≤_, _<_}
 use native.Mathlib.Omega.{arith}
 use mathlib.Core.Path.{_≡_, refl, _∙_}
 use lib.ListN.{length, getD, length-set}
 use lib.Seq.{getD-set-other}
+use Rattle.cover_joining.specs.JoiningLaws.{own-more, apart}
 use Rattle.cover_edges.specs.Chains.{Out}
-use Rattle.cover_touched.specs.JoiningLaws.{own-more, apart}
 use borrow.Author.Needs.{needs}
-use Rattle.cover_touched.proofs.joining.part.Statement.{statement}
-use Rattle.cover_touched.proofs.joining.part.Tie as tie
+use Rattle.cover_joining.proofs.joining.each_alone.Statement.{statement}
+use Rattle.cover_joining.proofs.joining.each_alone.Tie as tie
 
 abbrev Inv-loop : tie.InvT-loop
 Inv-loop w₀ p n x₀ w x = (x ≤ n) × (length w ≡ length w₀) × ((y : ℕ) → y < x → getD w (p + y) 0 ≡ y) × ((i : ℕ) → Out i p n → getD w i 0 ≡ getD w₀ i 0)
@@ -36,7 +36,7 @@ same-length c = c .before .loop .inv .1
 returns : tie.Need-returns Inv-loop μ-loop
 returns c = (λ x l. c .before .loop .inv .2 x (omega arith), c .before .loop .inv .3)
 
-pub part-spec : {M : Type 1} → statement M
-part-spec =
+pub each-alone-spec : {M : Type 1} → statement M
+each-alone-spec =
     tie.close (tie.spec Inv-loop μ-loop loop-holds (λ c. search needs) (λ c. search needs) (λ c. search needs)
     (λ c. search needs) (λ c. search needs) (λ c. search needs) loop-again same-length returns)

@@ -1,11 +1,12 @@
 -- Nodes joined into parts. From place p of the work memory on each of n nodes names one that is not above it, and the lowest of a part
 -- names itself.
-use Prim.Native.Nat.{ℕ, _+_, _≤_, _<_}
+use Prim.Native.Nat.{ℕ, _+_, _*_, _≤_, _<_, zero, suc}
 use mathlib.Core.Path.{_≡_}
 use mathlib.Core.Bool.{Bool}
-use mathlib.Core.List.{List}
+use mathlib.Core.List.{List, _∷_}
 use lib.ListN.{length, getD}
 use Rattle.lists.specs.Lists.{All}
+use Rattle.records.specs.Le.{numberAt}
 use Rattle.cover_spec.specs.Cover.{Edge}
 use Rattle.cover_edges.specs.Chains.{Out}
 
@@ -37,3 +38,12 @@ pub record Joined (more : List Edge → List Edge) (w w′ : List ℕ) (p n : �
   pub forest : Forest w′ p n
   pub held : (links : List Edge) → Held links w p n → Held (more links) w′ p n
   pub rest : (i : ℕ) → Out i p n → getD w′ i 0 ≡ getD w i 0
+
+-- ---- the nodes: 0 for what is touched, then one for each group, then one for each meta-peptide
+abbrev pub nodes : ℕ → ℕ → ℕ
+nodes groups metas = 1 + groups + metas
+
+-- a link for each of the first i records
+unfoldable pub edgeLinks : ℕ → List ℕ → ℕ → List Edge → List Edge
+edgeLinks groups bs zero links = links
+edgeLinks groups bs (suc i) links = (1 + numberAt 4 bs (8 * i), 1 + groups + numberAt 4 bs (8 * i + 4)) ∷ edgeLinks groups bs i links

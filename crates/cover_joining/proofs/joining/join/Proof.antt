@@ -2,10 +2,10 @@
 use mathlib.Core.Path.{_∙_}
 use Prim.Native.Nat.{_+_}
 use lib.ListN.{length-set}
-use Rattle.cover_touched.specs.JoiningLaws.{joined-left, joined-right}
 use borrow.Author.Needs.{needs}
-use Rattle.cover_touched.proofs.joining.join.Statement.{statement}
-use Rattle.cover_touched.proofs.joining.join.Tie as tie
+use Rattle.cover_joining.specs.JoiningLaws.{joined-left, joined-right}
+use Rattle.cover_joining.proofs.joining.join.Statement.{statement}
+use Rattle.cover_joining.proofs.joining.join.Tie as tie
 
 same-length : tie.Need-same-length
 same-length c = length-set (c .before .before .before .lowest2 .last .0) (c .before .before .before .before .before .before .before .before .before .before .args .p + c .before .before .before .lowest2 .result) (c .before .before .before .before .before .before .before .lowest .result) ∙ c .before .before .before .lowest2 .kept .0 ∙ c .before .before .before .before .before .before .before .lowest .kept .0

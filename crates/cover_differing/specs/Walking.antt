@@ -51,3 +51,25 @@ pub record Swept (w w′ : List ℕ) (metas : ℕ) (left : Bool) : Type 0 where
   pub more : left ≡ true → (m : ℕ) × (m < metas) × (0 < getD w m 0)
   pub none : left ≡ false → (m : ℕ) → m < metas → getD w m 0 ≡ 0
   pub rest : Beside w w′ metas
+
+-- ---- the layout: from 0 on a count for each meta-peptide, from `metas` on the nodes, then the heads of the groups' old records, of
+-- their new records, the nexts of the old records and of the new ones
+abbrev pub atOld : ℕ → ℕ → ℕ
+atOld groups metas = metas + (1 + groups + metas)
+
+abbrev pub atNew : ℕ → ℕ → ℕ
+atNew groups metas = metas + (1 + groups + metas) + groups
+
+abbrev pub nextOld : ℕ → ℕ → ℕ
+nextOld groups metas = metas + (1 + groups + metas) + groups + groups
+
+abbrev pub nextNew : ℕ → ℕ → ℕ → ℕ
+nextNew groups metas on = metas + (1 + groups + metas) + groups + groups + on
+
+-- the groups' records are linked, and nothing is counted
+pub record Linked (old : List ℕ) (on : ℕ) (new : List ℕ) (nn groups metas : ℕ) (w : List ℕ) : Type 0 where
+  pub groups-max : groups ≤ 131072
+  pub metas-max : metas ≤ 262144
+  pub by-old : Walkable old on groups metas w (atOld groups metas) (nextOld groups metas)
+  pub by-new : Walkable new nn groups metas w (atNew groups metas) (nextNew groups metas on)
+  pub clean : (m : ℕ) → m < metas → getD w m 0 ≡ 0

@@ -10,6 +10,7 @@ use lib.ListN.{length, getD, set, length-set}
 use lib.Seq.{getD-set-same, getD-set-other}
 use lib.Dec.{eqb}
 use borrow.Author.Tests.{eqb-true, eqb-false, eq-eqb, ne-eqb}
+use Rattle.cover_differing.specs.Walking.{ofPair, Walkable, Beside, Tallied, Taken, Swept}
 use Rattle.lists.specs.Tests.{same?, below?, truth?, neither, eqb-sym}
 use Rattle.lists.specs.Lists.{bit, count}
 use Rattle.cover_spec.specs.Cover.{sameEdge}
@@ -19,7 +20,6 @@ use Rattle.cover_edges.specs.Chains.{lastOf}
 use Rattle.cover_edges.specs.ChainLaws.{last-le, last-hit}
 use Rattle.cover_edges.specs.Edges.{edgeAt, edgesTo}
 use Rattle.cover_edges.specs.EdgeLaws.{length-edges}
-use Rattle.cover_touched.specs.Walking.{ofPair, Walkable, Beside, Tallied, Taken, Swept}
 
 -- ---- how often an edge stands among the first records
 
