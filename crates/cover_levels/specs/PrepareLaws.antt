@@ -1,37 +1,29 @@
--- The tables prepared: lists by group and by meta-peptide, the order, the first pass. Assumes nothing.
+-- The tables prepared: lists by group and by meta-peptide, and the order. Assumes nothing.
 use mathlib.Core.Path.{_≡_, refl, sym, ap, _∙_, subst}
-use mathlib.Core.Bool.{or-false, Bool, true, false, not, _&&_, _||_, cond, and-comm}
+use mathlib.Core.Bool.{Bool, true, false, _&&_, and-comm}
 use mathlib.Core.List.{List, [], _∷_}
 use Prim.Native.Nat.{ℕ, zero, suc, _+_, _-_, _*_, _≤_, _<_}
 use native.Mathlib.Omega.{arith}
-use native.Mathlib.Numerals.{add-one}
 use native.Mathlib.Nat.{add-zero, zero-add}
 use lib.Dec.{eqb}
 use lib.ListN.{length, getD, set, length-set}
 use lib.Seq.{getD-set-same, getD-set-other}
 use borrow.Author.Tests.{eqb-true, eqb-false}
-use Rattle.lists.specs.Lists.{bit, count, some, keep}
-use Rattle.lists.specs.KeepLaws.{count-keep, count-le, count-append, some-app}
+use Rattle.cover_tables.specs.TableLaws.{Lists, Tables}
+use Rattle.lists.specs.Lists.{bit, count}
+use Rattle.lists.specs.KeepLaws.{count-le, count-append}
 use Rattle.lists.specs.Tests.{eqb-sym}
 use Rattle.records.specs.Le.{numberAt}
-use Rattle.cover_spec.specs.Cover.{Edge, group, meta, ofGroup, ofMeta, pass, markForced, coverMarked, start, sameEdge}
-use Rattle.cover_spec.specs.TrimLaws.{iter}
+use Rattle.cover_spec.specs.Cover.{Edge, group, meta, ofGroup, ofMeta, sameEdge}
 use Rattle.cover_spec.specs.LevelLaws.{Order, degree}
 use Rattle.cover_edges.specs.Edges.{edgeAt, edgesTo}
 use Rattle.cover_edges.specs.RangeLaws.{InRange}
 use Rattle.cover_edges.specs.EdgeLaws.{edges-all, length-edges}
 use Rattle.cover_index.specs.PlaceLaws.{among, equals, belows, pairs, belows-ext, belows-next, belows-le, spot, spot-in, spot-ext, sorted-lists, sorted-order}
 use Rattle.cover_index.specs.SortLaws.{Regions, Indexed, from}
-use Rattle.cover_levels.specs.TableLaws.{Lists, Tables, tables-same}
-use Rattle.cover_levels.specs.StepLaws.{Stands, Levels, levels-start}
+use Rattle.cover_first.specs.FirstLaws.{groupAt, metaAt}
 
 -- ---- the fields of the records as keys and values
-
-abbrev pub groupAt : List ℕ → ℕ → ℕ
-groupAt bs i = numberAt 4 bs (8 * i)
-
-abbrev pub metaAt : List ℕ → ℕ → ℕ
-metaAt bs i = numberAt 4 bs (8 * i + 4)
 
 equals-group : (bs : List ℕ) (k x : ℕ) → equals (groupAt bs) k x ≡ ofGroup x (edgesTo bs k)
 unfolding equals edgesTo
@@ -157,175 +149,6 @@ puts-step f a i x w v h b e = record {
     one : (j : ℕ) → a + j < a + (i + 1) → (t : Bool) → eqb j i ≡ t → getD (set v (a + i) x) (a + j) 0 ≡ f j
     one j c true q = subst (λ (z : ℕ). getD (set v (a + i) x) (a + z) 0 ≡ f z) (sym (eqb-true j i q)) (getD-set-same v (a + i) x 0 b ∙ e)
     one j c false q = getD-set-other v (a + i) (a + j) x 0 (λ z. eqb-false j i q (omega arith)) ∙ h .put j (omega (arith, eqb-false j i q))
-
--- ---- flags: of k things those that are on flag the entry that they aim at
-
-unfoldable pub hits : (ℕ → ℕ) → (ℕ → Bool) → ℕ → ℕ → Bool
-hits aim on zero y = false
-hits aim on (suc k) y = (eqb (aim k) y && on k) || hits aim on k y
-
-hits-some : (p : Edge → Bool) (bs : List ℕ) (aim : ℕ → ℕ) (on : ℕ → Bool) (k y : ℕ) → ((i : ℕ) → i < k → (eqb (aim i) y && on i) ≡ p (edgeAt bs i)) → hits aim on k y ≡ some p (edgesTo bs k)
-unfolding hits edgesTo
-hits-some p bs aim on zero y h = refl
-hits-some p bs aim on (suc k) y h =
-    rw (h k (omega arith), hits-some p bs aim on k y (λ i b. h i (omega arith)), some-app p (edgesTo bs k) (edgeAt bs k)) (swap (p (edgeAt bs k)) (some p (edgesTo bs k)))
-  where
-    swap : (a b : Bool) → (a || b) ≡ (b || a)
-    swap true true = refl
-    swap true false = refl
-    swap false b = sym (or-false b)
-
-module _ (base len : ℕ) (aim : ℕ → ℕ) (on : ℕ → Bool) (w₀ : List ℕ) where
-  pub record Flags (w : List ℕ) (i : ℕ) : Type 0 where
-    pub size : length w ≡ length w₀
-    pub flags : (y : ℕ) → y < len → eqb (getD w (base + y) 0) 1 ≡ hits aim on i y
-    pub rest : (x : ℕ) → (base ≤ x → x < base + len → ⊥) → getD w x 0 ≡ getD w₀ x 0
-
-  pub flags-start : ((y : ℕ) → y < len → getD w₀ (base + y) 0 ≡ 0) → Flags w₀ 0
-  unfolding hits
-  flags-start h = record { size = refl; flags = λ y b. rw (h y b); rest = λ x b. refl }
-
-  flags-step : (w : List ℕ) (i v : ℕ) → Flags w i → aim i < len → base + len ≤ length w → v ≡ cond (on i) 1 (getD w (base + aim i) 0) → Flags (set w (base + aim i) v) (i + 1)
-  unfolding hits
-  flags-step w i v h b c e = record {
-    size = simp length-set (h .size);
-    flags = λ y d. rw (add-one i) (one y d (eqb (aim i) y) refl);
-    rest = λ x d. getD-set-other w (base + aim i) x v 0 (λ q. d (omega arith) (omega arith)) ∙ h .rest x d;
-  }
-    where
-      val : (t : Bool) → on i ≡ t → v ≡ cond t 1 (getD w (base + aim i) 0)
-      val t q = e ∙ ap (λ (s : Bool). cond s 1 (getD w (base + aim i) 0)) q
-
-      at-aim : (t : Bool) → on i ≡ t → eqb v 1 ≡ (t || hits aim on i (aim i))
-      at-aim true q = ap (λ (z : ℕ). eqb z 1) (val true q)
-      at-aim false q = ap (λ (z : ℕ). eqb z 1) (val false q) ∙ h .flags (aim i) b
-
-      one : (y : ℕ) → y < len → (t : Bool) → eqb (aim i) y ≡ t → eqb (getD (set w (base + aim i) v) (base + y) 0) 1 ≡ ((t && on i) || hits aim on i y)
-      one y d true q =
-          subst (λ (z : ℕ). eqb (getD (set w (base + aim i) v) (base + z) 0) 1 ≡ (on i || hits aim on i z)) (eqb-true (aim i) y q)
-          (ap (λ (z : ℕ). eqb z 1) (getD-set-same w (base + aim i) v 0 (omega arith)) ∙ at-aim (on i) refl)
-      one y d false q =
-          ap (λ (z : ℕ). eqb z 1) (getD-set-other w (base + aim i) (base + y) v 0 (λ z. eqb-false (aim i) y q (omega arith))) ∙ h .flags y d
-
--- ---- counts: of k things those that are on raise the entry that they aim at
-
-unfoldable pub sumOf : (ℕ → ℕ) → (ℕ → Bool) → ℕ → ℕ → ℕ
-sumOf aim on zero y = 0
-sumOf aim on (suc k) y = bit (eqb (aim k) y && on k) + sumOf aim on k y
-
-sumOf-le : (aim : ℕ → ℕ) (on : ℕ → Bool) (k y : ℕ) → sumOf aim on k y ≤ k
-unfolding sumOf
-sumOf-le aim on zero y = omega arith
-sumOf-le aim on (suc k) y = go (eqb (aim k) y && on k) (sumOf-le aim on k y)
-  where
-    go : (b : Bool) → sumOf aim on k y ≤ k → bit b + sumOf aim on k y ≤ suc k
-    go true h = omega arith
-    go false h = omega arith
-
-sumOf-count : (p : Edge → Bool) (bs : List ℕ) (aim : ℕ → ℕ) (on : ℕ → Bool) (k y : ℕ) → ((i : ℕ) → i < k → (eqb (aim i) y && on i) ≡ p (edgeAt bs i)) → sumOf aim on k y ≡ count p (edgesTo bs k)
-unfolding sumOf edgesTo
-sumOf-count p bs aim on zero y h = refl
-sumOf-count p bs aim on (suc k) y h =
-    omega (arith, ap bit (h k (omega arith)), sumOf-count p bs aim on k y (λ i b. h i (omega arith)), count-append p (edgesTo bs k) (edgeAt bs k ∷ []))
-
-module _ (len : ℕ) (aim : ℕ → ℕ) (on : ℕ → Bool) (w₀ : List ℕ) where
-  pub record Counting (w : List ℕ) (i : ℕ) : Type 0 where
-    pub size : length w ≡ length w₀
-    pub counts : (y : ℕ) → y < len → getD w y 0 ≡ sumOf aim on i y
-    pub rest : (x : ℕ) → len ≤ x → getD w x 0 ≡ getD w₀ x 0
-
-  pub counting-start : ((y : ℕ) → y < len → getD w₀ y 0 ≡ 0) → Counting w₀ 0
-  unfolding sumOf
-  counting-start h = record { size = refl; counts = h; rest = λ x b. refl }
-
-  counting-room : (w : List ℕ) (i : ℕ) → Counting w i → aim i < len → getD w (aim i) 0 ≤ i
-  counting-room w i h b = omega (arith, h .counts (aim i) b, sumOf-le aim on i (aim i))
-
-  counting-step : (w : List ℕ) (i v : ℕ) → Counting w i → aim i < len → len ≤ length w → v ≡ bit (on i) → Counting (set w (aim i) (getD w (aim i) 0 + v)) (i + 1)
-  unfolding sumOf
-  counting-step w i v h b c e = record {
-    size = simp length-set (h .size);
-    counts = λ y d. rw (add-one i) (one y d (eqb (aim i) y) refl);
-    rest = λ x d. getD-set-other w (aim i) x (getD w (aim i) 0 + v) 0 (λ q. omega arith) ∙ h .rest x d;
-  }
-    where
-      one : (y : ℕ) → y < len → (t : Bool) → eqb (aim i) y ≡ t → getD (set w (aim i) (getD w (aim i) 0 + v)) y 0 ≡ bit (t && on i) + sumOf aim on i y
-      one y d true q =
-          subst (λ (z : ℕ). getD (set w (aim i) (getD w (aim i) 0 + v)) z 0 ≡ bit (on i) + sumOf aim on i z) (eqb-true (aim i) y q)
-          (omega (arith, getD-set-same w (aim i) (getD w (aim i) 0 + v) 0 (omega arith), h .counts (aim i) b))
-      one y d false q = omega (arith, getD-set-other w (aim i) y (getD w (aim i) 0 + v) 0 (λ z. eqb-false (aim i) y q (sym z)), h .counts y d)
-
--- ---- the first pass
-
--- edge i is the only one of its meta-peptide; its group is marked; its meta-peptide is not covered
-abbrev pub onlyEdge : ℕ → List ℕ → List ℕ → ℕ → Bool
-onlyEdge mo bs w i = eqb (getD w (mo + metaAt bs i + 1) 0 - getD w (mo + metaAt bs i) 0) 1
-
-abbrev pub inMarked : ℕ → ℕ → List ℕ → List ℕ → ℕ → Bool
-inMarked n m bs w i = eqb (getD w (n + m + groupAt bs i) 0) 1
-
-abbrev pub isOpen : ℕ → List ℕ → List ℕ → ℕ → Bool
-isOpen n bs w i = not (eqb (getD w (n + metaAt bs i) 0) 1)
-
--- after the first i edges: the groups of only edges are marked; the meta-peptides of marked groups are covered; the edges of uncovered
--- meta-peptides are counted
-abbrev pub Forced : ℕ → ℕ → ℕ → List ℕ → List ℕ → List ℕ → ℕ → Type 0
-Forced n m mo bs w v i = Flags (n + m) n (groupAt bs) (onlyEdge mo bs w) w v i
-
-abbrev pub Covered : ℕ → ℕ → List ℕ → List ℕ → List ℕ → ℕ → Type 0
-Covered n m bs w v i = Flags n m (metaAt bs) (inMarked n m bs w) w v i
-
-abbrev pub Counted : ℕ → List ℕ → List ℕ → List ℕ → ℕ → Type 0
-Counted n bs w v i = Counting n (groupAt bs) (isOpen n bs w) w v i
-
-module _ (n m go mo od : ℕ) (bs : List ℕ) (k : ℕ) where
-  abbrev edges : List Edge
-  edges = edgesTo bs k
-
-  module _ (w w₁ w₂ w₃ : List ℕ) (r : Tables n m go mo od edges w) (i : InRange bs k n m)
-      (f₁ : Forced n m mo bs w w₁ k) (f₂ : Covered n m bs w₁ w₂ k) (f₃ : Counted n bs w₂ w₃ k) where
-    degree-meta : (x : ℕ) → x < m → getD w (mo + x + 1) 0 - getD w (mo + x) 0 ≡ ofMeta x edges
-    degree-meta x b = omega (arith, r .byMeta .sizes x b)
-
-    marked-first : (g : ℕ) → g < n → eqb (getD w₁ (n + m + g) 0) 1 ≡ markForced (start edges) g
-    unfolding markForced
-    marked-first g b =
-        f₁ .flags g b
-        ∙ hits-some (λ e. eqb (group e) g && eqb (ofMeta (meta e) edges) 1) bs (groupAt bs) (onlyEdge mo bs w) k g
-        (λ j c. ap (λ (z : ℕ). eqb (groupAt bs j) g && eqb z 1) (degree-meta (metaAt bs j) (i j c .1)))
-
-    covered-first : (y : ℕ) → y < m → eqb (getD w₂ (n + y) 0) 1 ≡ coverMarked (start edges) y
-    unfolding coverMarked
-    covered-first y b =
-        f₂ .flags y b
-        ∙ hits-some (λ e. eqb (meta e) y && markForced (start edges) (group e)) bs (metaAt bs) (inMarked n m bs w₁) k y
-        (λ j c. ap (λ (z : Bool). eqb (metaAt bs j) y && z) (marked-first (groupAt bs j) (i j c .0)))
-
-    same-covers : (y : ℕ) → getD w₃ (n + y) 0 ≡ getD w₂ (n + y) 0
-    same-covers y = f₃ .rest (n + y) (omega arith)
-
-    first-counts : (g : ℕ) → g < n → getD w₃ g 0 ≡ ofGroup g (keep (λ e. not (eqb (getD w₃ (n + meta e) 0) 1)) edges)
-    first-counts g b =
-        f₃ .counts g b
-        ∙ sumOf-count (λ e. not (eqb (getD w₃ (n + meta e) 0) 1) && eqb (group e) g) bs (groupAt bs) (isOpen n bs w₂) k g
-        (λ j c. and-comm (eqb (groupAt bs j) g) (isOpen n bs w₂ j) ∙ ap (λ (z : ℕ). not (eqb z 1) && eqb (groupAt bs j) g) (sym (same-covers (metaAt bs j))))
-        ∙ sym (count-keep (λ e. eqb (group e) g) (λ e. not (eqb (getD w₃ (n + meta e) 0) 1)) edges)
-
-    first-stands : Stands n m go mo od edges 0 w₃
-    unfolding iter pass
-    first-stands = record {
-      counts = first-counts;
-      covered = λ y b. ap (λ (z : ℕ). eqb z 1) (same-covers y) ∙ covered-first y b;
-      marked = λ g b. ap (λ (z : ℕ). eqb z 1) (f₃ .rest (n + m + g) (omega arith) ∙ f₂ .rest (n + m + g) (λ x y. omega arith)) ∙ marked-first g b;
-    }
-
-    first-tables : Tables n m go mo od edges w₃
-    first-tables = tables-same n m go mo od edges w w₃ (f₃ .size ∙ f₂ .size ∙ f₁ .size)
-        (λ x b. f₃ .rest x (omega arith) ∙ f₂ .rest x (λ c d. omega arith) ∙ f₁ .rest x (λ c d. omega arith)) r
-
-    pub first-levels : Levels n m go mo od edges k 0 w₃
-    first-levels = levels-start n m go mo od edges w₃ k first-tables first-stands
-        (λ g b. omega (arith, count-le (λ e. eqb (group e) g) edges, length-edges bs k))
 
 -- ---- the order
 
@@ -480,36 +303,6 @@ puts-low f i x w v h b e =
     subst (λ (z : ℕ). Puts f 0 z w (set v i x)) (zero-add (i + 1))
     (subst (λ (z : ℕ). Puts f 0 (0 + (i + 1)) w (set v z x)) (zero-add i)
     (puts-step f 0 i x w v (subst (λ (z : ℕ). Puts f 0 z w v) (sym (zero-add i)) h) (omega arith) e))
-
-module _ (n m go mo od : ℕ) (bs : List ℕ) (k : ℕ) (w₀ : List ℕ) (inp : InRange bs k n m) (w : List ℕ) (i : ℕ) (b : i < k)
-    (r : Tables n m go mo od (edgesTo bs k) w₀) (h : Forced n m mo bs w₀ w i) where
-  same-at : (x : ℕ) → n + m + n ≤ x → getD w x 0 ≡ getD w₀ x 0
-  same-at x c = h .rest x (λ p q. omega arith)
-
-  pub forced-inside : (n + m + groupAt bs i < length w) × (mo + metaAt bs i + 1 < length w) × (getD w (mo + metaAt bs i) 0 ≤ getD w (mo + metaAt bs i + 1) 0)
-  forced-inside = (
-    omega (arith, inp i b .0, r .order-above, r .order-fits, h .size),
-    omega (arith, inp i b .1, r .byMeta .fits, h .size),
-    omega (arith, same-at (mo + metaAt bs i) (omega (arith, r .byMeta .above)), same-at (mo + metaAt bs i + 1) (omega (arith, r .byMeta .above)), r .byMeta .sizes (metaAt bs i) (inp i b .1)),
-  )
-
-  pub forced-step : (v : ℕ) → v ≡ cond (eqb (getD w (mo + metaAt bs i + 1) 0 - getD w (mo + metaAt bs i) 0) 1) 1 (getD w (n + m + groupAt bs i) 0) → Forced n m mo bs w₀ (set w (n + m + groupAt bs i) v) (i + 1)
-  forced-step v e = flags-step (n + m) n (groupAt bs) (onlyEdge mo bs w₀) w₀ w i v h (inp i b .0) (omega (arith, r .order-above, r .order-fits, h .size))
-      (e ∙ rw (same-at (mo + metaAt bs i) (omega (arith, r .byMeta .above)), same-at (mo + metaAt bs i + 1) (omega (arith, r .byMeta .above))))
-
-module _ (n m : ℕ) (bs : List ℕ) (k : ℕ) (w₀ : List ℕ) (inp : InRange bs k n m) (w : List ℕ) (i : ℕ) (b : i < k) where
-  pub covered-inside : n + m + n ≤ length w₀ → Covered n m bs w₀ w i → (n + m + groupAt bs i < length w) × (n + metaAt bs i < length w)
-  covered-inside c h = (omega (arith, inp i b .0, h .size), omega (arith, inp i b .1, h .size))
-
-  pub covered-step : n + m + n ≤ length w₀ → Covered n m bs w₀ w i → (v : ℕ) → v ≡ cond (eqb (getD w (n + m + groupAt bs i) 0) 1) 1 (getD w (n + metaAt bs i) 0) → Covered n m bs w₀ (set w (n + metaAt bs i) v) (i + 1)
-  covered-step c h v e = flags-step n m (metaAt bs) (inMarked n m bs w₀) w₀ w i v h (inp i b .1) (omega (arith, h .size))
-      (e ∙ rw (h .rest (n + m + groupAt bs i) (λ p q. omega arith)))
-
-  pub counted-inside : n + m ≤ length w₀ → Counted n bs w₀ w i → (groupAt bs i < length w) × (n + metaAt bs i < length w) × (getD w (groupAt bs i) 0 ≤ i)
-  counted-inside c h = (omega (arith, inp i b .0, h .size), omega (arith, inp i b .1, h .size), counting-room n (groupAt bs) (isOpen n bs w₀) w₀ w i h (inp i b .0))
-
-  pub counted-step : n + m ≤ length w₀ → Counted n bs w₀ w i → (v : ℕ) → v ≡ bit (not (eqb (getD w (n + metaAt bs i) 0) 1)) → Counted n bs w₀ (set w (groupAt bs i) (getD w (groupAt bs i) 0 + v)) (i + 1)
-  counted-step c h v e = counting-step n (groupAt bs) (isOpen n bs w₀) w₀ w i v h (inp i b .0) (omega (arith, h .size)) (e ∙ rw (h .rest (n + metaAt bs i) (omega arith)))
 
 -- the key of group g
 module _ (n m ge go mo gm mg od : ℕ) (bs : List ℕ) (k : ℕ) (w₀ w : List ℕ) (g : ℕ) (b : g < n) (r : Layout n m k ge go mo gm mg od w₀) (l : Listed n m ge go mo gm mg od bs k w₀)

@@ -6,9 +6,7 @@
 // the groups in their order.
 mod filling;
 mod listing;
-mod marking;
 mod ordering;
 mod preparing;
-mod reading;
 
 pub use preparing::prepare;

@@ -1,10 +1,10 @@
 // All tables, and the first pass.
 use crate::listing::lists;
-use crate::marking::first;
 use crate::ordering::order;
+use cover_first::first;
+ghost use Rattle.cover_tables.specs.StepLaws.{Levels};
 ghost use Rattle.cover_edges.specs.Edges.{edgesTo};
 ghost use Rattle.cover_edges.specs.RangeLaws.{InRange};
-ghost use Rattle.cover_levels.specs.StepLaws.{Levels};
 ghost use Rattle.cover_levels.specs.PrepareLaws.{Layout};
 
 // All tables, and the first pass.

@@ -5,7 +5,6 @@
 mod covering;
 mod marking;
 mod running;
-mod taking;
 mod walking;
 
 pub use covering::cover_into;

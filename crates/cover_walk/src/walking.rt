@@ -1,14 +1,14 @@
 // The levels, from the most edges down: at each the groups that have exactly so many edges left are taken, in their order.
-use crate::taking::choose;
 use cover_index::wide;
+use cover_taking::choose;
 ghost use Prim.Native.Nat.{ℕ, _+_, _-_, _<_};
 ghost use mathlib.Core.Path.{_≡_};
 ghost use mathlib.Core.Bool.{true, false};
 ghost use lib.Dec.{eqb};
 ghost use lib.ListN.{getD};
+ghost use Rattle.cover_tables.specs.StepLaws.{Walk, Levels};
 ghost use Rattle.cover_spec.specs.Cover.{ofGroup, cover};
 ghost use Rattle.cover_edges.specs.Edges.{edgesTo};
-ghost use Rattle.cover_levels.specs.StepLaws.{Walk, Levels};
 
 // Takes the group at place i of the order if it has d edges left.
 fn step(

@@ -1,5 +1,4 @@
 -- `run` meets its contract. Assumes nothing.
-use native.Mathlib.Omega.{arith}
 use denote.Ref.{now}
 use borrow.Author.Needs.{needs}
 use Rattle.cover_levels.specs.PrepareLaws.{layout-of}

@@ -5,8 +5,8 @@ use native.Mathlib.Omega.{arith}
 use lib.ListN.{length}
 use denote.Ref.{now}
 use borrow.Author.Needs.{needs}
+use Rattle.cover_tables.specs.StepLaws.{Levels, levels-end}
 use Rattle.cover_edges.specs.Edges.{edgesTo}
-use Rattle.cover_levels.specs.StepLaws.{Levels, levels-end}
 use Rattle.cover_walk.proofs.walking.descend.Statement.{statement}
 use Rattle.cover_walk.proofs.walking.descend.Tie as tie
 

@@ -5,8 +5,8 @@ use native.Mathlib.Omega.{arith}
 use lib.ListN.{length, getD}
 use denote.Ref.{now}
 use borrow.Author.Needs.{needs}
+use Rattle.cover_tables.specs.StepLaws.{place-group, group-inside, levels-pass, levels-take}
 use Rattle.cover_edges.specs.Edges.{edgesTo}
-use Rattle.cover_levels.specs.StepLaws.{place-group, group-inside, levels-pass, levels-take}
 use Rattle.cover_walk.proofs.walking.step.Statement.{statement}
 use Rattle.cover_walk.proofs.walking.step.Tie as tie
 

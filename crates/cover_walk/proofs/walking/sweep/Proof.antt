@@ -4,8 +4,8 @@ use Prim.Native.Nat.{_-_, _≤_}
 use native.Mathlib.Omega.{arith}
 use lib.ListN.{length}
 use denote.Ref.{now}
+use Rattle.cover_tables.specs.StepLaws.{Levels, levels-down}
 use Rattle.cover_edges.specs.Edges.{edgesTo}
-use Rattle.cover_levels.specs.StepLaws.{Levels, levels-down}
 use Rattle.cover_walk.proofs.walking.sweep.Statement.{statement}
 use Rattle.cover_walk.proofs.walking.sweep.Tie as tie
 
