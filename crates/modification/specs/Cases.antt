@@ -7,9 +7,9 @@ use Rattle.records.specs.Cases.{Case, Hold, refused}
 use Rattle.records.specs.Le.{numberAt}
 use Rattle.records.specs.Refusals.{numberOf, placeOf}
 use Rattle.letters.specs.Letters.{isLetter}
-use Rattle.modification.specs.declared.rule.Read.{Read}
-use Rattle.modification.specs.Specificities.{kindOf, letterOf}
-use Rattle.modification.specs.Rules.{goodRule, readRule}
+use Rattle.modification_rules.specs.declared.rule.Read.{Read}
+use Rattle.modification_kinds.specs.Specificities.{kindOf, letterOf}
+use Rattle.modification_rules.specs.Rules.{goodRule, readRule}
 
 -- M with id 1, at most twice
 onM : List ℕ

@@ -1,10 +1,3 @@
--- What a reader has to believe: Specificities, Texts, Rules, Tables. Cases has worked cases, and the files named Laws say what
--- follows.
-pub mod Specificities
-pub mod Texts
-pub mod TextLaws
-pub mod Rules
-pub mod RuleLaws
-pub mod Tables
-pub mod TableLaws
+-- What a reader has to believe stands in the parts: Specificities of modification_kinds, Texts of modification_texts, Rules of
+-- modification_rules, Tables of modification_table. Cases has worked cases.
 pub mod Cases

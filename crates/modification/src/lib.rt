@@ -1,19 +1,14 @@
-// Modification rules, as texts and as records, and the table of modifications.
-mod rule;
-mod specificity;
-mod table;
-mod text;
-
-pub use rule::Read;
-pub use rule::Rule;
-pub use rule::first_bad_rule;
-pub use rule::read_rule;
-pub use rule::test_rules;
-pub use rule::write_rule;
-pub use specificity::Specificity;
-pub use specificity::specificity_of;
-pub use table::Entered;
-pub use table::insert;
-pub use text::Parsed;
-pub use text::parse;
-pub use text::write;
+// Modification rules, as texts and as records, and the table of modifications: all that its parts have for callers.
+pub use modification_kinds::Specificity;
+pub use modification_kinds::specificity_of;
+pub use modification_rules::Read;
+pub use modification_rules::Rule;
+pub use modification_rules::first_bad_rule;
+pub use modification_rules::read_rule;
+pub use modification_rules::test_rules;
+pub use modification_rules::write_rule;
+pub use modification_table::Entered;
+pub use modification_table::insert;
+pub use modification_texts::Parsed;
+pub use modification_texts::parse;
+pub use modification_texts::write;

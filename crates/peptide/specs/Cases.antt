@@ -17,7 +17,7 @@ use Rattle.records.specs.Room.{written}
 use Rattle.records.specs.declared.refusal.Tested.{Tested}
 use Rattle.records.specs.Search.{seek}
 use Rattle.letters.specs.Letters.{isLetter, firstBad}
-use Rattle.modification.specs.Rules.{goodRule, firstBadRule}
+use Rattle.modification_rules.specs.Rules.{goodRule, firstBadRule}
 use Rattle.peptide_choices.specs.Choices.{choicesOf, bySize}
 use Rattle.peptide_slots.specs.Mirror.{mirror, allZero}
 use Rattle.peptide_forms.specs.Enumeration.{noCap, accepted}

@@ -19,7 +19,7 @@ use Rattle.records.specs.declared.refusal.Tested.{Tested}
 use Rattle.records.specs.Outcome.{outcome, only}
 use Rattle.records.specs.Room.{roomOf, fits, counted}
 use Rattle.records.specs.RoomLaws.{Sized, Standing, standing-none, standing-more, standing-full}
-use Rattle.modification.specs.Rules.{ruleAt, firstBadRule}
+use Rattle.modification_rules.specs.Rules.{ruleAt, firstBadRule}
 use Rattle.peptide_choices.specs.Choices.{bySize}
 use Rattle.peptide_choices.specs.ListingLaws.{Complete, complete}
 use Rattle.peptide_slots.specs.Hits.{fillAt}

@@ -12,7 +12,7 @@ use Rattle.records.specs.declared.refusal.Refusal.the-variants.{Size, Length}
 use Rattle.records.specs.declared.refusal.Tested.{Tested}
 use Rattle.records.specs.Outcome.{Outcome, unlessRefused}
 use Rattle.records.specs.Room.{counted}
-use Rattle.modification.specs.Rules.{firstBadRule, mostRules}
+use Rattle.modification_rules.specs.Rules.{firstBadRule, mostRules}
 use Rattle.peptide_choices.specs.Choices.{bySize}
 use Rattle.peptide_forms.specs.Enumeration.{mostForms, accepted}
 use Rattle.peptide.specs.declared.making.Peptide.{Peptide}

@@ -16,9 +16,9 @@ use Rattle.records.specs.Le.{numberAt}
 use Rattle.records.specs.SearchLaws.{seek-before}
 use Rattle.records.specs.Tested.{fieldTested}
 use Rattle.records.specs.TestedLaws.{passed-both, passed-field}
-use Rattle.modification.specs.declared.specificity.Specificity.the-variants.{Residue, PeptideN, PeptideC, ProteinN, ProteinC}
-use Rattle.modification.specs.Specificities.{kindOf, letterOf, specificity, sound}
-use Rattle.modification.specs.Rules.{goodRule, noRule, noLimit, ruleAt, firstBadRule}
+use Rattle.modification_kinds.specs.declared.specificity.Specificity.the-variants.{Residue, PeptideN, PeptideC, ProteinN, ProteinC}
+use Rattle.modification_kinds.specs.Specificities.{kindOf, letterOf, specificity, sound}
+use Rattle.modification_rules.specs.Rules.{goodRule, noRule, noLimit, ruleAt, firstBadRule}
 use Rattle.peptide_choices.specs.Choices.{bySize}
 use Rattle.peptide_slots.specs.Sites.{kindAt, letterAt, limitAt, slotOf, ruleOf, ifHit, hitFrom, placesOf, slotsOf as slotNumbers, sitesFrom, allSites}
 use Rattle.peptide_slots.specs.SiteLaws.{slot-back, rule-back}

@@ -7,9 +7,9 @@ use mathlib.Core.List.{List, [], _∷_, map, flatten}
 use lib.ListN.{length, getD}
 use lib.Dec.{leb, eqb}
 use Rattle.lists.specs.Lists.{count, upFrom, keep}
-use Rattle.modification.specs.declared.rule.Rule.{Rule}
-use Rattle.modification.specs.Specificities.{kindOf, letterOf}
-use Rattle.modification.specs.Rules.{ruleAt}
+use Rattle.modification_rules.specs.declared.rule.Rule.{Rule}
+use Rattle.modification_kinds.specs.Specificities.{kindOf, letterOf}
+use Rattle.modification_rules.specs.Rules.{ruleAt}
 use Rattle.peptide_slots.specs.Hits.{atFirst, atLast, hitsAt, fillAt}
 use Rattle.peptide.specs.declared.making.Peptide.{Peptide}
 

@@ -9,8 +9,8 @@ use sendumaal_calls::told;
 ghost use mathlib.Core.Path.{_≡_};
 ghost use mathlib.Core.List.{List, [], _∷_};
 ghost use mathlib.Core.Bool.{true, false};
-ghost use Rattle.modification.specs.Texts.{parsed};
-ghost use Rattle.modification.specs.Rules.{testedRules, readRule};
+ghost use Rattle.modification_texts.specs.Texts.{parsed};
+ghost use Rattle.modification_rules.specs.Rules.{testedRules, readRule};
 ghost use Rattle.records.specs.Outcome.{outcome};
 ghost use Rattle.sendumaal_calls.specs.Calls.{setOf, parseCall, writeCall, testCall, readCall, recordCall};
 

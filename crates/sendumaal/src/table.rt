@@ -2,7 +2,7 @@
 use modification::Entered;
 ghost use mathlib.Core.Path.{_≡_};
 ghost use mathlib.Core.List.{List, [], _∷_};
-ghost use Rattle.modification.specs.Tables.{insertOutcome};
+ghost use Rattle.modification_table.specs.Tables.{insertOutcome};
 ghost use Rattle.records.specs.Outcome.{outcome};
 ghost use Rattle.sendumaal_calls.specs.Calls.{insertCall};
 

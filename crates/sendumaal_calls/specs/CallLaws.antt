@@ -13,10 +13,10 @@ use Rattle.records.specs.declared.refusal.Tested.{Tested}
 use Rattle.records.specs.declared.refusal.Counted.{Counted}
 use Rattle.records.specs.Refusals.{numberOf, placeOf}
 use Rattle.records.specs.Outcome.{Outcome, outcome}
-use Rattle.modification.specs.declared.table.Entered.{Entered}
-use Rattle.modification.specs.Specificities.{specificity}
-use Rattle.modification.specs.Texts.{writeOutcome}
-use Rattle.modification.specs.Rules.{writeRuleOutcome}
+use Rattle.modification_table.specs.declared.table.Entered.{Entered}
+use Rattle.modification_kinds.specs.Specificities.{specificity}
+use Rattle.modification_texts.specs.Texts.{writeOutcome}
+use Rattle.modification_rules.specs.Rules.{writeRuleOutcome}
 use Rattle.sendumaal_calls.specs.Calls.{accepted, refused, testCall, insertCall, withLent, countCall, countedCall, writeCall, testedCall, recordCall, isRule}
 
 -- a refusal's number is returned and its place written

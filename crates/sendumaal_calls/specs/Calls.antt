@@ -6,13 +6,13 @@ use mathlib.Core.Bool.{Bool, cond, _&&_}
 use mathlib.Core.List.{List, [], _∷_, _++_}
 use lib.Dec.{leb}
 use Rattle.letters.specs.declared.letter_set.LetterSet.{LetterSet}
-use Rattle.modification.specs.declared.text.Parsed.{Parsed}
-use Rattle.modification.specs.declared.rule.Read.{Read}
-use Rattle.modification.specs.declared.table.Entered.{Entered}
-use Rattle.modification.specs.declared.table.Entered.the-variants.{Id}
-use Rattle.modification.specs.Specificities.{kindOf, letterOf, specificity}
-use Rattle.modification.specs.Texts.{writeOutcome}
-use Rattle.modification.specs.Rules.{writeRuleOutcome}
+use Rattle.modification_texts.specs.declared.text.Parsed.{Parsed}
+use Rattle.modification_rules.specs.declared.rule.Read.{Read}
+use Rattle.modification_table.specs.declared.table.Entered.{Entered}
+use Rattle.modification_table.specs.declared.table.Entered.the-variants.{Id}
+use Rattle.modification_kinds.specs.Specificities.{kindOf, letterOf, specificity}
+use Rattle.modification_texts.specs.Texts.{writeOutcome}
+use Rattle.modification_rules.specs.Rules.{writeRuleOutcome}
 use Rattle.records.specs.declared.refusal.Refusal.{Refusal}
 use Rattle.records.specs.declared.refusal.Refusal.the-variants.{Field}
 use Rattle.records.specs.declared.refusal.Tested.{Tested}

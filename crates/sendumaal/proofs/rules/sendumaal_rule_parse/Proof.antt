@@ -3,7 +3,7 @@ use mathlib.Core.Path.{sym, ap, ap₂, _∙_}
 use mathlib.Core.List.{[], _∷_}
 use denote.Ref.{now}
 use Prim.Native.Nat.{ℕ}
-use Rattle.modification.specs.declared.text.Parsed.{Parsed}
+use Rattle.modification_texts.specs.declared.text.Parsed.{Parsed}
 use Rattle.sendumaal_calls.specs.Calls.{accepted, parseCall}
 use Rattle.sendumaal_calls.specs.CallLaws.{said}
 use borrow.Author.Needs.{needs}

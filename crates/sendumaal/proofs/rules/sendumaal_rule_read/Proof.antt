@@ -3,7 +3,7 @@ use mathlib.Core.Path.{sym, ap, ap₂, _∙_}
 use mathlib.Core.List.{[], _∷_}
 use denote.Ref.{now}
 use Prim.Native.Nat.{ℕ}
-use Rattle.modification.specs.declared.rule.Read.{Read}
+use Rattle.modification_rules.specs.declared.rule.Read.{Read}
 use Rattle.sendumaal_calls.specs.Calls.{accepted, readCall}
 use Rattle.sendumaal_calls.specs.CallLaws.{said}
 use borrow.Author.Needs.{needs}

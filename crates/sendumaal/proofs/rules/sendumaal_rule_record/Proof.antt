@@ -3,8 +3,8 @@ use mathlib.Core.Path.{sym, ap, _∙_}
 use mathlib.Core.List.{[], _∷_}
 use denote.Ref.{now}
 use native.Mathlib.Omega.{arith}
-use Rattle.modification.specs.declared.specificity.Specificity.{Specificity}
-use Rattle.modification.specs.Rules.{writeRuleOutcome}
+use Rattle.modification_kinds.specs.declared.specificity.Specificity.{Specificity}
+use Rattle.modification_rules.specs.Rules.{writeRuleOutcome}
 use Rattle.sendumaal_calls.specs.Calls.{testedCall}
 use Rattle.sendumaal_calls.specs.CallLaws.{rule-bytes, check-said, record-rule, record-none}
 use borrow.Author.Needs.{needs}

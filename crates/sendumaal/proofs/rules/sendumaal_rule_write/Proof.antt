@@ -3,9 +3,9 @@ use mathlib.Core.Path.{sym, ap, _∙_}
 use mathlib.Core.List.{[], _∷_}
 use denote.Ref.{now}
 use native.Mathlib.Omega.{arith}
-use Rattle.modification.specs.declared.specificity.Specificity.{Specificity}
-use Rattle.modification.specs.Specificities.{specificity}
-use Rattle.modification.specs.Texts.{writeOutcome}
+use Rattle.modification_kinds.specs.declared.specificity.Specificity.{Specificity}
+use Rattle.modification_kinds.specs.Specificities.{specificity}
+use Rattle.modification_texts.specs.Texts.{writeOutcome}
 use Rattle.sendumaal_calls.specs.CallLaws.{rule-bytes, count-said, write-rule, write-none}
 use borrow.Author.Needs.{needs}
 use Rattle.sendumaal.proofs.rules.sendumaal_rule_write.Statement.{statement}

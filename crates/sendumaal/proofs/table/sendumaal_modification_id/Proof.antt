@@ -2,7 +2,7 @@
 use mathlib.Core.Path.{_∙_}
 use mathlib.Core.List.{[], _∷_}
 use denote.Ref.{now}
-use Rattle.modification.specs.Tables.{insertOutcome}
+use Rattle.modification_table.specs.Tables.{insertOutcome}
 use Rattle.sendumaal_calls.specs.CallLaws.{said, insert-id, insert-no}
 use borrow.Author.Needs.{needs}
 use Rattle.sendumaal.proofs.table.sendumaal_modification_id.Statement.{statement}

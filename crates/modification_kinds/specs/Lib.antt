@@ -1,0 +1,2 @@
+-- What a reader has to believe: Specificities.
+pub mod Specificities
