@@ -9,6 +9,10 @@ use lib.ListN.{length, take, replicate}
 use lib.Count.{trailingZeros}
 use lib.IntN.{pos}
 use lib.Ieee.{Float, fin, span, climb, size, odd, units, round, sum, add, eq, toUnsigned}
+use Rattle.peptide_mass.specs.declared.mass.Weighed.{Weighed}
+use Rattle.peptide_listing.specs.FormTests.{testedForm, testedLists}
+use Rattle.peptide_mass.specs.Masses.{addAll, noMass}
+use Rattle.peptide_digests.specs.DigestTests.{unfit, firstUnfit, testedDigest}
 use Rattle.records.specs.Le.{le, numberAt}
 use Rattle.records.specs.Cases.{Case, Hold, answered, refused, told}
 use Rattle.records.specs.CaseLaws.{joined}
@@ -23,12 +27,10 @@ use Rattle.peptide_slots.specs.Mirror.{mirror, allZero}
 use Rattle.peptide_forms.specs.Enumeration.{noCap, accepted}
 use Rattle.peptide.specs.declared.making.Peptide.{Peptide}
 use Rattle.peptide.specs.declared.making.Made.{Made}
-use Rattle.peptide.specs.declared.mass.Weighed.{Weighed}
-use Rattle.peptide.specs.Peptides.{lettersOf, clear, testedContents, testedForm, given, madeOfForm}
-use Rattle.peptide.specs.Masses.{addAll, noMass}
-use Rattle.peptide.specs.Digested.{unfit, firstUnfit, testedDigest, digested, madeOfDigest, weighedDigest}
+use Rattle.peptide.specs.Peptides.{lettersOf, clear, testedContents, given, madeOfForm}
+use Rattle.peptide.specs.Digested.{digested, madeOfDigest, weighedDigest}
 use Rattle.peptide.specs.Sites.{sitesOf, passes, filled}
-use Rattle.peptide.specs.Forms.{testedLists, testedForms, choices, formOf, formsOf, formsOutcome}
+use Rattle.peptide.specs.Forms.{testedForms, choices, formOf, formsOf, formsOutcome}
 
 abbrev MAM : List ℕ
 MAM = 77 ∷ 65 ∷ 77 ∷ []

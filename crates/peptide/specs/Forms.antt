@@ -2,38 +2,25 @@
 -- sites in lexicographic order, skipping those that .. Fixed rules then go over every form, in list order." What a call of
 -- `forms` answers, and what its buffer holds then; the order of its refusals is 1, 8, 2 and 9 of the peptide, 9 of the
 -- variable rules, 9 of the fixed ones, 11.
-use Prim.Native.Nat.{ℕ, _/_, _%_}
-use mathlib.Core.Bool.{Bool, true, false, cond, not, _&&_, _||_}
+use Prim.Native.Nat.{ℕ}
+use mathlib.Core.Bool.{cond}
 use mathlib.Core.List.{List, [], _∷_, map}
 use lib.ListN.{length, getD}
-use lib.Dec.{ltb, eqb}
 use Rattle.lists.specs.Lists.{keep}
 use Rattle.records.specs.declared.refusal.Refusal.the-variants.{Size, Length}
 use Rattle.records.specs.declared.refusal.Tested.{Tested}
 use Rattle.records.specs.Outcome.{Outcome, unlessRefused}
 use Rattle.records.specs.Room.{counted}
-use Rattle.modification_rules.specs.Rules.{firstBadRule, mostRules}
 use Rattle.peptide_choices.specs.Choices.{bySize}
 use Rattle.peptide_forms.specs.Enumeration.{mostForms, accepted}
+use Rattle.peptide_listing.specs.FormTests.{tooLarge, notWhole, testedLists}
 use Rattle.peptide.specs.declared.making.Peptide.{Peptide}
 use Rattle.records.specs.declared.refusal.Counted.{Counted}
-use Rattle.records.specs.Tested.{andThen, fieldTested}
-use Rattle.peptide.specs.Peptides.{wrongSize, testedContents}
+use Rattle.records.specs.Tested.{andThen}
+use Rattle.peptide.specs.Peptides.{testedContents}
 use Rattle.peptide.specs.Sites.{Site, site, sitesOf, passes, filled}
 
 -- ---- the tests
-
--- 1: the peptide's size, 16 variable rules, 32 fixed ones, 8 sites per combination
-abbrev pub tooLarge : ℕ → List ℕ → List ℕ → ℕ → Bool
-tooLarge len variable fixed limit = wrongSize len || ltb (mostRules false) (length variable / 8) || ltb (mostRules true) (length fixed / 8) || ltb 8 limit
-
--- 8
-abbrev pub notWhole : List ℕ → List ℕ → Bool
-notWhole variable fixed = not (eqb (length variable % 8) 0 && eqb (length fixed % 8) 0)
-
--- 9: the first record that is no rule
-unfoldable pub testedLists : List ℕ → List ℕ → Tested
-testedLists variable fixed = andThen (fieldTested (firstBadRule false variable) (length variable / 8)) (fieldTested (firstBadRule true fixed) (length fixed / 8))
 
 unfoldable pub testedForms : Peptide → List ℕ → List ℕ → ℕ → Tested
 unfolding testedContents testedLists

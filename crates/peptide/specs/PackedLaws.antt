@@ -8,6 +8,7 @@ use lib.ListN.{length, getD, length-map, List·getD-map}
 use lib.Dec.{leb, eqb}
 use native.Mathlib.Nat.{zero-add}
 use borrow.Author.Tests.{leb-true, le-leb, lt-leb, ltb-false, eqb-true, eqb-false, eq-eqb, ne-eqb, not-false, not-true}
+use Rattle.peptide_listing.specs.FormTests.{testedLists}
 use Rattle.lists.specs.InLaws.{keep-alike}
 use Rattle.lists.specs.Tests.{both}
 use Rattle.lists.specs.Lists.{upFrom, keep, bit, count}
@@ -30,7 +31,7 @@ use Rattle.peptide_forms.specs.Packed.{choices as packedChoices, chosen as pack
 use Rattle.peptide_forms.specs.UsedLaws.{freeIn, usesIn, onceIn, limitsIn, fine, passes-chosen}
 use Rattle.peptide.specs.declared.making.Peptide.{Peptide}
 use Rattle.peptide.specs.Sites.{Site, site, hits, slotsOf, sitesOf, each, passes, filled}
-use Rattle.peptide.specs.Forms.{testedLists, bare, chosen, choices, formOf, formsOf}
+use Rattle.peptide.specs.Forms.{bare, chosen, choices, formOf, formsOf}
 
 -- ---- the forms by numbers
 

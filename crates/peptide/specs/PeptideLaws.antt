@@ -1,33 +1,24 @@
 -- What the tests of a peptide come to, and that reversing twice gives the peptide back. Assumes nothing.
 use Prim.Native.Nat.{ℕ, _≤_, _<_}
 use mathlib.Core.Path.{_≡_, refl, sym, ap, _∙_, subst}
-use mathlib.Core.Bool.{Bool, true, false, cond, true≢false, Bool·not-not}
+use mathlib.Core.Bool.{Bool, true, false, Bool·not-not}
 use mathlib.Core.List.{List}
 use lib.ListN.{length}
-use lib.Dec.{ltb, eqb}
-use borrow.Author.Tests.{lt-ltb, le-ltb, ltb-false, eq-eqb, ne-eqb}
-use Rattle.lists.specs.Tests.{neither}
+use borrow.Author.Tests.{lt-ltb, le-ltb}
+use Rattle.peptide_mass.specs.Masses.{wrongSize}
+use Rattle.peptide_listing.specs.FormTests.{testedForm}
 use Rattle.records.specs.declared.refusal.Refusal.{Refusal}
-use Rattle.records.specs.declared.refusal.Refusal.the-variants.{Size, Letter, Length, Field}
+use Rattle.records.specs.declared.refusal.Refusal.the-variants.{Size, Letter, Field}
 use Rattle.records.specs.declared.refusal.Tested.{Tested}
 use Rattle.records.specs.Tested.{andThen}
 use Rattle.records.specs.TestedLaws.{first-refuses, first-passes, passed-both, passed-first}
 use Rattle.letters.specs.Letters.{firstBad}
 use Rattle.peptide_slots.specs.Mirror.{mirror}
 use Rattle.peptide_slots.specs.MirrorLaws.{mirror-mirror}
+use Rattle.peptide_mass.specs.MassLaws.{size-fits}
+use Rattle.peptide_listing.specs.FormTestLaws.{form-sized}
 use Rattle.peptide.specs.declared.making.Peptide.{Peptide}
-use Rattle.peptide.specs.Peptides.{wrongSize, lettersOf, clear, testedContents, testedPeptide, testedForm, given, none, madeOr, reversed}
-
-pub size-fits : (n : ℕ) → wrongSize n ≡ false → n ≤ 64
-size-fits n h = ltb-false 64 n (neither (eqb n 0) (ltb 64 n) h .1)
-
--- a test that refuses is no test that passes
-pub not-passed : (why : Refusal) → Tested.Refused why ≡ Tested.Passed → ⊥
-not-passed why e = true≢false (sym (ap refuses e))
-  where
-    refuses : Tested → Bool
-    refuses Tested.Passed = true
-    refuses (Tested.Refused why) = false
+use Rattle.peptide.specs.Peptides.{lettersOf, clear, testedContents, testedPeptide, given, none, madeOr, reversed}
 
 module _ (p : Peptide) where
   module _ (bad : ℕ) (first : bad ≡ firstBad (lettersOf p)) where
@@ -53,39 +44,18 @@ module _ (p : Peptide) where
 
   pub passed-fits : testedPeptide p ≡ Tested.Passed → p .len ≤ 64
   unfolding testedPeptide
-  passed-fits h = go (wrongSize (p .len)) refl h
-    where
-      go : (b : Bool) → wrongSize (p .len) ≡ b → cond b (Tested.Refused Size) (testedContents p) ≡ Tested.Passed → p .len ≤ 64
-      go true e f = absurd (not-passed Size f)
-      go false e f = size-fits (p .len) e
+  passed-fits h = size-fits (p .len) (passed-first (wrongSize (p .len)) Size (testedContents p) h .0)
 
 -- ---- letters and the form of their ids
 
 module _ (letters form : List ℕ) where
-  pub form-size : wrongSize (length letters) ≡ true → Tested.Refused Size ≡ testedForm letters form
-  unfolding testedForm
-  form-size e = rw e
-
-  module _ (fits : wrongSize (length letters) ≡ false) where
-    pub form-length : (length form ≡ 66 → ⊥) → Tested.Refused Length ≡ testedForm letters form
-    unfolding testedForm
-    form-length h = rw (fits, ne-eqb (length form) 66 h)
-
-    pub form-whole : length form ≡ 66 → Tested.Passed ≡ testedForm letters form
-    unfolding testedForm
-    form-whole h = rw (fits, eq-eqb (length form) 66 h)
-
-  pub form-sized : testedForm letters form ≡ Tested.Passed → wrongSize (length letters) ≡ false
-  unfolding testedForm
-  form-sized h = passed-first (wrongSize (length letters)) Size (cond (eqb (length form) 66) Tested.Passed (Tested.Refused Length)) h .0
-
   -- a peptide that passes with its form passes alone: the other entries take what is made of a form
   pub form-passes : (position : ℕ) (decoy : Bool) → andThen (testedForm letters form) (testedContents (given letters form position decoy)) ≡ Tested.Passed
       → testedPeptide (given letters form position decoy) ≡ Tested.Passed
   unfolding testedPeptide
   form-passes position decoy h =
       let b = passed-both (testedForm letters form) (testedContents (given letters form position decoy)) h in
-      rw (form-sized (b .0)) (b .1)
+      rw (form-sized letters form (b .0)) (b .1)
 
   -- the tests of a form's record, one after the other
   module _ (position : ℕ) (decoy : Bool) (t : Tested) (is : t ≡ testedForm letters form) where

@@ -2,24 +2,22 @@
 -- 0, after its letters)." "`Peptide::reverse` does so for letters and residue ids, terminals stay, and the decoy flag flips
 -- each time."
 use Prim.Native.Nat.{ℕ}
-use mathlib.Core.Bool.{Bool, false, cond, not, _&&_, _||_}
+use mathlib.Core.Bool.{Bool, false, cond, not, _&&_}
 use mathlib.Core.List.{List, []}
 use lib.ListN.{length, getD, take, drop}
-use lib.Dec.{leb, ltb, eqb}
-use Rattle.records.specs.declared.refusal.Refusal.the-variants.{Size, Letter, Length, Field}
+use lib.Dec.{leb, ltb}
+use Rattle.records.specs.declared.refusal.Refusal.the-variants.{Size, Letter, Field}
 use Rattle.records.specs.declared.refusal.Tested.{Tested}
 use Rattle.records.specs.Tested.{andThen}
 use Rattle.letters.specs.Letters.{firstBad}
 use Rattle.peptide_slots.specs.Mirror.{mirror, allZero}
 use Rattle.peptide_slots.specs.Windows.{window}
+use Rattle.peptide_mass.specs.Masses.{wrongSize}
+use Rattle.peptide_listing.specs.FormTests.{testedForm}
 use Rattle.peptide.specs.declared.making.Peptide.{Peptide}
 use Rattle.peptide.specs.declared.making.Made.{Made}
 
 -- ---- the tests
-
--- 1: an empty peptide, or one of more than 64 letters
-abbrev pub wrongSize : ℕ → Bool
-wrongSize n = eqb n 0 || ltb 64 n
 
 -- the letters that count
 abbrev pub lettersOf : Peptide → List ℕ
@@ -40,12 +38,6 @@ testedContents p =
 unfoldable pub testedPeptide : Peptide → Tested
 unfolding testedContents
 testedPeptide p = cond (wrongSize (p .len)) (Tested.Refused Size) (testedContents p)
-
--- letters and the form of their ids: 1, then 8: the form is not one record
-unfoldable pub testedForm : List ℕ → List ℕ → Tested
-testedForm letters form =
-    cond (wrongSize (length letters)) (Tested.Refused Size)
-    (cond (eqb (length form) 66) Tested.Passed (Tested.Refused Length))
 
 -- the new peptide where the tests passed, else the other
 abbrev pub madeOr : Tested → Peptide → Peptide → Made

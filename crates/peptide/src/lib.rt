@@ -2,11 +2,10 @@
 mod digested;
 mod listing;
 mod making;
-mod mass;
 mod tests;
 
 pub use digested::digest_mass;
 pub use making::Made;
 pub use making::Peptide;
-pub use mass::Weighed;
-pub use mass::base_mass;
+pub use peptide_mass::Weighed;
+pub use peptide_mass::base_mass;

@@ -1,15 +1,14 @@
 // The peptide by value.
-use crate::mass;
 use crate::tests;
 use records::Refusal;
 use records::Tested;
 ghost use mathlib.Core.Path.{_≡_};
-ghost use mathlib.Core.List.{List, [], _∷_};
+ghost use mathlib.Core.List.{[]};
 ghost use Prim.Native.Nat.{_≤_};
 ghost use lib.ListN.{length};
+ghost use Rattle.peptide_mass.specs.Masses.{testedPart};
 ghost use Rattle.records.specs.declared.refusal.Tested.the-variants.{Refused};
 ghost use Rattle.peptide.specs.Peptides.{testedPeptide, reversed, given, none, madeOr, madeOfForm};
-ghost use Rattle.peptide.specs.Masses.{testedPart};
 
 // Its letters and the ids of its residues, of which the first len count; the ids of its ends; its place in the protein. An
 // id of 0 is none.
@@ -100,7 +99,7 @@ impl Peptide {
     pub fn of_form(letters: &[u8], form: &[u8], position: u8, decoy: bool) -> Made
         ensures { λ r. ⌜ r ≡ madeOfForm (now (letters .entry)) (now (form .entry)) position decoy ⌝ }
     {
-        if let Tested::Refused(why) = tests::test_form(letters, form) {
+        if let Tested::Refused(why) = peptide_listing::test_form(letters, form) {
             return refused(why);
         }
         let peptide = given(letters, form, position, decoy);
@@ -115,7 +114,7 @@ impl Peptide {
     pub fn of_part(part: &[u8], masses: &[f32], position: u8, decoy: bool) -> Made
         ensures { λ r. ⌜ r ≡ madeOr (testedPart (now (part .entry)) (now (masses .entry)) position) (given (now (part .entry)) [] position decoy) none ⌝ }
     {
-        if let Tested::Refused(why) = mass::test_part(part, masses, position) {
+        if let Tested::Refused(why) = peptide_mass::test_part(part, masses, position) {
             return refused(why);
         }
         let peptide = given(part, &part[0..0], position, decoy);

@@ -4,8 +4,8 @@ use records::Refusal;
 use records::Tested;
 ghost use mathlib.Core.Path.{_≡_};
 ghost use Prim.Native.Nat.{_≤_};
-ghost use Rattle.peptide.specs.Peptides.{clear, testedContents, testedPeptide, testedForm};
-ghost use Rattle.peptide.specs.Forms.{tooLarge, notWhole, testedLists, testedForms};
+ghost use Rattle.peptide.specs.Peptides.{clear, testedContents, testedPeptide};
+ghost use Rattle.peptide.specs.Forms.{testedForms};
 
 // Whether the places past the length are 0, and the position is one.
 fn is_clear(p: Peptide) -> bool
@@ -48,57 +48,19 @@ pub(crate) fn test_peptide(p: Peptide) -> Tested
     test_contents(p)
 }
 
-// Whether letters are a peptide's in number, and the form of their ids is one record.
-pub(crate) fn test_form(letters: &[u8], form: &[u8]) -> Tested
-    ensures { λ r. ⌜ r ≡ testedForm (now (letters .entry)) (now (form .entry)) ⌝ }
-{
-    let n = letters.len();
-    if (n == 0) | (64 < n) {
-        return Tested::Refused(Refusal::Size);
-    }
-    if form.len() != 66 {
-        return Tested::Refused(Refusal::Length);
-    }
-    Tested::Passed
-}
-
-fn too_large(len: u8, variable: &[u8], fixed: &[u8], limit: u32) -> bool
-    ensures { λ r. ⌜ r ≡ tooLarge len (now (variable .entry)) (now (fixed .entry)) limit ⌝ }
-{
-    (len == 0) | (64 < len) | (16 < variable.len() / 8) | (32 < fixed.len() / 8) | (8 < limit)
-}
-
-fn not_whole(variable: &[u8], fixed: &[u8]) -> bool
-    ensures { λ r. ⌜ r ≡ notWhole (now (variable .entry)) (now (fixed .entry)) ⌝ }
-{
-    !((variable.len() % 8 == 0) & (fixed.len() % 8 == 0))
-}
-
-// The records of the variable rules, then of the fixed ones.
-fn test_lists(variable: &[u8], fixed: &[u8]) -> Tested
-    ensures { λ r. ⌜ r ≡ testedLists (now (variable .entry)) (now (fixed .entry)) ⌝ }
-{
-    let v = modification::first_bad_rule(variable, false);
-    if let Tested::Refused(why) = records::field_tested(v, variable.len() / 8) {
-        return Tested::Refused(why);
-    }
-    let f = modification::first_bad_rule(fixed, true);
-    records::field_tested(f, fixed.len() / 8)
-}
-
 // The tests before forms are listed.
 pub(crate) fn test_forms(p: Peptide, variable: &[u8], fixed: &[u8], limit: u32) -> Tested
     ensures { λ r. ⌜ r ≡ testedForms p (now (variable .entry)) (now (fixed .entry)) limit ⌝ }
 {
     let n = p.len;
-    if too_large(n, variable, fixed, limit) {
+    if peptide_listing::too_large(n, variable, fixed, limit) {
         return Tested::Refused(Refusal::Size);
     }
-    if not_whole(variable, fixed) {
+    if peptide_listing::not_whole(variable, fixed) {
         return Tested::Refused(Refusal::Length);
     }
     if let Tested::Refused(why) = test_contents(p) {
         return Tested::Refused(why);
     }
-    test_lists(variable, fixed)
+    peptide_listing::test_lists(variable, fixed)
 }

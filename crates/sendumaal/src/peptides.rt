@@ -11,8 +11,8 @@ use sendumaal_calls::too_large;
 use sendumaal_calls::turn;
 ghost use mathlib.Core.Path.{_≡_};
 ghost use mathlib.Core.List.{List, [], _∷_};
+ghost use Rattle.peptide_mass.specs.Masses.{testedPart, weighed};
 ghost use Rattle.records.specs.Outcome.{outcome};
-ghost use Rattle.peptide.specs.Masses.{testedPart, weighed};
 ghost use Rattle.sendumaal_calls.specs.Calls.{testCall};
 ghost use Rattle.sendumaal_calls.specs.PeptideCalls.{weight, weightCall, digestWeight, digestMassCall, formsCall, reverseCall};
 

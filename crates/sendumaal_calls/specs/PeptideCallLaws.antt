@@ -11,12 +11,14 @@ use lib.Seq.{paste-suc, drop-length}
 use lib.Dec.{leb, eqb}
 use lib.Ieee.{Float}
 use borrow.Author.Tests.{eq-eqb, ne-eqb, eqb-true}
+use Rattle.peptide_mass.specs.Masses.{wrongSize}
+use Rattle.peptide_mass.specs.MassLaws.{size-fits}
+use Rattle.peptide_listing.specs.FormTests.{tooLarge}
 use Rattle.peptide.specs.declared.making.Peptide.{Peptide}
 use Rattle.peptide.specs.declared.making.Made.{Made}
 use Rattle.records.specs.TestedLaws.{passed-both, passed-first, passed-second}
-use Rattle.peptide.specs.Peptides.{wrongSize, testedPeptide, reversed, madeOr}
-use Rattle.peptide.specs.PeptideLaws.{size-fits}
-use Rattle.peptide.specs.Forms.{tooLarge, formsOutcome}
+use Rattle.peptide.specs.Peptides.{testedPeptide, reversed, madeOr}
+use Rattle.peptide.specs.Forms.{formsOutcome}
 use Rattle.records.specs.declared.refusal.Refusal.{Refusal}
 use Rattle.records.specs.declared.refusal.Refusal.the-variants.{Size, Length, Field}
 use Rattle.records.specs.declared.refusal.Tested.{Tested}

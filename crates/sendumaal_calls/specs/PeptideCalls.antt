@@ -6,13 +6,16 @@ use mathlib.Core.List.{List, [], _∷_}
 use lib.ListN.{length, take}
 use lib.Dec.{leb, eqb}
 use lib.Ieee.{Float}
+use Rattle.peptide_mass.specs.declared.mass.Weighed.{Weighed}
+use Rattle.peptide_mass.specs.Masses.{wrongSize}
+use Rattle.peptide_digests.specs.DigestTests.{positionIn}
+use Rattle.peptide_listing.specs.FormTests.{tooLarge}
 use Rattle.peptide.specs.declared.making.Peptide.{Peptide}
-use Rattle.peptide.specs.declared.mass.Weighed.{Weighed}
 use Rattle.records.specs.Tested.{andThen}
 use Rattle.peptide_slots.specs.Windows.{window}
-use Rattle.peptide.specs.Peptides.{wrongSize, testedPeptide, reversed}
-use Rattle.peptide.specs.Digested.{positionIn, weighedDigest}
-use Rattle.peptide.specs.Forms.{tooLarge, formsOutcome}
+use Rattle.peptide.specs.Peptides.{testedPeptide, reversed}
+use Rattle.peptide.specs.Digested.{weighedDigest}
+use Rattle.peptide.specs.Forms.{formsOutcome}
 use Rattle.records.specs.declared.refusal.Refusal.the-variants.{Size, Length, Field}
 use Rattle.records.specs.declared.refusal.Tested.{Tested}
 use Rattle.records.specs.Refusals.{numberOf, placeOf}

@@ -5,9 +5,9 @@ use records::Tested;
 ghost use mathlib.Core.Path.{_≡_};
 ghost use Prim.Native.Nat.{_≤_};
 ghost use lib.ListN.{length, take};
+ghost use Rattle.peptide_listing.specs.FormTests.{tooLarge};
 ghost use Rattle.records.specs.declared.refusal.Tested.the-variants.{Passed};
 ghost use Rattle.peptide.specs.Peptides.{testedPeptide, reversed};
-ghost use Rattle.peptide.specs.Forms.{tooLarge};
 ghost use Rattle.sendumaal_calls.specs.PeptideCalls.{peptideOf, testedLengths, turning, testedTurn, testedReverse, otherFlag};
 
 // The peptide of lent letters and ids, its contents untested.

@@ -5,12 +5,13 @@ use native.Mathlib.Omega.{arith}
 use native.Mathlib.Nat.{sub-zero}
 use lib.ListN.{length, take}
 use denote.Ref.{now}
+use Rattle.peptide_mass.specs.Masses.{weighed}
+use Rattle.peptide_digests.specs.DigestTests.{testedDigest}
 use Rattle.records.specs.declared.refusal.Tested.{Tested}
 use Rattle.peptide.specs.declared.making.Peptide.{Peptide}
 use Rattle.peptide.specs.Peptides.{lettersOf}
 use Rattle.peptide.specs.PeptideLaws.{passed-fits}
-use Rattle.peptide.specs.Masses.{weighed}
-use Rattle.peptide.specs.Digested.{digested, testedDigest}
+use Rattle.peptide.specs.Digested.{digested}
 use Rattle.peptide.specs.DigestedLaws.{made-tested, made-digested, mass-refused, digested-passes, digested-mass}
 use borrow.Author.Needs.{needs}
 use Rattle.peptide.proofs.digested.digest_mass.Statement.{statement}

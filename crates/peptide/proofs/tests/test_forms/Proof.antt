@@ -1,7 +1,8 @@
 -- `test_forms` meets its contract: one test after the other. Assumes nothing.
 use mathlib.Core.Path.{sym, _∙_}
 use denote.Ref.{now}
-use Rattle.peptide.specs.FormLaws.{tested-large, sizes-fit, tested-whole, tested-contents, tested-lists}
+use Rattle.peptide_listing.specs.FormTestLaws.{sizes-fit}
+use Rattle.peptide.specs.FormLaws.{tested-large, tested-whole, tested-contents, tested-lists}
 use borrow.Author.Needs.{needs}
 use Rattle.peptide.proofs.tests.test_forms.Statement.{statement}
 use Rattle.peptide.proofs.tests.test_forms.Tie as tie

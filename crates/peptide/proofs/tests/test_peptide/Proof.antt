@@ -1,5 +1,6 @@
 -- `test_peptide` meets its contract. Assumes nothing.
-use Rattle.peptide.specs.PeptideLaws.{tested-size, tested-on, size-fits}
+use Rattle.peptide_mass.specs.MassLaws.{size-fits}
+use Rattle.peptide.specs.PeptideLaws.{tested-size, tested-on}
 use Rattle.peptide.proofs.tests.test_peptide.Statement.{statement}
 use Rattle.peptide.proofs.tests.test_peptide.Tie as tie
 

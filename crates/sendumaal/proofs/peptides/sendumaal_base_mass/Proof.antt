@@ -1,7 +1,7 @@
 -- `sendumaal_base_mass` meets its contract. Assumes nothing.
 use mathlib.Core.Path.{sym, ap, _∙_}
 use denote.Ref.{now}
-use Rattle.peptide.specs.declared.mass.Weighed.{Weighed}
+use Rattle.peptide_mass.specs.declared.mass.Weighed.{Weighed}
 use Rattle.sendumaal_calls.specs.PeptideCalls.{weightCall}
 use Rattle.sendumaal_calls.specs.PeptideCallLaws.{weight-said}
 use borrow.Author.Needs.{needs}

@@ -1,8 +1,8 @@
 -- `sendumaal_digest_mass` meets its contract. Assumes nothing.
 use mathlib.Core.Path.{sym, ap, _∙_}
 use denote.Ref.{now}
-use Rattle.peptide.specs.declared.mass.Weighed.{Weighed}
-use Rattle.peptide.specs.Digested.{positionIn}
+use Rattle.peptide_mass.specs.declared.mass.Weighed.{Weighed}
+use Rattle.peptide_digests.specs.DigestTests.{positionIn}
 use Rattle.sendumaal_calls.specs.PeptideCalls.{digestWeightCall}
 use Rattle.sendumaal_calls.specs.PeptideCallLaws.{digest-weight-said}
 use borrow.Author.Needs.{needs}

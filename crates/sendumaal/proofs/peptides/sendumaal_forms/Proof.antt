@@ -3,9 +3,9 @@ use mathlib.Core.Path.{sym, ap, _∙_}
 use mathlib.Core.List.{[], _∷_}
 use lib.ListN.{length}
 use denote.Ref.{now}
+use Rattle.peptide_listing.specs.FormTestLaws.{sizes-fit}
 use Rattle.peptide.specs.declared.making.Peptide.{Peptide}
 use Rattle.peptide.specs.Forms.{formsOutcome}
-use Rattle.peptide.specs.FormLaws.{sizes-fit}
 use Rattle.sendumaal_calls.specs.PeptideCalls.{FormsArguments, formed}
 use Rattle.sendumaal_calls.specs.CallLaws.{count-said}
 use Rattle.sendumaal_calls.specs.PeptideCallLaws.{forms-size, forms-length, forms-listed}

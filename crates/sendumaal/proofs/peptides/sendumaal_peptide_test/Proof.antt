@@ -1,8 +1,8 @@
 -- `sendumaal_peptide_test` meets its contract. Assumes nothing.
 use mathlib.Core.List.{[]}
 use mathlib.Core.Bool.{false}
+use Rattle.peptide_mass.specs.Masses.{testedPart}
 use Rattle.peptide.specs.Peptides.{given}
-use Rattle.peptide.specs.Masses.{testedPart}
 use mathlib.Core.Path.{_≡_, ap, _∙_}
 use denote.Ref.{now}
 use Rattle.peptide.specs.declared.making.Made.{Made}

@@ -4,9 +4,10 @@ use mathlib.Core.Path.{sym, _∙_}
 use native.Mathlib.Omega.{arith}
 use lib.ListN.{length}
 use denote.Ref.{now}
+use Rattle.peptide_digests.specs.DigestTestLaws.{passed-digestible}
 use Rattle.peptide.specs.Digested.{digested, madeOfDigest}
 use Rattle.peptide.specs.PeptideLaws.{made-refused, made-given}
-use Rattle.peptide.specs.DigestedLaws.{passed-digestible, range-fits}
+use Rattle.peptide.specs.DigestedLaws.{range-fits}
 use borrow.Author.Needs.{needs}
 use Rattle.peptide.proofs.making.Peptide.of_digest.Statement.{statement}
 use Rattle.peptide.proofs.making.Peptide.of_digest.Tie as tie

@@ -3,9 +3,11 @@ use Prim.Native.Nat.{_≤_}
 use mathlib.Core.Path.{sym, _∙_, subst}
 use denote.Ref.{now}
 use lib.ListN.{length}
+use Rattle.peptide_listing.specs.FormTestLaws.{form-sized}
+use Rattle.peptide_mass.specs.MassLaws.{size-fits}
 use Rattle.peptide.specs.declared.making.Peptide.{Peptide}
 use Rattle.peptide.specs.Peptides.{given}
-use Rattle.peptide.specs.PeptideLaws.{form-sized, size-fits, of-form-refused, of-form-tested, made-refused, made-given}
+use Rattle.peptide.specs.PeptideLaws.{of-form-refused, of-form-tested, made-refused, made-given}
 use borrow.Author.Needs.{needs}
 use Rattle.peptide.proofs.making.Peptide.of_form.Statement.{statement}
 use Rattle.peptide.proofs.making.Peptide.of_form.Tie as tie

@@ -2,9 +2,9 @@
 use mathlib.Core.Path.{sym, _∙_}
 use mathlib.Core.List.{[]}
 use denote.Ref.{now}
+use Rattle.peptide_mass.specs.MassLaws.{part-fits}
 use Rattle.peptide.specs.Peptides.{given}
 use Rattle.peptide.specs.PeptideLaws.{made-refused, made-given}
-use Rattle.peptide.specs.MassLaws.{part-fits}
 use borrow.Author.Needs.{needs}
 use Rattle.peptide.proofs.making.Peptide.of_part.Statement.{statement}
 use Rattle.peptide.proofs.making.Peptide.of_part.Tie as tie

@@ -1,0 +1,3 @@
+-- What a reader has to believe: Masses. MassLaws says what follows.
+pub mod Masses
+pub mod MassLaws
