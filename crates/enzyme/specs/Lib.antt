@@ -1,9 +1,2 @@
--- What a reader has to believe: Digestion, Reversal, and below them Cutting of enzyme_cuts and Digests of enzyme_keep. The files
--- named Laws say what follows.
-pub mod Digestion
-pub mod Reversal
-pub mod TestLaws
+-- What a reader has to believe: Digestion and Reversal of enzyme_spec. RunLaws says what follows of the digests that are kept.
 pub mod RunLaws
-pub mod ReversalLaws
-pub mod SpellingLaws
-pub mod Cases

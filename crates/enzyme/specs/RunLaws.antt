@@ -29,7 +29,7 @@ use Rattle.enzyme_ways.specs.Ways.{way}
 use Rattle.enzyme_ways.specs.WayLaws.{way-keeps, way-inside}
 use Rattle.records.specs.declared.refusal.Counted.{Counted}
 use Rattle.records.specs.declared.refusal.Counted.the-variants.{Count, Refused}
-use Rattle.enzyme.specs.Digestion.{digestRecords}
+use Rattle.enzyme_spec.specs.Digestion.{digestRecords}
 
 -- the answer to a whole run
 abbrev pub ended : After → Outcome Counted

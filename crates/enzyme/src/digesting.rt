@@ -1,9 +1,9 @@
 // The digests of a protein, as records of a lent buffer.
-use crate::settings::Settings;
-use crate::tests::tested;
 use enzyme_cuts::Enzyme;
 use enzyme_keep::Step;
 use enzyme_keep::Terms;
+use enzyme_spec::Settings;
+use enzyme_tests::tested;
 use letters::LetterSet;
 use records::Counted;
 use records::Refusal;
@@ -14,7 +14,7 @@ ghost use Prim.Native.Nat.{_≤_};
 ghost use lib.ListN.{length};
 ghost use Rattle.records.specs.Outcome.{outcome};
 ghost use Rattle.records.specs.Room.{counted};
-ghost use Rattle.enzyme.specs.Digestion.{digestRecords, digestOutcome};
+ghost use Rattle.enzyme_spec.specs.Digestion.{digestRecords, digestOutcome};
 
 // The digests of letters that are in order.
 fn digest_passed(

@@ -16,7 +16,7 @@ use Rattle.protein_groups_spec.specs.ProteinGroups.{Pair, Groups, proteins, met
 use Rattle.sorting.specs.Cases.{table as orders, cases as orders-hold}
 use Rattle.catalogue.specs.Cases.{table as books, cases as books-hold}
 use Rattle.modification.specs.Cases.{table as rules, cases as rules-hold}
-use Rattle.enzyme.specs.Cases.{table as digests, cases as digests-hold}
+use Rattle.enzyme_spec.specs.Cases.{table as digests, cases as digests-hold}
 use Rattle.peptide_choices.specs.Cases.{table as choices, cases as choices-hold}
 use Rattle.peptide.specs.Cases.{table as forms, cases as forms-hold}
 use Rattle.digest_groups.specs.Cases.{table as gathered, cases as gathered-hold}

@@ -9,7 +9,7 @@ use sendumaal_calls::told_field;
 ghost use mathlib.Core.Path.{_≡_};
 ghost use mathlib.Core.List.{List, [], _∷_};
 ghost use Rattle.records.specs.Outcome.{outcome};
-ghost use Rattle.enzyme.specs.Reversal.{reverseOutcome, reverseRecordOutcome, lettersOutcome};
+ghost use Rattle.enzyme_spec.specs.Reversal.{reverseOutcome, reverseRecordOutcome, lettersOutcome};
 ghost use Rattle.sendumaal_calls.specs.Calls.{testedCall, countedCall};
 ghost use Rattle.sendumaal_calls.specs.DigestCalls.{digestCall};
 

@@ -6,7 +6,7 @@ use mathlib.Core.List.{List, [], _∷_}
 use borrow.Author.Tests.{lt-ltb, le-ltb}
 use Rattle.enzyme_cuts.specs.declared.kinds.Enzyme.{Enzyme}
 use Rattle.records.specs.declared.refusal.Counted.{Counted}
-use Rattle.enzyme.specs.Digestion.{tested, digestOutcome}
+use Rattle.enzyme_spec.specs.Digestion.{tested, digestOutcome}
 use Rattle.records.specs.declared.refusal.Refusal.the-variants.{Size}
 use Rattle.records.specs.Outcome.{Outcome, outcome}
 use Rattle.sendumaal_calls.specs.Calls.{setOf, refused, withLent, countCall}

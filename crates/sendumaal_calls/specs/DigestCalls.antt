@@ -8,8 +8,8 @@ use Rattle.enzyme_cuts.specs.declared.kinds.Kind.the-variants.{None, End, Set}
 use Rattle.enzyme_cuts.specs.declared.kinds.Side.{Side}
 use Rattle.enzyme_cuts.specs.declared.kinds.Side.the-variants.{C, N}
 use Rattle.enzyme_cuts.specs.declared.kinds.Enzyme.{Enzyme}
-use Rattle.enzyme.specs.declared.settings.Settings.{Settings}
-use Rattle.enzyme.specs.Digestion.{tested, digestOutcome}
+use Rattle.enzyme_spec.specs.declared.settings.Settings.{Settings}
+use Rattle.enzyme_spec.specs.Digestion.{tested, digestOutcome}
 use Rattle.records.specs.declared.refusal.Refusal.the-variants.{Size, Field}
 use Rattle.records.specs.declared.refusal.Tested.{Tested}
 use Rattle.records.specs.Outcome.{Outcome}

@@ -1,7 +1,7 @@
 -- `digest` meets its contract: a refusal, or the digests. Assumes nothing.
 use mathlib.Core.Path.{sym, _∙_}
 use denote.Ref.{now}
-use Rattle.enzyme.specs.TestLaws.{passed-sizes}
+use Rattle.enzyme_tests.specs.TestLaws.{passed-sizes}
 use borrow.Author.Needs.{needs}
 use Rattle.enzyme.proofs.digesting.digest.Statement.{statement}
 use Rattle.enzyme.proofs.digesting.digest.Tie as tie

@@ -1,7 +1,7 @@
 -- `sendumaal_digest_letters` meets its contract. Assumes nothing.
 use mathlib.Core.List.{[], _∷_}
 use denote.Ref.{now}
-use Rattle.enzyme.specs.Reversal.{lettersOutcome}
+use Rattle.enzyme_spec.specs.Reversal.{lettersOutcome}
 use Rattle.sendumaal_calls.specs.CallLaws.{count-said}
 use borrow.Author.Needs.{needs}
 use Rattle.sendumaal.proofs.digests.sendumaal_digest_letters.Statement.{statement}
