@@ -21,9 +21,9 @@ use Rattle.catalogue_contents.specs.Names.{nameCount, tooManyNames, wholeNames,
 use Rattle.catalogue_contents.specs.Book.{tooManyLetters, boundsOf, boundsTested, lettersTested}
 use Rattle.catalogue_contents.specs.BookLaws.{passed-bounds, bounds-within}
 use Rattle.enzyme_keep.specs.Digests.{goodRecord}
-use Rattle.digest_groups_tables.specs.DigestGroups.{digestAt, start, end, position, decoy, protein}
-use Rattle.digest_groups_tables.specs.Tables.{Book, Inside, Good}
-use Rattle.digest_groups.specs.DigestGrouping.{tooLarge, uneven, needed, goodDigest, badDigest, firstBadDigest, digestsTested, tested}
+use Rattle.digest_groups_spec.specs.DigestGroups.{digestAt, start, end, position, decoy, protein}
+use Rattle.digest_groups_words.specs.Tables.{Book, Inside, Good}
+use Rattle.digest_groups_spec.specs.DigestGrouping.{tooLarge, uneven, needed, goodDigest, badDigest, firstBadDigest, digestsTested, tested}
 
 -- ---- tests one after the other, as the code makes them
 

@@ -1,5 +1,2 @@
--- What a reader has to believe: DigestGrouping, and below it DigestGroups of digest_groups_tables, Names and Book of
--- catalogue_contents. The files named Laws say what follows.
-pub mod DigestGrouping
+-- What a reader has to believe: DigestGroups and DigestGrouping of digest_groups_spec. DigestGroupingLaws says what follows.
 pub mod DigestGroupingLaws
-pub mod Cases

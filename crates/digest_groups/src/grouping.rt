@@ -5,7 +5,7 @@ use records::Tested;
 ghost use mathlib.Core.Path.{_≡_};
 ghost use mathlib.Core.List.{[], _∷_};
 ghost use Rattle.records.specs.Outcome.{outcome};
-ghost use Rattle.digest_groups.specs.DigestGrouping.{groupOutcome};
+ghost use Rattle.digest_groups_spec.specs.DigestGrouping.{groupOutcome};
 
 // Writes a record for each group of digests equal in position, decoy and letters to groups, and the lists of their proteins to
 // proteins. The work memory is zero after acceptance or where a list has no room.

@@ -8,7 +8,7 @@ ghost use mathlib.Core.Bool.{true, false};
 ghost use Prim.Native.Nat.{_+_, _-_, _*_, _/_};
 ghost use lib.ListN.{getD};
 ghost use Rattle.catalogue_contents.specs.Names.{tooManyNames, wholeNames};
-ghost use Rattle.digest_groups.specs.DigestGrouping.{tooLarge, uneven, needed, goodDigest, firstBadDigest, contents, tested};
+ghost use Rattle.digest_groups_spec.specs.DigestGrouping.{tooLarge, uneven, needed, goodDigest, firstBadDigest, contents, tested};
 
 fn too_large(names: &[u8], letters: &[u8], digests: &[u8]) -> bool
     ensures { λ r. ⌜ r ≡ tooLarge (now (names .entry)) (now (letters .entry)) (now (digests .entry)) ⌝ }

@@ -20,9 +20,9 @@ use Rattle.records.specs.RoomLaws.{Sized, stored-text}
 use Rattle.records.specs.StoreLaws.{storedFrom, stored-all}
 use Rattle.sorting.specs.Distinct.{distinct}
 use Rattle.sorting.specs.Runs.{joined, runsOf}
-use Rattle.digest_groups_tables.specs.DigestGroups.{digestAt, digestsIn, keyOf, gathered, groupOf, groupsFrom, proteinList, grouped}
-use Rattle.digest_groups_tables.specs.Turns.{orderOf, Sorted, Gathered}
-use Rattle.digest_groups_tables.specs.TurnLaws.{length-digest}
+use Rattle.digest_groups_spec.specs.DigestGroups.{digestAt, digestsIn, keyOf, gathered, groupOf, groupsFrom, proteinList, grouped}
+use Rattle.digest_groups_runs.specs.Turns.{orderOf, Sorted, Gathered}
+use Rattle.digest_groups_runs.specs.TurnLaws.{length-digest}
 
 -- ---- every record of a group has 24 bytes
 

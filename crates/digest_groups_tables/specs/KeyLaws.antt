@@ -18,11 +18,11 @@ use Rattle.sorting_texts.specs.Text.{textOf, leBy, spellingOf as lettersBy}
 use Rattle.sorting.specs.Runs.{joined, runsOf}
 use Rattle.sorting.specs.RunLaws.{runs-alike}
 use Rattle.sorting.specs.DistinctLaws.{runs-distinct}
-use Rattle.digest_groups_tables.specs.DigestGroups.{digestAt, digestsIn, position, decoy, lettersIn, keyOf, gathered}
-use Rattle.digest_groups_tables.specs.Word.{wordOf}
-use Rattle.digest_groups_tables.specs.WordLaws.{word-key}
-use Rattle.digest_groups_tables.specs.Tables.{Good, spellingOf, Tables}
-use Rattle.digest_groups_tables.specs.TableLaws.{spelt-letters}
+use Rattle.digest_groups_spec.specs.DigestGroups.{digestAt, digestsIn, position, decoy, lettersIn, keyOf, gathered}
+use Rattle.digest_groups_words.specs.Word.{wordOf}
+use Rattle.digest_groups_words.specs.WordLaws.{word-key}
+use Rattle.digest_groups_words.specs.Tables.{Good, spellingOf, Tables}
+use Rattle.digest_groups_words.specs.TableLaws.{spelt-letters}
 
 -- ---- runs of what f makes
 

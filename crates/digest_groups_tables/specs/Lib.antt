@@ -1,11 +1,4 @@
--- What a reader has to believe: DigestGroups. Word and Tables say what the code goes by, and the files named Laws what follows.
-pub mod DigestGroups
-pub mod Word
-pub mod WordLaws
-pub mod Tables
-pub mod TableLaws
+-- What a reader has to believe: DigestGroups of digest_groups_spec. The files named Laws say what follows.
 pub mod KeyLaws
-pub mod Turns
-pub mod TurnLaws
 pub mod SortedLaws
 pub mod FinishLaws

@@ -17,10 +17,10 @@ use Rattle.sorting_spec.specs.PartLaws.{at-slice}
 use Rattle.sorting.specs.Runs.{runsOf}
 use Rattle.sorting.specs.Sorting.{fitting, arranged}
 use Rattle.sorting.specs.SortingLaws.{order-fitting, length-arranged, arranged-sorted, arranged-drop}
-use Rattle.digest_groups_tables.specs.DigestGroups.{digestAt}
-use Rattle.digest_groups_tables.specs.Tables.{Good, Tables}
+use Rattle.digest_groups_spec.specs.DigestGroups.{digestAt}
+use Rattle.digest_groups_words.specs.Tables.{Good, Tables}
 use Rattle.digest_groups_tables.specs.KeyLaws.{gathered-runs}
-use Rattle.digest_groups_tables.specs.Turns.{Sorted}
+use Rattle.digest_groups_runs.specs.Turns.{Sorted}
 
 in-at : (l : List ℕ) (i : ℕ) → i < length l → In (getD l i 0) l
 in-at [] i h = absurd (omega arith)

@@ -1,6 +1,6 @@
 // Digests sorted, made groups, and written.
-use crate::groups::gather_runs;
-use crate::spelling::spell_all;
+use digest_groups_runs::gather_runs;
+use digest_groups_words::spell_all;
 use records::Counted;
 use records::Refusal;
 use sorting::By;
@@ -11,9 +11,9 @@ ghost use Prim.Native.Nat.{_*_, _/_, _≤_, min};
 ghost use lib.Dec.{leb};
 ghost use lib.ListN.{length};
 ghost use Rattle.records.specs.Outcome.{outcome};
-ghost use Rattle.digest_groups_tables.specs.DigestGroups.{digestsIn, gathered, grouped};
-ghost use Rattle.digest_groups_tables.specs.Tables.{Good};
-ghost use Rattle.digest_groups_tables.specs.Turns.{Sorted};
+ghost use Rattle.digest_groups_spec.specs.DigestGroups.{digestsIn, gathered, grouped};
+ghost use Rattle.digest_groups_words.specs.Tables.{Good};
+ghost use Rattle.digest_groups_runs.specs.Turns.{Sorted};
 
 // Sorts the numbers of n digests by position, decoy and letters.
 fn arrange(letters: &[u8], bounds: &[u32], digests: &[u8], w: &mut [u32], n: usize)

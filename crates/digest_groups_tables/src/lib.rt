@@ -1,7 +1,4 @@
-// Digests gathered into groups, in lent work memory. Only crates of this repository call these.
+// Digests gathered into groups, in lent work memory. Only crates of this repository call this.
 mod grouping;
-mod groups;
-mod spelling;
-mod words;
 
 pub use grouping::gather;

@@ -19,7 +19,7 @@ use Rattle.modification.specs.Cases.{table as rules, cases as rules-hold}
 use Rattle.enzyme_spec.specs.Cases.{table as digests, cases as digests-hold}
 use Rattle.peptide_choices.specs.Cases.{table as choices, cases as choices-hold}
 use Rattle.peptide.specs.Cases.{table as forms, cases as forms-hold}
-use Rattle.digest_groups.specs.Cases.{table as gathered, cases as gathered-hold}
+use Rattle.digest_groups_spec.specs.Cases.{table as gathered, cases as gathered-hold}
 use Rattle.protein_groups_spec.specs.Cases.{table as groups, cases as groups-hold}
 use Rattle.protein_groups.specs.Cases.{table as grouped, cases as grouped-hold}
 use Rattle.cover_spec.specs.Cases.{table as marks, cases as marks-hold}

@@ -3,7 +3,7 @@ use Prim.Native.Nat.{ℕ}
 use mathlib.Core.Path.{_≡_}
 use mathlib.Core.List.{List}
 use Rattle.records.specs.Outcome.{Outcome, outcome, only}
-use Rattle.digest_groups.specs.DigestGrouping.{groupOutcome}
+use Rattle.digest_groups_spec.specs.DigestGrouping.{groupOutcome}
 use Rattle.cover.specs.Covering.{coverOutcome}
 use Rattle.cover.specs.Updating.{updateOutcome}
 use Rattle.sendumaal_calls.specs.Calls.{countedCall}

@@ -7,8 +7,8 @@ use denote.Ref.{now}
 use lib.ListN.{length}
 use Rattle.records.specs.Search.{seek}
 use Rattle.records.specs.SearchLaws.{seek-start, seek-on, seek-stop, seek-end}
-use Rattle.digest_groups_tables.specs.DigestGroups.{digestAt}
-use Rattle.digest_groups.specs.DigestGrouping.{goodDigest, badDigest, firstBadDigest}
+use Rattle.digest_groups_spec.specs.DigestGroups.{digestAt}
+use Rattle.digest_groups_spec.specs.DigestGrouping.{goodDigest, badDigest, firstBadDigest}
 use borrow.Author.Needs.{needs}
 use Rattle.digest_groups.proofs.tests.first_bad_digest.Statement.{statement}
 use Rattle.digest_groups.proofs.tests.first_bad_digest.Tie as tie

@@ -4,7 +4,7 @@ use mathlib.Core.Bool.{true, false}
 use denote.Ref.{now}
 use lib.Dec.{ltb}
 use borrow.Author.Tests.{lt-ltb, le-ltb}
-use Rattle.digest_groups.specs.DigestGrouping.{tooLarge, uneven, needed}
+use Rattle.digest_groups_spec.specs.DigestGrouping.{tooLarge, uneven, needed}
 use Rattle.digest_groups.specs.DigestGroupingLaws.{fair-names, even-names}
 use borrow.Author.Needs.{needs}
 use Rattle.digest_groups.proofs.tests.tested.Statement.{statement}

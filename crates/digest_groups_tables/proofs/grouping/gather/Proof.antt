@@ -10,7 +10,7 @@ use Rattle.digest_groups_tables.proofs.grouping.gather.Statement.{state
 use Rattle.digest_groups_tables.proofs.grouping.gather.Tie as tie
 use Rattle.digest_groups_tables.proofs.grouping.answer.Reads as answer-reads
 use Rattle.digest_groups_tables.proofs.grouping.arrange.Reads as arrange-reads
-use Rattle.digest_groups_tables.proofs.groups.gather_runs.Reads as gather-runs-reads
+use Rattle.digest_groups_runs.proofs.gather_runs.Reads as gather-runs-reads
 use Rattle.records.proofs.clear.Reads as clear-reads
 use Rattle.records.proofs.put_numbers.Reads as put-numbers-reads
 

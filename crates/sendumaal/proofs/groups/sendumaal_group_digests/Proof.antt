@@ -1,7 +1,7 @@
 -- `sendumaal_group_digests` meets its contract. Assumes nothing.
 use mathlib.Core.List.{[], _∷_}
 use denote.Ref.{now}
-use Rattle.digest_groups.specs.DigestGrouping.{groupOutcome}
+use Rattle.digest_groups_spec.specs.DigestGrouping.{groupOutcome}
 use Rattle.sendumaal_calls.specs.CallLaws.{count-said}
 use borrow.Author.Needs.{needs}
 use Rattle.sendumaal.proofs.groups.sendumaal_group_digests.Statement.{statement}

@@ -1,0 +1,16 @@
+-- `protein_of` meets its contract. Assumes nothing.
+use Prim.Native.Nat.{_+_, _-_, _*_}
+use native.Mathlib.Omega.{arith}
+use mathlib.Core.Path.{_≡_}
+use borrow.Author.Needs.{needs}
+use Rattle.digest_groups_runs.proofs.groups.protein_of.Statement.{statement}
+use Rattle.digest_groups_runs.proofs.groups.protein_of.Tie as tie
+use Rattle.records.proofs.u32_at.Reads as u32-at-reads
+
+returns : tie.Need-returns
+returns c = let x = c .before .before .before .args .x in let n : 16 * x + 16 - 16 * x ≡ 16 = omega arith in rw n at (c .u32-at .ensures)
+
+pub protein-of-spec : {M : Type 1} → statement M
+protein-of-spec =
+    tie.close (tie.spec (λ c. search needs) (λ c. search needs) (λ c. search needs) (λ c. search needs)
+    (λ c. search needs) (λ c κs. search needs) returns)

@@ -1,0 +1,66 @@
+-- Document 01, "Grouping digests": worked cases, proved of the definitions. A case is the answer's numbers and then each lent
+-- slice: work memory, groups, proteins.
+use Prim.Native.Nat.{ℕ, _-_}
+use mathlib.Core.Path.{refl}
+use mathlib.Core.List.{List, [], _∷_, _++_, flatten, map}
+use lib.ListN.{length, replicate}
+use Rattle.records.specs.Le.{le, numberAt}
+use Rattle.records.specs.Cases.{Case, Hold, answered, refused, told}
+use Rattle.records.specs.Room.{written}
+use Rattle.records.specs.Search.{seek}
+use Rattle.letters.specs.Letters.{isLetter, firstBad}
+use Rattle.catalogue_contents.specs.Names.{nameLength, zerosTo, namesTested}
+use Rattle.catalogue_contents.specs.Book.{firstBadBound}
+use Rattle.digest_groups_spec.specs.DigestGrouping.{firstBadDigest, groupOutcome}
+
+-- a name of these bytes
+name : List ℕ → List ℕ
+name t = t ++ replicate (64 - length t) 0
+
+-- start, end, position, decoy, protein; missed and semi are 0
+digest : ℕ → ℕ → ℕ → ℕ → ℕ → List ℕ
+digest a e position decoy protein = le 4 a ++ (le 4 e ++ (0 ∷ 0 ∷ position ∷ decoy ∷ le 4 protein))
+
+group : List ℕ → ℕ → ℕ → List ℕ
+group reference first count = reference ++ (le 4 first ++ le 4 count)
+
+-- the proteins b, a and c: ACAC, AC and CA; so many words of work memory that hold 7, so many bytes 170 for groups and numbers 9 for
+-- proteins
+grouping : List (List ℕ) → ℕ → ℕ → ℕ → List ℕ → List ℕ → List ℕ → List ℕ → Case
+grouping ds words bytes places answer work groups proteins = record {
+  got =
+      told (groupOutcome (name (98 ∷ []) ++ (name (97 ∷ []) ++ name (99 ∷ []))) (0 ∷ 4 ∷ 6 ∷ 8 ∷ []) (65 ∷ 67 ∷ 65 ∷ 67 ∷ 65 ∷ 67 ∷ 67 ∷ 65 ∷ []) (flatten ds) (replicate words 7)
+      (replicate bytes 170) (replicate places 9));
+  want = answer ∷ work ∷ groups ∷ proteins ∷ [];
+}
+
+pub table : List Case
+table =
+    -- no digests: no groups
+    grouping [] 12 1 1 (answered 0) (replicate 12 0) (170 ∷ []) (9 ∷ [])
+    -- AC of b and of a, also as the last group: sorted by name, the reference the first in input order
+    ∷ grouping (digest 0 2 3 0 0 ∷ digest 0 2 3 0 1 ∷ []) 24 48 2 (answered 1) (replicate 24 0) (group (digest 0 2 3 0 0) 0 2 ++ replicate 24 170) (1 ∷ 0 ∷ [])
+    -- by position, then decoy, then letters; A before AC
+    ∷ grouping (digest 0 2 3 0 0 ∷ digest 0 1 3 0 0 ∷ digest 0 2 3 1 1 ∷ digest 0 2 0 0 2 ∷ []) 36 96 4 (answered 4) (replicate 36 0)
+    (group (digest 0 2 0 0 2) 0 1 ++ (group (digest 0 1 3 0 0) 1 1 ++ (group (digest 0 2 3 0 0) 2 1 ++ group (digest 0 2 3 1 1) 3 1))) (2 ∷ 0 ∷ 0 ∷ 1 ∷ [])
+    -- a decoy's letters are reversed inside: AACC of ACAC, before ACC, that would stand before ACAC
+    ∷ grouping (digest 1 4 3 1 0 ∷ digest 0 4 3 1 0 ∷ digest 0 2 3 1 1 ∷ []) 30 72 3 (answered 3) (replicate 30 0)
+    (group (digest 0 4 3 1 0) 0 1 ++ (group (digest 0 2 3 1 1) 1 1 ++ group (digest 1 4 3 1 0) 2 1)) (0 ∷ 1 ∷ 0 ∷ [])
+    -- repeats are kept; more room than needed stays
+    ∷ grouping (digest 0 2 3 0 0 ∷ digest 2 4 3 0 0 ∷ []) 24 24 3 (answered 1) (replicate 24 0) (group (digest 0 2 3 0 0) 0 2) (0 ∷ 0 ∷ 9 ∷ [])
+    -- 11: no room for the second group, or for the second protein; both lists hold what fits
+    ∷ grouping (digest 0 2 3 0 0 ∷ digest 0 2 0 0 2 ∷ []) 24 47 2 (refused 11 0) (replicate 24 0) (group (digest 0 2 0 0 2) 0 1 ++ replicate 23 170) (2 ∷ 0 ∷ [])
+    ∷ grouping (digest 0 2 3 0 0 ∷ digest 0 2 0 0 2 ∷ []) 24 48 1 (refused 11 0) (replicate 24 0) (group (digest 0 2 0 0 2) 0 1 ++ group (digest 0 2 3 0 0) 1 1) (2 ∷ [])
+    -- 10 with a word too few; 9 at the second digest, which ends past its protein; both leave all as it was
+    ∷ grouping (digest 0 2 3 0 0 ∷ []) 17 24 1 (refused 10 0) (replicate 17 7) (replicate 24 170) (9 ∷ [])
+    ∷ grouping (digest 0 2 3 0 0 ∷ digest 0 3 3 0 1 ∷ []) 24 48 2 (refused 9 1) (replicate 24 7) (replicate 48 170) (9 ∷ 9 ∷ [])
+    -- 9: no such protein; a start that is not below its end; position 4; decoy 2
+    ∷ grouping (digest 0 2 3 0 3 ∷ []) 18 24 1 (refused 9 0) (replicate 18 7) (replicate 24 170) (9 ∷ [])
+    ∷ grouping (digest 2 2 3 0 0 ∷ []) 18 24 1 (refused 9 0) (replicate 18 7) (replicate 24 170) (9 ∷ [])
+    ∷ grouping (digest 0 2 4 0 0 ∷ []) 18 24 1 (refused 9 0) (replicate 18 7) (replicate 24 170) (9 ∷ [])
+    ∷ grouping (digest 0 2 3 2 0 ∷ []) 18 24 1 (refused 9 0) (replicate 18 7) (replicate 24 170) (9 ∷ [])
+    ∷ []
+
+pub cases : Hold table
+unfolding seek isLetter firstBad nameLength zerosTo namesTested firstBadBound firstBadDigest flatten numberAt written name digest group grouping table
+cases = refl

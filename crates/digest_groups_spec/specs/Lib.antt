@@ -1,0 +1,5 @@
+-- What a reader has to believe: DigestGroups, DigestGrouping, and below them Names and Book of catalogue_contents. Cases is proved of
+-- them.
+pub mod DigestGroups
+pub mod DigestGrouping
+pub mod Cases

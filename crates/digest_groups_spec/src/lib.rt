@@ -1,0 +1,1 @@
+// No code: what the groups of digests are stands in specs.
