@@ -40,7 +40,7 @@ kept : (q : Edge → Bool) (e : Edge) (l : List Edge) → e ∈ l → q e ≡ tr
 kept q e l i j =
     rw (count-keep (sameEdge e) q l) (ltb-true 0 (count (λ d. q d && sameEdge e d) l) (has (λ d. q d && sameEdge e d) e l i (rw (j, edge-same e))))
 
--- a weaker test keeps the sameEdge edges, or more
+-- a weaker test keeps the same edges, or more
 grow : (q r : Edge → Bool) (l : List Edge) → All (λ e. q e ≡ true → r e ≡ true) l → (keep r l ≡ keep q l) ⊎ (length (keep q l) < length (keep r l))
 grow q r [] h = inl refl
 grow q r (e ∷ l) h = go (q e) refl (r e) refl (grow q r l (h .1))

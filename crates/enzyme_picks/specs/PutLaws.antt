@@ -1,4 +1,4 @@
--- Offers write the ranges that are newly, one after the other. Assumes nothing.
+-- Offers write the ranges that are kept, one after the other. Assumes nothing.
 use Prim.Native.Nat.{ℕ, _+_, _*_, _/_, _≤_, _<_}
 use mathlib.Core.Path.{_≡_, refl, sym, _∙_}
 use mathlib.Core.Bool.{Bool, true, false, cond}
@@ -57,7 +57,7 @@ module _ (n p : ℕ) (w : Bool) (r : Range) (rest : List Range) (count : ℕ) (o
 
 -- ---- what offers write
 
--- of the ranges rs those that are newly behind ks
+-- of the ranges rs those that are kept behind ks
 abbrev newly : List ℕ → ℕ → ℕ → List Range → List Range → List Range
 newly s mn mx ks [] = []
 newly s mn mx ks (r ∷ rs) =

@@ -1,4 +1,4 @@
--- The code goes by sites that are bit number each (peptide_slots, peptide_forms): they make the same forms. Assumes nothing.
+-- The code goes by sites that are one number each (peptide_slots, peptide_forms): they make the same forms. Assumes nothing.
 use Prim.Native.Nat.{ℕ, zero, suc, _+_, _*_, _/_, _≤_, _<_}
 use mathlib.Core.Path.{_≡_, refl, sym, ap, ap₂, _∙_}
 use mathlib.Core.Bool.{Bool, true, false, cond, not, _&&_, _||_}
@@ -101,7 +101,7 @@ residues r hit j (suc c) h = go (hit (suc (suc j))) (residues r hit (suc j) c (o
     go true e = ap₂ {C = List Site} (λ (x : Site) (xs : List Site). x ∷ xs) here e
     go false e = e
 
--- of bit rule: the slots of both ends, then those of the residues
+-- of one rule: the slots of both ends, then those of the residues
 rule-sites : (p : Peptide) (r kind letter : ℕ) → p .len ≤ 64 → map (site r) (keep (hits p kind letter) (upFrom 0 (p .len + 2))) ≡ map unpack (slotNumbers (p .letters) (p .len) kind (p .position) letter (r * 128))
 unfolding slotNumbers placesOf ifHit
 rule-sites p r kind letter h =

@@ -1,4 +1,4 @@
--- Which choices pass, each site bit number as in peptide_slots' Sites: how the code says it. A choice is the list of its
+-- Which choices pass, each site one number as in peptide_slots' Sites: how the code says it. A choice is the list of its
 -- places in the list of sites. The public statement does not cite this.
 use Prim.Native.Nat.{ℕ, _+_}
 use mathlib.Core.Bool.{Bool, true, not, _&&_}

@@ -54,7 +54,7 @@ module _ (sites rules : List ℕ) where
   in-snoc whole [] k = and-true (leb (uses sites (siteRule sites k) whole) (limitAt rules (siteRule sites k)))
   in-snoc whole (x ∷ q) k = ap (λ (t : Bool). leb (uses sites (siteRule sites x) whole) (limitAt rules (siteRule sites x)) && t) (in-snoc whole q k) ∙ sym (and-assoc (leb (uses sites (siteRule sites x) whole) (limitAt rules (siteRule sites x))) (inLimits sites rules whole q) (leb (uses sites (siteRule sites k) whole) (limitAt rules (siteRule sites k))))
 
-  -- bit place more leaves the test on another place as it is, if its rule has room
+  -- one place more leaves the test on another place as it is, if its rule has room
   leb-same : (p : List ℕ) (k x : ℕ) → room p k ≡ true → leb (uses sites (siteRule sites x) (p ++ (k ∷ []))) (limitAt rules (siteRule sites x)) ≡ leb (uses sites (siteRule sites x) p) (limitAt rules (siteRule sites x))
   unfolding room
   leb-same p k x h = go (eqb (siteRule sites k) (siteRule sites x)) refl

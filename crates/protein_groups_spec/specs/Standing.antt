@@ -10,11 +10,11 @@ use Rattle.cover_spec.specs.Cover.{cover}
 use Rattle.protein_groups_members.specs.Members.{Member}
 use Rattle.protein_groups_spec.specs.ProteinGroups.{Pair, Groups}
 
--- how count members have protein p and flag f
+-- how many members have protein p and flag f
 abbrev pub standing : ℕ → ℕ → List Member → ℕ
 standing p f ms = count (λ (m : Member). eqb (m .protein) p && eqb (m .decoy) f) ms
 
--- how count members a group has
+-- how many members a group has
 abbrev pub membersOf : ℕ → List Member → ℕ
 membersOf g ms = count (λ (m : Member). eqb (m .group) g) ms
 

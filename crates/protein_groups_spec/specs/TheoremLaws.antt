@@ -409,7 +409,7 @@ module _ (flags : List ℕ) (peptides : ℕ) (qs : List Pair) where
       let f : In (seen flags r) ps = in-found (seen flags r) (in-shown flags qs r 0 peptides u (omega arith) (omega arith)) in
       (r, u, v, (k, b, y, ap (λ (o : ℕ). getD ps o 0) w ∙ getD-place (seen flags r) ps f))
 
-  -- a protein and flag stand in as count members as their number in what is found
+  -- a protein and flag stand in as many members as their number in what is found
   pub standing-times : (p f : ℕ) → f ≤ 1 → standing p f (packedGrouping flags peptides qs .members) ≡ times (p * 2 + f) ps
   unfolding packedGrouping groupsOf
   standing-times p f h =
