@@ -2,7 +2,8 @@
 //!
 //! `compare [SEED]` prints a line for each entry and fails if there is a difference; `compare until SUBJECT` does so for
 //! the entries of one subject up to the first that differs; `compare vectors FOLDER` writes a sample of the original's
-//! answers; `compare stack` prints how much stack each function takes. ORACLE and ORACLE_ALT are the programs that oracle/setup has built. `run` does it all.
+//! answers; `compare stack` prints how much stack each function takes. ORACLE and ORACLE_ALT are the programs that
+//! oracle/setup has built. `run` does it all.
 mod answer;
 mod asked;
 mod calls;
