@@ -1,17 +1,18 @@
 -- What stands where in a mirrored list; mirroring twice gives the list back. Assumes nothing.
 use Prim.Native.Nat.{ℕ, _+_, _-_, _≤_, _<_, max}
-use mathlib.Core.Path.{_≡_, refl, sym, ap, _∙_}
-use mathlib.Core.List.{List, _∷_, _++_, reverse}
-use mathlib.Core.Bool.{Bool, true, false, cond, _&&_, and-true, and-assoc}
-use mathlib.Core.Logic.{_⊎_, inl, inr}
+use mathlib.Core.Path.{_≡_, sym, ap, _∙_}
+use mathlib.Core.List.{List, _∷_, _++_}
+use mathlib.Core.Bool.{Bool, _&&_, and-true, and-assoc}
+use mathlib.Core.Logic.{_⊎_, inl, inr, ⊎-elim}
 use native.Mathlib.Omega.{arith}
 use native.Mathlib.Decide.{decLt}
-use lib.ListN.{length, getD, take, drop, length-append, length-take, length-drop, length-reverse, List·getD-append, drop-of-length-le}
+use lib.ListN.{length, getD, take, drop, length-append, length-drop, List·getD-append, drop-of-length-le}
 use native.Mathlib.Numerals.{add-one}
 use lib.Seq.{drop-cons, getD-append-add, getD-take, getD-drop, ext-getD, length-take-le}
-use lib.Dec.{leb, eqb}
-use borrow.Author.Tests.{leb-true, leb-false}
-use Rattle.lists.specs.ReverseLaws.{getD-reverse}
+use lib.Dec.{eqb}
+use Rattle.lists.specs.Tests.{below?}
+use Rattle.letters.specs.Reversal.{reversed}
+use Rattle.letters.specs.ReversalLaws.{length-reversed, reversed-first, reversed-last, reversed-inner}
 use Rattle.peptide_slots.specs.Mirror.{mirror, allZero}
 
 -- out is xs with the places from 1 up to i turned round within the first n
@@ -25,78 +26,47 @@ abbrev pub until : ℕ → ℕ
 until n = max 1 (n - 1)
 
 -- ---- the definition, place by place
-module _ (n : ℕ) (xs : List ℕ) (fits : n ≤ length xs) (long : 2 < n) where
-  mid : List ℕ
-  mid = take (n - 2) (drop 1 xs)
+module _ (n : ℕ) (xs : List ℕ) (fits : n ≤ length xs) where
+  front : length (take n xs) ≡ n
+  front = length-take-le n xs fits
 
-  mid-length : length mid ≡ n - 2
-  unfolding mid
-  mid-length = simp (length-take, length-drop) (omega arith)
+  turned : length (reversed (take n xs)) ≡ n
+  turned = length-reversed (take n xs) ∙ front
 
-  turned-list : List ℕ
-  turned-list = take 1 xs ++ (reverse (take (n - 2) (drop 1 xs)) ++ drop (n - 1) xs)
+  within : (k : ℕ) → k < n → getD (mirror n xs) k 0 ≡ getD (reversed (take n xs)) k 0
+  unfolding mirror
+  within k h = List·getD-append (reversed (take n xs)) (drop n xs) 0 k (omega (arith, turned))
 
-  one-long : length (take 1 xs) ≡ 1
-  one-long = length-take-le 1 xs (omega arith)
+  past : (k : ℕ) → n ≤ k → getD (mirror n xs) k 0 ≡ getD xs k 0
+  unfolding mirror
+  past k h =
+      let e : k ≡ length (reversed (take n xs)) + (k - n) = omega (arith, turned) in
+      let f : n + (k - n) ≡ k = omega arith in
+      ap (λ (z : ℕ). getD (reversed (take n xs) ++ drop n xs) z 0) e
+      ∙ getD-append-add (reversed (take n xs)) (drop n xs) (k - n) 0
+      ∙ getD-drop n xs (k - n) 0
+      ∙ ap (λ (z : ℕ). getD xs z 0) f
 
-  rev-long : length (reverse mid) ≡ n - 2
-  rev-long = length-reverse mid ∙ mid-length
+  mirror-length : length (mirror n xs) ≡ length xs
+  unfolding mirror
+  mirror-length = length-append (reversed (take n xs)) (drop n xs) ∙ omega (arith, turned, length-drop n xs)
 
-  turned-len : length turned-list ≡ length xs
-  unfolding turned-list
-  turned-len = simp (length-append, length-reverse, length-take, length-drop) (omega arith)
+  mirror-inner : (k : ℕ) → 1 ≤ k → k < until n → getD (mirror n xs) k 0 ≡ getD xs (n - 1 - k) 0
+  mirror-inner k a b =
+      within k (omega arith)
+      ∙ reversed-inner (take n xs) k a (omega (arith, front))
+      ∙ ap (λ (z : ℕ). getD (take n xs) (z - 1 - k) 0) front
+      ∙ getD-take n xs (n - 1 - k) 0 (omega arith)
 
-  past-first : (j : ℕ) → getD turned-list (1 + j) 0 ≡ getD (reverse mid ++ drop (n - 1) xs) j 0
-  unfolding turned-list mid
-  past-first j =
-      ap (λ (z : ℕ). getD (take 1 xs ++ (reverse (take (n - 2) (drop 1 xs)) ++ drop (n - 1) xs)) (z + j) 0) (sym one-long)
-      ∙ getD-append-add (take 1 xs) (reverse (take (n - 2) (drop 1 xs)) ++ drop (n - 1) xs) j 0
-
-  first : getD turned-list 0 0 ≡ getD xs 0 0
-  unfolding turned-list
-  first = List·getD-append (take 1 xs) (reverse (take (n - 2) (drop 1 xs)) ++ drop (n - 1) xs) 0 0 (omega (arith, one-long)) ∙ getD-take 1 xs 0 0 (omega arith)
-
-  inside : (j : ℕ) → j < n - 2 → getD turned-list (1 + j) 0 ≡ getD xs (n - 1 - (1 + j)) 0
-  unfolding mid
-  inside j h =
-      let a : j < length (reverse mid) = omega (arith, rev-long) in
-      let b : j < length mid = omega (arith, mid-length) in
-      past-first j
-      ∙ List·getD-append (reverse mid) (drop (n - 1) xs) 0 j a
-      ∙ getD-reverse mid j b
-      ∙ getD-take (n - 2) (drop 1 xs) (length mid - 1 - j) 0 (omega (arith, mid-length))
-      ∙ getD-drop 1 xs (length mid - 1 - j) 0
-      ∙ ap (λ (z : ℕ). getD xs z 0) (let q : length mid ≡ n - 2 = mid-length in omega arith)
-
-  after : (j : ℕ) → n - 2 ≤ j → getD turned-list (1 + j) 0 ≡ getD xs (1 + j) 0
-  after j h =
-      let q : length (reverse mid) ≡ n - 2 = rev-long in
-      past-first j
-      ∙ ap (λ (z : ℕ). getD (reverse mid ++ drop (n - 1) xs) z 0) (let e : j ≡ length (reverse mid) + (j - (n - 2)) = omega arith in e)
-      ∙ getD-append-add (reverse mid) (drop (n - 1) xs) (j - (n - 2)) 0
-      ∙ getD-drop (n - 1) xs (j - (n - 2)) 0
-      ∙ ap (λ (z : ℕ). getD xs z 0) (omega arith)
-
-  turned-long : Turned n (until n) xs turned-list
-  turned-long = record { len = turned-len; inner = in-at; outer = out-at }
+  mirror-outer : (k : ℕ) → (k < 1) ⊎ (until n ≤ k) → getD (mirror n xs) k 0 ≡ getD xs k 0
+  mirror-outer k o = ⊎-elim (λ (h : k < n). within k h ∙ end h o ∙ getD-take n xs k 0 h) (past k) (below? k n)
     where
-      in-at : (k : ℕ) → 1 ≤ k → k < until n → getD turned-list k 0 ≡ getD xs (n - 1 - k) 0
-      in-at k a b = let e : 1 + (k - 1) ≡ k = omega arith in rw e at (inside (k - 1) (omega arith))
+      end : k < n → (k < 1) ⊎ (until n ≤ k) → getD (reversed (take n xs)) k 0 ≡ getD (take n xs) k 0
+      end h (inl a) = let e : k ≡ 0 = omega arith in rw e (reversed-first (take n xs))
+      end h (inr a) = reversed-last (take n xs) k (omega (arith, front))
 
-      out-at : (k : ℕ) → (k < 1) ⊎ (until n ≤ k) → getD turned-list k 0 ≡ getD xs k 0
-      out-at k (inl a) = let e : k ≡ 0 = omega arith in rw e first
-      out-at k (inr a) = let e : 1 + (k - 1) ≡ k = omega arith in rw e at (after (k - 1) (omega arith))
-
-pub mirror-turned : (n : ℕ) (xs : List ℕ) → n ≤ length xs → Turned n (until n) xs (mirror n xs)
-unfolding mirror turned-list
-mirror-turned n xs h = go (leb n 2) refl
-  where
-    go : (b : Bool) → leb n 2 ≡ b → Turned n (until n) xs (cond b xs (take 1 xs ++ (reverse (take (n - 2) (drop 1 xs)) ++ drop (n - 1) xs)))
-    go true e = record { len = refl; inner = λ k a b. absurd (let g : n ≤ 2 = leb-true n 2 e in omega arith); outer = λ k a. refl }
-    go false e = long (leb-false n 2 e)
-      where
-        long : 2 < n → Turned n (until n) xs (take 1 xs ++ (reverse (take (n - 2) (drop 1 xs)) ++ drop (n - 1) xs))
-        long g = turned-long n xs h g
+  pub mirror-turned : Turned n (until n) xs (mirror n xs)
+  mirror-turned = record { len = mirror-length; inner = mirror-inner; outer = mirror-outer }
 
 -- ---- one list only
 pub turned-one : (n i : ℕ) (xs a b : List ℕ) → Turned n i xs a → Turned n i xs b → a ≡ b
