@@ -8,6 +8,7 @@ use native.Mathlib.Omega.{arith}
 use lib.ListN.{length, getD, replicate}
 use lib.Dec.{eqb}
 use borrow.Author.Tests.{eqb-true, not-false}
+use Rattle.lists.specs.InLaws.{map-alike}
 use Rattle.peptide_listing.specs.FormTests.{tooLarge, notWhole, testedLists}
 use Rattle.lists.specs.Tests.{both}
 use Rattle.lists.specs.Lists.{keep}
@@ -38,7 +39,7 @@ use Rattle.records.specs.TestedLaws.{passed-both, passed-first}
 use Rattle.peptide.specs.Peptides.{testedContents}
 use Rattle.peptide.specs.Sites.{Site, sitesOf, passes, filled}
 use Rattle.peptide.specs.Forms.{testedForms, bare, chosen, choices, formOf, formsOutcome}
-use Rattle.peptide.specs.PackedLaws.{packedSites, packedForms, forms-packed, map-same}
+use Rattle.peptide.specs.PackedLaws.{packedSites, packedForms, forms-packed}
 
 -- ---- all tests
 
@@ -98,7 +99,7 @@ pub by-table : (p : Peptide) (variable fixed sites table : List ℕ) (limit cap 
     → map (quick (bare p) table sites variable) (packedChoices sites variable limit cap) ≡ packedForms p variable fixed limit cap
 unfolding packedForms quick packedForm
 by-table p variable fixed sites table limit cap l e t =
-    map-same (quick (bare p) table sites variable) (λ (c : List ℕ). on (packedChosen sites c)) (packedChoices sites variable limit cap) same
+    map-alike (quick (bare p) table sites variable) (λ (c : List ℕ). on (packedChosen sites c)) (packedChoices sites variable limit cap) (λ c i. same c)
     ∙ sym (map-map on (packedChosen sites) (packedChoices sites variable limit cap))
     ∙ ap (λ (s : List ℕ). map on (map (packedChosen s) (packedChoices s variable limit cap))) e
     ∙ ap (map on) (sym (choices-used (packedSites p variable) variable limit cap))

@@ -9,7 +9,7 @@ use lib.Dec.{leb, eqb}
 use native.Mathlib.Nat.{zero-add}
 use borrow.Author.Tests.{leb-true, le-leb, lt-leb, ltb-false, eqb-true, eqb-false, eq-eqb, ne-eqb, not-false, not-true}
 use Rattle.peptide_listing.specs.FormTests.{testedLists}
-use Rattle.lists.specs.InLaws.{keep-alike}
+use Rattle.lists.specs.InLaws.{keep-alike, map-alike}
 use Rattle.lists.specs.Tests.{both}
 use Rattle.lists.specs.Lists.{upFrom, keep, bit, count}
 use Rattle.records.specs.declared.refusal.Tested.{Tested}
@@ -242,10 +242,6 @@ choices-packed ps rules limit cap =
     ∙ keep-alike (λ (c : List ℕ). passes rules (chosen (map unpack ps) c)) (packedPasses ps rules) (bySize (length ps) 1 limit)
     (λ c i. ap (passes rules) (chosen-packed ps c) ∙ sym (passes-packed rules (packedChosen ps c)) ∙ sym (passes-chosen ps rules c)))
 
-pub map-same : (f g : List ℕ → List ℕ) (xs : List (List ℕ)) → ((c : List ℕ) → f c ≡ g c) → map f xs ≡ map g xs
-map-same f g [] h = refl
-map-same f g (x ∷ xs) h = rw (h x, map-same f g xs h)
-
 -- the law: where the tests passed, the forms are those that the code's numbers make
 pub forms-packed : (p : Peptide) (variable fixed : List ℕ) (limit cap : ℕ) → p .len ≤ 64 → testedLists variable fixed ≡ Tested.Passed → formsOf p variable fixed limit cap ≡ packedForms p variable fixed limit cap
 unfolding testedLists formsOf packedForms formOf packedForm
@@ -253,7 +249,7 @@ forms-packed p variable fixed limit cap h e =
     let t = passed-both (fieldTested (firstBadRule false variable) (length variable / 8)) (fieldTested (firstBadRule true fixed) (length fixed / 8)) e in
     let v : sitesOf p variable ≡ map unpack (packedSites p variable) = sites-packed p variable h (kinds false variable (t .0)) in
     let f : sitesOf p fixed ≡ map unpack (packedSites p fixed) = sites-packed p fixed h (kinds true fixed (t .1)) in
-    map-same (formOf p variable fixed) (packedForm (bare p) (packedSites p variable) variable (packedSites p fixed) fixed) (choices (sitesOf p variable) variable limit cap) (form v f)
+    map-alike (formOf p variable fixed) (packedForm (bare p) (packedSites p variable) variable (packedSites p fixed) fixed) (choices (sitesOf p variable) variable limit cap) (λ c i. form v f c)
     ∙ ap (map (packedForm (bare p) (packedSites p variable) variable (packedSites p fixed) fixed))
     (ap (λ (s : List Site). choices s variable limit cap) v ∙ choices-packed (packedSites p variable) variable limit cap)
   where

@@ -1,7 +1,6 @@
 -- Document 01: "for n = 1 to the combination limit, all n-element choices of sites in lexicographic order, skipping those
 -- that ..". A choice is the list of its places, ascending.
 use Prim.Native.Nat.{ℕ, zero, suc}
-use mathlib.Core.Bool.{Bool, cond}
 use mathlib.Core.List.{List, [], _∷_, _++_, map}
 
 -- all n-element choices of the len places from lo on, in lexicographic order: first those with lo, then those without

@@ -3,11 +3,12 @@ use Prim.Native.Nat.{ℕ, zero, suc, _≤_, _<_}
 use mathlib.Core.Path.{_≡_, refl, sym, ap, _∙_, subst}
 use mathlib.Core.List.{List, [], _∷_, _++_, append-assoc, append-nil}
 use mathlib.Core.Option.{Option, none, some}
-use mathlib.Core.Logic.{⊎-elim}
 use mathlib.Core.Bool.{Bool, true, false, cond, true≢false}
 use native.Mathlib.Omega.{arith}
 use native.Mathlib.Nat.{not-suc-le-zero}
 use lib.ListN.{length, take, length-append}
+use Rattle.peptide_choices.specs.ListingLaws.{all-in}
+use Rattle.lists.specs.KeepLaws.{all-append}
 use Rattle.lists.specs.Lists.{keep, In}
 use Rattle.peptide_choices.specs.Choices.{choicesOf}
 use Rattle.peptide_choices.specs.OrderLaws.{AllLen, Chain, chain-first, go-on, stop}
@@ -37,7 +38,6 @@ module _ (ok : List ℕ → Bool) where
 
   -- being bad is inherited: all that begin with p are left out at once
   pub keep-none : (e : ℕ) (p : List ℕ) (xs rest : List (List ℕ)) → ((d : List ℕ) → take e d ≡ p → ok d ≡ false) → AllBegin e p xs → keep ok (xs ++ rest) ≡ keep ok rest
-  unfolding AllBegin
   keep-none e p [] rest h a = refl
   keep-none e p (c ∷ xs) rest h a = keep-no c (xs ++ rest) (h c (a .0)) ∙ keep-none e p xs rest h (a .1)
 
@@ -56,16 +56,10 @@ pub record Stepped-on (ok : List ℕ → Bool) (m e : ℕ) (c : List ℕ) (xs : 
   pub no : ok c ≡ false → (more : List (List ℕ)) → keep ok (xs ++ more) ≡ keep ok (rest ++ more)
   pub all : (n : ℕ) → AllLen n xs → AllLen n rest
 
-all-cut : (n : ℕ) (xs ys : List (List ℕ)) → AllLen n (xs ++ ys) → AllLen n ys
-unfolding AllLen
-all-cut n [] ys p = p
-all-cut n (c ∷ xs) ys p = all-cut n xs ys (p .1)
-
 chain-inv : {m : ℕ} {l : List ℕ} {xs : List (List ℕ)} → Chain m (some l) xs none → (ys : List (List ℕ)) × (xs ≡ l ∷ ys) × Chain m (after m l) ys none
 chain-inv (go-on {cs = cs} d) = (cs, refl, d)
 
 pub step-on : (ok : List ℕ → Bool) {m : ℕ} (kept : ℕ) {c : List ℕ} (xs : List (List ℕ)) → Sound ok c kept → Chain m (some c) xs none → Stepped-on ok m (suc kept) c xs
-unfolding AllLen
 step-on ok {m} kept {c} xs s d = go (ok c) refl
   where
     yes-case : ok c ≡ true → (t : (ys : List (List ℕ)) × (xs ≡ c ∷ ys) × Chain m (after m c) ys none) → Stepped-on ok m (suc kept) c xs
@@ -75,7 +69,7 @@ step-on ok {m} kept {c} xs s d = go (ok c) refl
       shorter = omega (arith, ap length (t .1));
       yes = λ g. t .1;
       no = λ g. absurd (true≢false (sym h ∙ g));
-      all = λ n a. all-cut n (c ∷ []) (t .0) (subst (AllLen n) (t .1) a);
+      all = λ n a. subst (AllLen n) (t .1) a .1;
     }
 
     no-case : ok c ≡ false → Cut m (suc kept) c xs → Stepped-on ok m (suc kept) c xs
@@ -87,7 +81,7 @@ step-on ok {m} kept {c} xs s d = go (ok c) refl
       no = λ g more. ap (λ (z : List (List ℕ)). keep ok (z ++ more)) (k .is)
           ∙ ap (keep ok) (append-assoc (c ∷ k .out) (k .rest) more)
           ∙ keep-none ok (suc kept) (take (suc kept) c) (c ∷ k .out) (k .rest ++ more) (s .bad h) (k .begin);
-      all = λ n a. all-cut n (c ∷ k .out) (k .rest) (subst (AllLen n) (k .is) a);
+      all = λ n a. all-append (λ (d : List ℕ). length d ≡ n) (c ∷ k .out) (k .rest) (subst (AllLen n) (k .is) a) .1;
     }
 
     go : (b : Bool) → ok c ≡ b → Stepped-on ok m (suc kept) c xs
@@ -95,13 +89,8 @@ step-on ok {m} kept {c} xs s d = go (ok c) refl
     go false h = no-case h (cut (suc kept) xs d)
 
 -- ---- what is skipped never passes: out is all that stands between c and the successor that the counter answers
-skipped-in : (ok : List ℕ → Bool) (e : ℕ) (p : List ℕ) (xs : List (List ℕ)) → ((d : List ℕ) → take e d ≡ p → ok d ≡ false) → AllBegin e p xs → (d : List ℕ) → In d xs → ok d ≡ false
-unfolding AllBegin
-skipped-in ok e p [] h a d i = absurd i
-skipped-in ok e p (x ∷ xs) h a d i = ⊎-elim (λ (q : d ≡ x). ap ok q ∙ h x (a .0)) (λ (j : In d xs). skipped-in ok e p xs h (a .1) d j) i
-
 pub skipped-never : (ok : List ℕ → Bool) {m : ℕ} (kept : ℕ) {c : List ℕ} (xs : List (List ℕ)) → Sound ok c kept → ok c ≡ false → (k : Cut m (suc kept) c xs) → (d : List ℕ) → In d (c ∷ k .out) → ok d ≡ false
-skipped-never ok kept {c} xs s e k d i = skipped-in ok (suc kept) (take (suc kept) c) (c ∷ k .out) (s .bad e) (k .begin) d i
+skipped-never ok kept {c} xs s e k d i = s .bad e d (all-in (λ (x : List ℕ). take (suc kept) x ≡ take (suc kept) c) d (c ∷ k .out) (k .begin) i)
 
 -- ---- the theorem: the pruned walk yields exactly the choices that pass, in order
 pub chain-end : {m : ℕ} {xs : List (List ℕ)} → Chain m none xs none → xs ≡ []

@@ -33,7 +33,7 @@ pub record Left (m n : ℕ) (s : Stepped) (xs : List (List ℕ)) : Type 0 where
 
 -- the state that stands at o
 left-at : {m n : ℕ} {o : Option (List ℕ)} {xs : List (List ℕ)} (c : Choice) → c .n ≡ n → c .m ≡ m → Chain m o xs none → AllLen n xs → length xs ≤ length (choicesOf n m 0) → Left m n (steppedTo c o) xs
-unfolding steppedTo AllLen
+unfolding steppedTo
 left-at c e f stop p h = record { size = e; sites = f; chain = stop; all = p; short = h }
 left-at {m} {n} c e f (go-on {c = l} {cs = cs} d) p h =
     let w : take (c .n) (l ++ drop (c .n) (c .at)) ≡ l = take-at l (drop (c .n) (c .at)) (c .n) (p .0 ∙ sym e) in
@@ -80,7 +80,6 @@ fewer ok m n kept s xs l t = omega (arith, t .shorter, left-count m n s xs l, le
 
 -- the choice in a state has n places
 pub left-wide : (m n : ℕ) (s : Stepped) (xs : List (List ℕ)) → Left m n s xs → s .more ≡ true → length (wordOf s) ≡ n
-unfolding AllLen
 left-wide m n s xs l e = go xs (rw e at (l .chain)) (l .all)
   where
     go : (ys : List (List ℕ)) → Chain m (some (wordOf s)) ys none → AllLen n ys → length (wordOf s) ≡ n

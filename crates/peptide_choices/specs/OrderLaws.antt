@@ -9,19 +9,16 @@ use native.Mathlib.Nat.{le-of-suc-le-suc, not-suc-le-zero, zero-add}
 use lib.ListN.{length}
 use lib.Dec.{ltb, leb, leb·zero, leb·suc-zero}
 use borrow.Author.Tests.{lt-ltb, le-ltb, le-leb, lt-leb, leb-true, leb-false}
+use Rattle.lists.specs.KeepLaws.{all-both}
+use Rattle.lists.specs.Lists.{upFrom, All}
 use Rattle.peptide_choices.specs.Choices.{choicesOf}
-use Rattle.peptide_choices.specs.Steps.{after, firstOf, move, run}
+use Rattle.peptide_choices.specs.Steps.{after, firstOf, move}
 
 -- what stepping from a choice gives, at most `fuel` of them
 unfoldable pub walk : ℕ → ℕ → Option (List ℕ) → List (List ℕ)
 walk m zero o = []
 walk m (suc fuel) none = []
 walk m (suc fuel) (some c) = c ∷ walk m fuel (after m c)
-
-pub length-run : (b k : ℕ) → length (run b k) ≡ k
-unfolding run
-length-run b zero = refl
-length-run b (suc k) = ap suc (length-run (suc b) k)
 
 -- ---- each list of choices is a chain: it begins at o, each is the one after the one before, and none is after the last but o'
 pub data Chain (m : ℕ) : Option (List ℕ) → List (List ℕ) → Option (List ℕ) → Type 0 where
@@ -33,30 +30,23 @@ chain-append stop d = d
 chain-append (go-on c) d = go-on (chain-append c d)
 
 -- every choice has n places
-unfoldable pub AllLen : ℕ → List (List ℕ) → Type 0
-AllLen n [] = Unit {0}
-AllLen n (c ∷ cs) = (length c ≡ n) × AllLen n cs
+abbrev pub AllLen : ℕ → List (List ℕ) → Type 0
+AllLen n = All (λ (c : List ℕ). length c ≡ n)
 
-all-append : (n : ℕ) (xs ys : List (List ℕ)) → AllLen n xs → AllLen n ys → AllLen n (xs ++ ys)
-unfolding AllLen
-all-append n [] ys p q = q
-all-append n (c ∷ cs) ys p q = (p .0, all-append n cs ys (p .1) q)
-
-all-under : (n a : ℕ) (xs : List (List ℕ)) → AllLen n xs → AllLen (suc n) (map (λ (c : List ℕ). a ∷ c) xs)
-unfolding AllLen
-all-under n a [] p = tt
-all-under n a (c ∷ cs) p = (ap suc (p .0), all-under n a cs (p .1))
+long-under : (n a : ℕ) (xs : List (List ℕ)) → AllLen n xs → AllLen (suc n) (map (λ (c : List ℕ). a ∷ c) xs)
+long-under n a [] p = tt
+long-under n a (c ∷ cs) p = (ap suc (p .0), long-under n a cs (p .1))
 
 pub all-long : (n len lo : ℕ) → AllLen n (choicesOf n len lo)
-unfolding AllLen choicesOf
+unfolding choicesOf
 all-long zero len lo = (refl, tt)
 all-long (suc n) zero lo = tt
-all-long (suc n) (suc len) lo = all-append (suc n) (map (λ (c : List ℕ). lo ∷ c) (choicesOf n len (suc lo))) (choicesOf (suc n) len (suc lo)) (all-under n lo (choicesOf n len (suc lo)) (all-long n len (suc lo))) (all-long (suc n) len (suc lo))
+all-long (suc n) (suc len) lo = all-both (λ (c : List ℕ). length c ≡ suc n) (map (λ (c : List ℕ). lo ∷ c) (choicesOf n len (suc lo))) (choicesOf (suc n) len (suc lo)) (long-under n lo (choicesOf n len (suc lo)) (all-long n len (suc lo))) (all-long (suc n) len (suc lo))
 
 -- what is after a choice that begins with a, by what is after its rest, which has n places
 unfoldable pub lift : ℕ → ℕ → ℕ → Option (List ℕ) → Option (List ℕ)
 lift m a n (some c) = some (a ∷ c)
-lift m a n none = cond (ltb (a + suc n) m) (some (run (suc a) (suc n))) none
+lift m a n none = cond (ltb (a + suc n) m) (some (upFrom (suc a) (suc n))) none
 
 after-lift : (m a n : ℕ) (c : List ℕ) → length c ≡ n → after m (a ∷ c) ≡ lift m a n (after m c)
 unfolding after move lift
@@ -67,32 +57,32 @@ after-lift m a n c e = go (after m c)
     go none = rw e
 
 chain-under : {m : ℕ} {o q : Option (List ℕ)} {xs : List (List ℕ)} (a n : ℕ) → Chain m o xs q → AllLen n xs → Chain m (lift m a n o) (map (λ (c : List ℕ). a ∷ c) xs) (lift m a n q)
-unfolding AllLen lift
+unfolding lift
 chain-under a n stop p = stop
 chain-under {m} a n (go-on {c = c} d) p = go-on (rw (← after-lift m a n c (p .0)) at (chain-under a n d (p .1)))
 
 -- ---- the choices from lo
 unfoldable pub firstFrom : ℕ → ℕ → ℕ → Option (List ℕ)
-firstFrom n len lo = cond (leb n len) (some (run lo n)) none
+firstFrom n len lo = cond (leb n len) (some (upFrom lo n)) none
 
 pub next-block : (n len lo : ℕ) → lift (lo + suc len) lo n none ≡ firstFrom (suc n) len (suc lo)
 unfolding lift firstFrom
 next-block n len lo = go (leb (suc n) len) refl
   where
-    go : (b : Bool) → leb (suc n) len ≡ b → cond (ltb (lo + suc n) (lo + suc len)) (some (run (suc lo) (suc n))) none ≡ cond b (some (run (suc lo) (suc n))) none
+    go : (b : Bool) → leb (suc n) len ≡ b → cond (ltb (lo + suc n) (lo + suc len)) (some (upFrom (suc lo) (suc n))) none ≡ cond b (some (upFrom (suc lo) (suc n))) none
     go true e = rw (lt-ltb (lo + suc n) (lo + suc len) (let h : suc n ≤ len = leb-true (suc n) len e in omega arith))
     go false e = rw (le-ltb (lo + suc n) (lo + suc len) (let h : len < suc n = leb-false (suc n) len e in omega arith))
 
 pub first-block : (n len lo : ℕ) → lift (lo + suc len) lo n (firstFrom n len (suc lo)) ≡ firstFrom (suc n) (suc len) lo
-unfolding lift firstFrom run
+unfolding lift firstFrom
 first-block n len lo = go (leb n len) refl
   where
-    go : (b : Bool) → leb n len ≡ b → lift (lo + suc len) lo n (cond b (some (run (suc lo) n)) none) ≡ cond (leb (suc n) (suc len)) (some (lo ∷ run (suc lo) n)) none
+    go : (b : Bool) → leb n len ≡ b → lift (lo + suc len) lo n (cond b (some (upFrom (suc lo) n)) none) ≡ cond (leb (suc n) (suc len)) (some (lo ∷ upFrom (suc lo) n)) none
     go true e = rw (le-leb (suc n) (suc len) (let h : n ≤ len = leb-true n len e in omega arith))
     go false e = rw (lt-leb (suc n) (suc len) (let h : len < n = leb-false n len e in omega arith), le-ltb (lo + suc n) (lo + suc len) (let h : len < n = leb-false n len e in omega arith))
 
 chain-choices : (n len lo : ℕ) → Chain (lo + len) (firstFrom n len lo) (choicesOf n len lo) none
-unfolding choicesOf firstFrom run after
+unfolding choicesOf firstFrom after
 chain-choices zero len lo = rw (leb·zero len) (go-on stop)
 chain-choices (suc n) zero lo = rw (leb·suc-zero n) stop
 chain-choices (suc n) (suc len) lo = block n len lo (chain-choices n len (suc lo)) (chain-choices (suc n) len (suc lo))

@@ -8,8 +8,10 @@ use mathlib.Core.Bool.{Bool, true, false, cond, true≢false}
 use native.Mathlib.Nat.{le-of-suc-le-suc, not-suc-le-zero}
 use lib.ListN.{length, take}
 use lib.Dec.{ltb}
-use Rattle.peptide_choices.specs.OrderLaws.{Chain, go-on, length-run}
-use Rattle.peptide_choices.specs.Steps.{after, move, past, run}
+use Rattle.lists.specs.RowLaws.{length-up}
+use Rattle.lists.specs.Lists.{upFrom, All}
+use Rattle.peptide_choices.specs.OrderLaws.{Chain, go-on}
+use Rattle.peptide_choices.specs.Steps.{after, move, past}
 
 -- from e on every place may move
 pub past-all : (m e : ℕ) (c : List ℕ) → length c ≤ e → past m e c ≡ after m c
@@ -37,8 +39,8 @@ unfolding after move found
 length-after m [] d h = absurd (true≢false (sym (ap found h)))
 length-after m (a ∷ c) d h = go (length-after m c) (after m c) refl h
   where
-    fix : (b : Bool) → cond b (some (run (suc a) (suc (length c)))) none ≡ some d → length d ≡ suc (length c)
-    fix true g = let e : d ≡ run (suc a) (suc (length c)) = cc in ap length e ∙ length-run (suc a) (suc (length c))
+    fix : (b : Bool) → cond b (some (upFrom (suc a) (suc (length c)))) none ≡ some d → length d ≡ suc (length c)
+    fix true g = let e : d ≡ upFrom (suc a) (suc (length c)) = cc in ap length e ∙ length-up (suc a) (suc (length c))
     fix false g = absurd (true≢false (sym (ap found g)))
 
     go : ((b : List ℕ) → after m c ≡ some b → length b ≡ length c) → (o : Option (List ℕ)) → after m c ≡ o → move m a c o ≡ some d → length d ≡ suc (length c)
@@ -72,9 +74,8 @@ step m (suc e) (a ∷ c) = ⊎-elim same within (step m e c)
     })
 
 -- every choice of xs begins with p
-unfoldable pub AllBegin : ℕ → List ℕ → List (List ℕ) → Type 0
-AllBegin e p [] = Unit {0}
-AllBegin e p (c ∷ cs) = (take e c ≡ p) × AllBegin e p cs
+abbrev pub AllBegin : ℕ → List ℕ → List (List ℕ) → Type 0
+AllBegin e p = All (λ (c : List ℕ). take e c ≡ p)
 
 -- ---- the law: of the choices from c on, those that begin with c's first e places come first, and what is past them follows
 pub record Cut (m e : ℕ) (c : List ℕ) (xs : List (List ℕ)) : Type 0 where
@@ -85,7 +86,6 @@ pub record Cut (m e : ℕ) (c : List ℕ) (xs : List (List ℕ)) : Type 0 where
   pub chain : Chain m (past m e c) rest none
 
 pub cut : {m : ℕ} (e : ℕ) {c : List ℕ} (xs : List (List ℕ)) → Chain m (some c) xs none → Cut m e c xs
-unfolding AllBegin
 cut {m} e {c} (c₁ ∷ xs) (go-on d) = ⊎-elim here (λ w. more w (cut e xs (subst (λ (o : Option (List ℕ)). Chain m o xs none) (w .next) d))) (step m e c)
   where
     here : after m c ≡ past m e c → Cut m e c (c ∷ xs)

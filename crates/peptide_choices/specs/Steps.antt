@@ -5,26 +5,19 @@ use mathlib.Core.List.{List, [], _∷_, _++_}
 use mathlib.Core.Option.{Option, none, some}
 use lib.ListN.{length, take, drop, replicate}
 use lib.Dec.{ltb, leb}
-use Rattle.lists.specs.Lists.{same}
+use Rattle.lists.specs.Lists.{same, upFrom}
 use Rattle.peptide_choices.specs.Choices.{choicesOf}
 use Rattle.peptide_choices.specs.declared.choice.Choice.{Choice}
 use Rattle.peptide_choices.specs.declared.choice.Stepped.{Stepped}
 
--- b, b + 1, .. : k of them
-unfoldable pub run : ℕ → ℕ → List ℕ
-run b zero = []
-run b (suc k) = b ∷ run (suc b) k
-
 -- the first choice of n of m places
 unfoldable pub firstOf : ℕ → ℕ → Option (List ℕ)
-unfolding run
-firstOf n m = cond (leb n m) (some (run 0 n)) none
+firstOf n m = cond (leb n m) (some (upFrom 0 n)) none
 
 -- the choice after one that begins with a, by the one after its rest: where there is none, a moves and the rest follows it
 unfoldable pub move : ℕ → ℕ → List ℕ → Option (List ℕ) → Option (List ℕ)
-unfolding run
 move m a rest (some bs) = some (a ∷ bs)
-move m a rest none = cond (ltb (a + suc (length rest)) m) (some (run (suc a) (suc (length rest)))) none
+move m a rest none = cond (ltb (a + suc (length rest)) m) (some (upFrom (suc a) (suc (length rest)))) none
 
 -- the choice after a choice of places below m
 unfoldable pub after : ℕ → List ℕ → Option (List ℕ)

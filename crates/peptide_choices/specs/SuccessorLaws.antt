@@ -17,7 +17,7 @@ use Rattle.lists.specs.Tests.{both}
 use Rattle.lists.specs.Lists.{same, In}
 use Rattle.lists.specs.SameLaws.{same-refl, same-eq}
 use Rattle.peptide_choices.specs.Choices.{choicesOf}
-use Rattle.peptide_choices.specs.ListingLaws.{Ascending, Before, Ordered, before-in, choices-all, choices-only, choices-ordered}
+use Rattle.peptide_choices.specs.ListingLaws.{Ascending, Earlier, Rising, all-in, choices-all, choices-only, choices-rising}
 use Rattle.peptide_choices.specs.OrderLaws.{Chain, chain-first, go-on, stop}
 use Rattle.peptide_choices.specs.PruneLaws.{found, past-all}
 use Rattle.peptide_choices.specs.Steps.{after, follower, head, stepped, steppedTo, successor, word}
@@ -112,23 +112,23 @@ none-left c h = ap (steppedTo c) (follower-out (word c) (choicesOf (c .n) (c .m)
 
 -- c stands before d or is it
 abbrev pub UpTo : List ℕ → List ℕ → Type 0
-UpTo c d = (c ≡ d) ⊎ Before c d
+UpTo c d = (c ≡ d) ⊎ Earlier c d
 
 pub record Next (c d : List ℕ) (xs : List (List ℕ)) : Type 0 where
   pub here : In c xs
-  pub behind : Before c d
+  pub behind : Earlier c d
   pub between : (x : List ℕ) → In x xs → UpTo x c ⊎ UpTo d x
 
-next-first : (c d : List ℕ) (ys : List (List ℕ)) → Ordered (c ∷ ys) → head ys ≡ some d → Next c d (c ∷ ys)
+next-first : (c d : List ℕ) (ys : List (List ℕ)) → Rising (c ∷ ys) → head ys ≡ some d → Next c d (c ∷ ys)
 unfolding found
 next-first c d [] o e = absurd (true≢false (sym (ap found e)))
 next-first c d (y ∷ ys) o e =
     let w : y ≡ d = cc in
-    let rest : (x : List ℕ) → In x (y ∷ ys) → UpTo y x = λ x. ⊎-elim (λ (q : x ≡ y). inl (sym q)) (λ (i : In x ys). inr (before-in y x ys (o .1 .0) i)) in
+    let rest : (x : List ℕ) → In x (y ∷ ys) → UpTo y x = λ x. ⊎-elim (λ (q : x ≡ y). inl (sym q)) (λ (i : In x ys). inr (all-in (Earlier y) x ys (o .1 .0) i)) in
     subst (λ (z : List ℕ). Next c z (c ∷ y ∷ ys)) w
     (record { here = inl refl; behind = o .0 .0; between = λ x. ⊎-elim (λ (q : x ≡ c). inl (inl q)) (λ (i : In x (y ∷ ys)). inr (rest x i)) })
 
-pub follower-next : (c d : List ℕ) (xs : List (List ℕ)) → Ordered xs → follower c xs ≡ some d → Next c d xs
+pub follower-next : (c d : List ℕ) (xs : List (List ℕ)) → Rising xs → follower c xs ≡ some d → Next c d xs
 unfolding follower found
 follower-next c d [] o e = absurd (true≢false (sym (ap found e)))
 follower-next c d (y ∷ ys) o e = go (λ (q : follower c ys ≡ some d). follower-next c d ys (o .1) q) (same c y) refl e
@@ -137,12 +137,12 @@ follower-next c d (y ∷ ys) o e = go (λ (q : follower c ys ≡ some d). follow
     later n = record {
       here = inr (n .here);
       behind = n .behind;
-      between = λ x. ⊎-elim (λ (q : x ≡ y). inl (inr (subst (λ (z : List ℕ). Before z c) (sym q) (before-in y c ys (o .0) (n .here))))) (n .between x);
+      between = λ x. ⊎-elim (λ (q : x ≡ y). inl (inr (subst (λ (z : List ℕ). Earlier z c) (sym q) (all-in (Earlier y) c ys (o .0) (n .here))))) (n .between x);
     }
 
     go : (follower c ys ≡ some d → Next c d ys) → (b : Bool) → same c y ≡ b → cond b (head ys) (follower c ys) ≡ some d → Next c d (y ∷ ys)
-    go ih true s q = let w : y ≡ c = sym (same-eq c y s) in subst (λ (z : List ℕ). Next c d (z ∷ ys)) (sym w) (next-first c d ys (subst (λ (z : List ℕ). Ordered (z ∷ ys)) w o) q)
+    go ih true s q = let w : y ≡ c = sym (same-eq c y s) in subst (λ (z : List ℕ). Next c d (z ∷ ys)) (sym w) (next-first c d ys (subst (λ (z : List ℕ). Rising (z ∷ ys)) w o) q)
     go ih false s q = later (ih q)
 
 pub next-in-order : (n m : ℕ) (c d : List ℕ) → follower c (choicesOf n m 0) ≡ some d → Next c d (choicesOf n m 0)
-next-in-order n m c d = follower-next c d (choicesOf n m 0) (choices-ordered n m 0)
+next-in-order n m c d = follower-next c d (choicesOf n m 0) (choices-rising n m 0)

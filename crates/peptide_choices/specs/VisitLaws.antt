@@ -9,9 +9,11 @@ use native.Mathlib.Nat.{zero-add, suc-add}
 use native.Mathlib.Numerals.{add-one}
 use lib.ListN.{length, length-append}
 use lib.Dec.{leb, leb·zero, leb·suc-zero}
+use Rattle.lists.specs.RowLaws.{length-up}
+use Rattle.lists.specs.Lists.{upFrom}
 use Rattle.peptide_choices.specs.BoundLaws.{visited}
-use Rattle.peptide_choices.specs.OrderLaws.{first-block, firstFrom, lift, next-block, length-run}
-use Rattle.peptide_choices.specs.Steps.{firstOf, move, past, run}
+use Rattle.peptide_choices.specs.OrderLaws.{first-block, firstFrom, lift, next-block}
+use Rattle.peptide_choices.specs.Steps.{firstOf, move, past}
 
 -- k choices are visited from o on, and then the walk stands at q
 pub data Visits (reach : List ℕ → ℕ) (m : ℕ) : Option (List ℕ) → ℕ → Option (List ℕ) → Type 0 where
@@ -81,7 +83,7 @@ module _ (ok : List ℕ → Bool) (reach : List ℕ → ℕ) (r : Reach ok reach
       visit (subst (λ (o : Option (List ℕ)). Visits reach m o zero (under m p (suc k) (lift m a k none))) (sym e) end)
 
   visits : (p : List ℕ) (n len lo : ℕ) → m ≡ lo + len → ok p ≡ true → Visits reach m (under m p n (firstFrom n len lo)) (visited ok p n len lo) (under m p n none)
-  unfolding visited firstFrom run lift
+  unfolding visited firstFrom lift
   visits p zero len lo e h =
       rw (leb·zero len) (subst (λ (o : Option (List ℕ)). Visits reach m o 1 (under m p zero none)) (sym (under-some m p zero [] ∙ ap some (append-nil p))) (at-end p h))
   visits p (suc k) zero lo e h = rw (leb·suc-zero k) end
@@ -97,8 +99,8 @@ module _ (ok : List ℕ → Bool) (reach : List ℕ → ℕ) (r : Reach ok reach
       rest : ℕ
       rest = visited ok p (suc k) l (suc lo)
 
-      bad : (b : Bool) → leb k l ≡ b → ok (p ++ (lo ∷ [])) ≡ false → Visits reach m (under m p (suc k) (lift m lo k (cond b (some (run (suc lo) k)) none))) (cond b 1 0) (under m p (suc k) (lift m lo k none))
-      bad true f g = subst (λ (o : Option (List ℕ)). Visits reach m o 1 (under m p (suc k) (lift m lo k none))) (sym (under-some m p (suc k) (lo ∷ run (suc lo) k))) (at-bad p lo k (run (suc lo) k) (length-run (suc lo) k) h g)
+      bad : (b : Bool) → leb k l ≡ b → ok (p ++ (lo ∷ [])) ≡ false → Visits reach m (under m p (suc k) (lift m lo k (cond b (some (upFrom (suc lo) k)) none))) (cond b 1 0) (under m p (suc k) (lift m lo k none))
+      bad true f g = subst (λ (o : Option (List ℕ)). Visits reach m o 1 (under m p (suc k) (lift m lo k none))) (sym (under-some m p (suc k) (lo ∷ upFrom (suc lo) k))) (at-bad p lo k (upFrom (suc lo) k) (length-up (suc lo) k) h g)
       bad false f g = end
 
       go : (ok (p ++ (lo ∷ [])) ≡ true → Visits reach m (under m (p ++ (lo ∷ [])) k (firstFrom k l (suc lo))) (visited ok (p ++ (lo ∷ [])) k l (suc lo)) (under m (p ++ (lo ∷ [])) k none))

@@ -5,7 +5,8 @@ ghost use mathlib.Core.List.{_++_};
 ghost use mathlib.Core.Logic.{_⊎_};
 ghost use Prim.Native.Nat.{ℕ, suc, _+_, _-_, _≤_, _<_, min};
 ghost use lib.ListN.{take, drop, getD};
-ghost use Rattle.peptide_choices.specs.Steps.{run, begun, stepped, successor};
+ghost use Rattle.lists.specs.Lists.{upFrom};
+ghost use Rattle.peptide_choices.specs.Steps.{begun, stepped, successor};
 ghost use Rattle.peptide_choices.specs.SuccessorLaws.{IsOne};
 
 // A choice of n of m sites: at[0] < .. < at[n - 1] < m.
@@ -42,7 +43,7 @@ fn movable(at: [usize; 8], e: usize, n: usize, m: usize) -> usize
 // Place i moves by one, and those after it follow it.
 fn refilled(at: [usize; 8], i: usize, n: usize, m: usize) -> [usize; 8]
     requires { ⌜ (i < n) × (n ≤ 8) × (getD at i 0 + (n - i) < m) ⌝ }
-    ensures { λ r. ⌜ r ≡ take i at ++ (run (suc (getD at i 0)) (n - i) ++ drop n at) ⌝ }
+    ensures { λ r. ⌜ r ≡ take i at ++ (upFrom (suc (getD at i 0)) (n - i) ++ drop n at) ⌝ }
 {
     let mut out = at;
     let mut v = at[i];

@@ -15,9 +15,9 @@ use Rattle.peptide_forms.specs.Passing.{free, inLimits, passes, siteRule
 use Rattle.peptide_slots.specs.Sites.{limitAt}
 
 -- place k may join places that pass: its slot is free among them, and its rule has a use left
-unfoldable pub joined : List ℕ → List ℕ → List ℕ → ℕ → Bool
+unfoldable pub mayJoin : List ℕ → List ℕ → List ℕ → ℕ → Bool
 unfolding free uses
-joined sites rules p k = free sites (siteSlot sites k) p && ltb (uses sites (siteRule sites k) p) (limitAt rules (siteRule sites k))
+mayJoin sites rules p k = free sites (siteSlot sites k) p && ltb (uses sites (siteRule sites k) p) (limitAt rules (siteRule sites k))
 
 -- the middle two of four tests change places
 pub swap : (a b c d : Bool) → (a && b) && (c && d) ≡ (a && c) && (b && d)
@@ -97,8 +97,8 @@ module _ (sites rules : List ℕ) where
   unfolding passes slotsOnce inLimits
   passes-none = refl
 
-  pub passes-snoc : (p : List ℕ) (k : ℕ) → passes sites rules (p ++ (k ∷ [])) ≡ passes sites rules p && joined sites rules p k
-  unfolding passes joined room
+  pub passes-snoc : (p : List ℕ) (k : ℕ) → passes sites rules (p ++ (k ∷ [])) ≡ passes sites rules p && mayJoin sites rules p k
+  unfolding passes mayJoin room
   passes-snoc p k =
       ap (λ (t : Bool). t && inLimits sites rules (p ++ (k ∷ [])) (p ++ (k ∷ []))) (once-snoc p k)
       ∙ ap (λ (t : Bool). (slotsOnce sites p && free sites (siteSlot sites k) p) && t) (within-snoc p k)
@@ -109,10 +109,10 @@ module _ (sites rules : List ℕ) where
   bad-append p [] h = ap (passes sites rules) (append-nil p) ∙ h
   bad-append p (k ∷ q) h =
       ap (passes sites rules) (sym (append-assoc p (k ∷ []) q))
-      ∙ bad-append (p ++ (k ∷ [])) q (passes-snoc p k ∙ ap (λ (t : Bool). t && joined sites rules p k) h)
+      ∙ bad-append (p ++ (k ∷ [])) q (passes-snoc p k ∙ ap (λ (t : Bool). t && mayJoin sites rules p k) h)
 
   pub bad-begin : (e : ℕ) (c d : List ℕ) → passes sites rules (take e c) ≡ false → take e d ≡ take e c → passes sites rules d ≡ false
   bad-begin e c d h g = ap (passes sites rules) (sym (take-append-drop e d)) ∙ bad-append (take e d) (drop e d) (ap (passes sites rules) g ∙ h)
 
-  pub join-more : (c : List ℕ) (j : ℕ) → j < length c → passes sites rules (take j c) ≡ true → passes sites rules (take (suc j) c) ≡ joined sites rules (take j c) (getD c j 0)
-  join-more c j h g = ap (passes sites rules) (take-suc c j 0 h) ∙ passes-snoc (take j c) (getD c j 0) ∙ ap (λ (t : Bool). t && joined sites rules (take j c) (getD c j 0)) g
+  pub join-more : (c : List ℕ) (j : ℕ) → j < length c → passes sites rules (take j c) ≡ true → passes sites rules (take (suc j) c) ≡ mayJoin sites rules (take j c) (getD c j 0)
+  join-more c j h g = ap (passes sites rules) (take-suc c j 0 h) ∙ passes-snoc (take j c) (getD c j 0) ∙ ap (λ (t : Bool). t && mayJoin sites rules (take j c) (getD c j 0)) g

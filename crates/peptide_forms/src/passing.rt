@@ -4,8 +4,8 @@ ghost use mathlib.Core.Path.{_≡_};
 ghost use Prim.Native.Nat.{_≤_, _<_};
 ghost use lib.ListN.{take, getD};
 ghost use Rattle.lists.specs.Lists.{bit};
-ghost use Rattle.peptide_forms.specs.PassingLaws.{joined};
-ghost use Rattle.peptide_forms.specs.TurnLaws.{Seen, Reached};
+ghost use Rattle.peptide_forms.specs.PassingLaws.{mayJoin};
+ghost use Rattle.peptide_forms.specs.TurnLaws.{Tallied, Reached};
 
 // Whether a slot is free among some places, and how often they use a rule.
 struct Taken {
@@ -22,7 +22,7 @@ fn one_if(b: bool) -> u32
 // What the first j places take of a slot and a rule.
 fn tally(at: [usize; 8], j: usize, slot: u16, rule: u16, sites: &[u16]) -> Taken
     requires { ⌜ j ≤ 8 ⌝ }
-    ensures { λ r. ⌜ Seen (now (sites .entry)) slot rule (take j at) j (r .free) (r .uses) ⌝ }
+    ensures { λ r. ⌜ Tallied (now (sites .entry)) slot rule (take j at) j (r .free) (r .uses) ⌝ }
 {
     let mut free = true;
     let mut uses = 0;
@@ -40,7 +40,7 @@ fn tally(at: [usize; 8], j: usize, slot: u16, rule: u16, sites: &[u16]) -> Taken
 // Whether the place at j may join those before it.
 fn joins(at: [usize; 8], j: usize, sites: &[u16], rules: &[u8]) -> bool
     requires { ⌜ j < 8 ⌝ }
-    ensures { λ r. ⌜ r ≡ joined (now (sites .entry)) (now (rules .entry)) (take j at) (getD at j 0) ⌝ }
+    ensures { λ r. ⌜ r ≡ mayJoin (now (sites .entry)) (now (rules .entry)) (take j at) (getD at j 0) ⌝ }
 {
     let site = peptide_slots::site_at(sites, at[j]);
     let slot = site % 128;

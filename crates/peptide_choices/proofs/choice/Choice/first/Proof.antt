@@ -5,13 +5,14 @@ use mathlib.Core.List.{List, _++_}
 use native.Mathlib.Omega.{arith}
 use borrow.Author.Tests.{lt-leb, le-leb}
 use lib.ListN.{length, drop, set, replicate}
-use Rattle.peptide_choices.specs.StepLaws.{run-more}
-use Rattle.peptide_choices.specs.Steps.{begun, firstOf, run, steppedTo}
+use Rattle.lists.specs.Lists.{upFrom}
+use Rattle.peptide_choices.specs.StepLaws.{up-more}
+use Rattle.peptide_choices.specs.Steps.{begun, firstOf, steppedTo}
 use Rattle.peptide_choices.proofs.choice.Choice.first.Statement.{statement}
 use Rattle.peptide_choices.proofs.choice.Choice.first.Tie as tie
 
 abbrev Inv-loop : tie.InvT-loop
-Inv-loop n m at₀ i₀ at i = (i ≤ n) × (at ≡ run 0 i ++ drop i at₀)
+Inv-loop n m at₀ i₀ at i = (i ≤ n) × (at ≡ upFrom 0 i ++ drop i at₀)
 
 abbrev μ-loop : tie.MeasureT-loop
 μ-loop n m at₀ i₀ at i = n - i
@@ -21,7 +22,6 @@ unfolding begun steppedTo firstOf
 returns c = rw (lt-leb (c .before .args .n) (c .before .args .m) (c .if1 .taken))
 
 loop-holds : tie.Need-loop-holds Inv-loop μ-loop
-unfolding run
 loop-holds c = (omega arith, refl)
 
 mul-at : tie.Need-mul-at Inv-loop μ-loop
@@ -41,7 +41,7 @@ loop-again c =
     let i = c .before .loop .i in
     let z : List ℕ = replicate 8 0 in
     let h : i < length z = omega arith in
-    (omega arith, ap (λ (q : List ℕ). set q i i) (c .before .loop .inv .1) ∙ run-more z i h)
+    (omega arith, ap (λ (q : List ℕ). set q i i) (c .before .loop .inv .1) ∙ up-more z i h)
 
 returns-2 : tie.Need-returns-2 Inv-loop μ-loop
 unfolding begun steppedTo firstOf
