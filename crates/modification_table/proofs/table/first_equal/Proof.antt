@@ -30,12 +30,16 @@ mul-at c = omega arith
 add-u32-at : tie.Need-add-u32-at Inv-loop μ-loop
 add-u32-at c = omega arith
 
+-- what was tested is whether record i is equal
+tested : (c : tie.After-u32-at2 Inv-loop μ-loop) → let a = c .before .before .before .before .before .before .args in
+    equalEntry (now (a .table)) (a .mass) (a .name) (c .before .before .before .before .loop .i) ≡ (c .before .same-mass .result && eqb (c .u32-at2 .result) (a .name))
+tested c = rw (c .before .same-mass .ensures, c .before .before .u32-at .ensures, c .u32-at2 .ensures)
+
 returns : tie.Need-returns Inv-loop μ-loop
 returns c =
     let a = c .before .before .before .before .before .before .before .args in
     let i = c .before .before .before .before .before .loop .i in
-    let e : equalEntry (now (a .table)) (a .mass) (a .name) i ≡ (c .before .before .same-mass .result && eqb (c .before .u32-at2 .result) (a .name)) = cc in
-    sym (seek-stop (equalEntry (now (a .table)) (a .mass) (a .name)) i (a .count) (c .before .before .before .before .loop-test .taken) (e ∙ c .if1 .taken)) ∙ c .before .before .before .before .before .loop .inv .1
+    sym (seek-stop (equalEntry (now (a .table)) (a .mass) (a .name)) i (a .count) (c .before .before .before .before .loop-test .taken) (tested (c .before) ∙ c .if1 .taken)) ∙ c .before .before .before .before .before .loop .inv .1
 
 add-i : tie.Need-add-i Inv-loop μ-loop
 add-i c = omega arith
@@ -47,8 +51,7 @@ loop-again : tie.Need-loop-again Inv-loop μ-loop
 loop-again c =
     let a = c .before .before .before .before .before .before .before .args in
     let i = c .before .before .before .before .before .loop .i in
-    let e : equalEntry (now (a .table)) (a .mass) (a .name) i ≡ (c .before .before .same-mass .result && eqb (c .before .u32-at2 .result) (a .name)) = cc in
-    (omega arith, sym (seek-on (equalEntry (now (a .table)) (a .mass) (a .name)) i (a .count) (c .before .before .before .before .loop-test .taken) (e ∙ c .if1 .left)) ∙ c .before .before .before .before .before .loop .inv .1)
+    (omega arith, sym (seek-on (equalEntry (now (a .table)) (a .mass) (a .name)) i (a .count) (c .before .before .before .before .loop-test .taken) (tested (c .before) ∙ c .if1 .left)) ∙ c .before .before .before .before .before .loop .inv .1)
 
 returns-2 : tie.Need-returns-2 Inv-loop μ-loop
 returns-2 c =

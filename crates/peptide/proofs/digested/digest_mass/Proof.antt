@@ -17,12 +17,12 @@ use borrow.Author.Needs.{needs}
 use Rattle.peptide.proofs.digested.digest_mass.Statement.{statement}
 use Rattle.peptide.proofs.digested.digest_mass.Tie as tie
 
-passed : (c : tie.After-enum-told) → testedDigest (now (c .before .before .before .before .before .before .args .letters)) (now (c .before .before .before .before .before .before .args .bytes)) (now (c .before .before .before .before .before .before .args .masses)) ≡ Tested.Passed
+passed : (c : tie.After-enum-told) → let a = c .before .before .before .before .before .before .args in testedDigest (now (a .letters)) (now (a .bytes)) (now (a .masses)) ≡ Tested.Passed
 passed c =
     let a = c .before .before .before .before .before .before .args in
     sym (made-tested (now (a .letters)) (now (a .bytes)) (now (a .masses)) (c .before .before .of-digest .result) (c .before .before .of-digest .ensures)) ∙ c .enum-told .given .1
 
-is : (c : tie.After-enum-told) → c .before .before .of-digest .result .peptide ≡ digested (now (c .before .before .before .before .before .before .args .letters)) (now (c .before .before .before .before .before .before .args .bytes))
+is : (c : tie.After-enum-told) → let a = c .before .before .before .before .before .before .args in c .before .before .of-digest .result .peptide ≡ digested (now (a .letters)) (now (a .bytes))
 is c =
     let a = c .before .before .before .before .before .before .args in
     made-digested (now (a .letters)) (now (a .bytes)) (now (a .masses)) (passed c) (c .before .before .of-digest .result) (c .before .before .of-digest .ensures)
@@ -34,20 +34,22 @@ returns c =
 
 part-base-mass-end : tie.Need-part-base-mass-end
 part-base-mass-end c =
-    let a = c .before .before .before .before .before .before .before .before .before .before .args in
-    let p = digested-passes (now (a .letters)) (now (a .bytes)) (now (a .masses)) (passed (c .before .before .before .before)) in
     let n : length (c .before .before .before .before .before .before .of-digest .result .peptide .letters) ≡ 64 = search needs in
-    let f : c .before .before .before .before .before .before .of-digest .result .peptide .len ≤ 64 = subst (λ (q : Peptide). q .len ≤ 64) (sym (is (c .before .before .before .before))) (passed-fits (digested (now (a .letters)) (now (a .bytes))) p) in
+    let b = c .before .before .before .before in
+    let a = b .before .before .before .before .before .before .args in
+    let p = digested-passes (now (a .letters)) (now (a .bytes)) (now (a .masses)) (passed b) in
+    let f : b .before .before .of-digest .result .peptide .len ≤ 64 = subst (λ (q : Peptide). q .len ≤ 64) (sym (is b)) (passed-fits (digested (now (a .letters)) (now (a .bytes))) p) in
     omega arith
 
 returns-2 : tie.Need-returns-2
 returns-2 c =
-    let a = c .before .before .before .before .before .before .before .before .before .before .before .before .args in
-    let p = c .before .before .before .before .before .before .before .before .of-digest .result .peptide in
+    let b = c .before .before .before .before .before .before in
+    let a = b .before .before .before .before .before .before .args in
+    let p = b .before .before .of-digest .result .peptide in
     c .base-mass .ensures
     ∙ ap (λ (k : ℕ). weighed (take k (p .letters)) (now (a .masses)) (a .water)) (sub-zero (p .len))
-    ∙ ap (λ (q : Peptide). weighed (lettersOf q) (now (a .masses)) (a .water)) (is (c .before .before .before .before .before .before))
-    ∙ digested-mass (now (a .letters)) (now (a .bytes)) (now (a .masses)) (passed (c .before .before .before .before .before .before)) (a .water)
+    ∙ ap (λ (q : Peptide). weighed (lettersOf q) (now (a .masses)) (a .water)) (is b)
+    ∙ digested-mass (now (a .letters)) (now (a .bytes)) (now (a .masses)) (passed b) (a .water)
 
 pub digest-mass-spec : {M : Type 1} → statement M
 digest-mass-spec =

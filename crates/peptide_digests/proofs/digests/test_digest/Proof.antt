@@ -12,7 +12,7 @@ use Rattle.peptide_digests.proofs.digests.test_digest.Statement.{statem
 use Rattle.peptide_digests.proofs.digests.test_digest.Tie as tie
 
 -- the place that was found is that of the record's range
-first : (c : tie.After-first-unfit) → c .first-unfit .result ≡ firstUnfit (now (c .before .before .before .before .before .before .before .before .before .before .args .masses)) (startOf (now (c .before .before .before .before .before .before .before .before .before .before .args .bytes))) (endOf (now (c .before .before .before .before .before .before .before .before .before .before .args .bytes))) (now (c .before .before .before .before .before .before .before .before .before .before .args .letters))
+first : (c : tie.After-first-unfit) → let a = c .before .before .before .before .before .before .before .before .before .before .args in c .first-unfit .result ≡ firstUnfit (now (a .masses)) (startOf (now (a .bytes))) (endOf (now (a .bytes))) (now (a .letters))
 first c = rw (c .before .before .u32-at .ensures, c .before .u32-at2 .ensures) at (c .first-unfit .ensures)
 
 returns : tie.Need-returns
