@@ -3,19 +3,19 @@ use records::Refusal;
 use records::Tested;
 use records::and_then;
 ghost use mathlib.Core.Path.{_≡_};
-ghost use Rattle.catalogue.specs.Books.{tooLarge, contents, bookTested, allLettersTested};
+ghost use Rattle.catalogue_spec.specs.Books.{tooLarge, contents, bookTested, allLettersTested};
 
 fn too_large(letters: &[u8], proteins: usize) -> bool
     ensures { λ r. ⌜ r ≡ tooLarge (now (letters .entry)) proteins ⌝ }
 {
-    catalogue_contents::too_many_proteins(proteins) | catalogue_contents::too_many_letters(letters)
+    catalogue_book::too_many_proteins(proteins) | catalogue_book::too_many_letters(letters)
 }
 
 fn contents_tested(bounds: &[u32], letters: &[u8]) -> Tested
     ensures { λ r. ⌜ r ≡ contents (now (bounds .entry)) (now (letters .entry)) ⌝ }
 {
-    let bound = catalogue_contents::bounds_tested(bounds, letters.len());
-    and_then(bound, catalogue_contents::letters_tested(letters))
+    let bound = catalogue_book::bounds_tested(bounds, letters.len());
+    and_then(bound, catalogue_book::letters_tested(letters))
 }
 
 // The tests of a book of so many proteins: 1, 8, 9 at the lowest bad boundary, 2 at the first byte that is not A to Z.
@@ -25,7 +25,7 @@ pub fn book_tested(bounds: &[u32], letters: &[u8], proteins: usize) -> Tested
     if too_large(letters, proteins) {
         return Tested::Refused(Refusal::Size);
     }
-    if catalogue_contents::has_bounds(bounds, proteins) {
+    if catalogue_book::has_bounds(bounds, proteins) {
         return contents_tested(bounds, letters);
     }
     Tested::Refused(Refusal::Length)
@@ -35,8 +35,8 @@ pub fn book_tested(bounds: &[u32], letters: &[u8], proteins: usize) -> Tested
 pub fn letters_tested(letters: &[u8]) -> Tested
     ensures { λ r. ⌜ r ≡ allLettersTested (now (letters .entry)) ⌝ }
 {
-    if catalogue_contents::too_many_letters(letters) {
+    if catalogue_book::too_many_letters(letters) {
         return Tested::Refused(Refusal::Size);
     }
-    catalogue_contents::letters_tested(letters)
+    catalogue_book::letters_tested(letters)
 }

@@ -3,6 +3,6 @@ mod book;
 
 pub use book::book_tested;
 pub use book::letters_tested;
-pub use catalogue_contents::is_name;
-pub use catalogue_contents::name_length;
-pub use catalogue_contents::names_tested;
+pub use catalogue_name::is_name;
+pub use catalogue_name::name_length;
+pub use catalogue_names::names_tested;

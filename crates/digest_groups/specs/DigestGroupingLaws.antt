@@ -17,9 +17,9 @@ use Rattle.records.specs.TestedLaws.{first-refuses, first-passes, passed-both, 
 use Rattle.records.specs.Search.{seek}
 use Rattle.records.specs.SearchLaws.{seek-before}
 use Rattle.letters.specs.Letters.{isLetter, noLetter, firstBad}
-use Rattle.catalogue_contents.specs.Names.{nameCount, tooManyNames, wholeNames, namesTested}
-use Rattle.catalogue_contents.specs.Book.{tooManyLetters, boundsOf, boundsTested, lettersTested}
-use Rattle.catalogue_contents.specs.BookLaws.{passed-bounds, bounds-within}
+use Rattle.catalogue_spec.specs.Names.{nameCount, tooManyNames, wholeNames, namesTested}
+use Rattle.catalogue_spec.specs.Book.{tooManyLetters, boundsOf, boundsTested, lettersTested}
+use Rattle.catalogue_spec.specs.BookLaws.{passed-bounds, bounds-within}
 use Rattle.enzyme_keep.specs.Digests.{goodRecord}
 use Rattle.digest_groups_spec.specs.DigestGroups.{digestAt, start, end, position, decoy, protein}
 use Rattle.digest_groups_words.specs.Tables.{Book, Inside, Good}

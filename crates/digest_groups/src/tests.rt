@@ -7,23 +7,23 @@ ghost use mathlib.Core.Path.{_≡_};
 ghost use mathlib.Core.Bool.{true, false};
 ghost use Prim.Native.Nat.{_+_, _-_, _*_, _/_};
 ghost use lib.ListN.{getD};
-ghost use Rattle.catalogue_contents.specs.Names.{tooManyNames, wholeNames};
+ghost use Rattle.catalogue_spec.specs.Names.{tooManyNames, wholeNames};
 ghost use Rattle.digest_groups_spec.specs.DigestGrouping.{tooLarge, uneven, needed, goodDigest, firstBadDigest, contents, tested};
 
 fn too_large(names: &[u8], letters: &[u8], digests: &[u8]) -> bool
     ensures { λ r. ⌜ r ≡ tooLarge (now (names .entry)) (now (letters .entry)) (now (digests .entry)) ⌝ }
 {
-    catalogue_contents::too_many_names(names)
-        | catalogue_contents::too_many_letters(letters)
+    catalogue_names::too_many_names(names)
+        | catalogue_book::too_many_letters(letters)
         | (1048576 < digests.len() / 16)
 }
 
 fn is_uneven(names: &[u8], bounds: &[u32], digests: &[u8]) -> bool
     ensures { λ r. ⌜ r ≡ uneven (now (names .entry)) (now (bounds .entry)) (now (digests .entry)) ⌝ }
 {
-    let proteins = catalogue_contents::name_count(names);
-    !(catalogue_contents::are_whole_names(names)
-        & catalogue_contents::has_bounds(bounds, proteins)
+    let proteins = catalogue_names::name_count(names);
+    !(catalogue_names::are_whole_names(names)
+        & catalogue_book::has_bounds(bounds, proteins)
         & (digests.len() % 16 == 0))
 }
 
@@ -76,10 +76,10 @@ fn contents_tested(names: &[u8], bounds: &[u32], letters: &[u8], digests: &[u8])
     requires { ⌜ (tooManyNames (now names) ≡ false) × (wholeNames (now names) ≡ true) ⌝ }
     ensures { λ r. ⌜ r ≡ contents (now (names .entry)) (now (bounds .entry)) (now (letters .entry)) (now (digests .entry)) ⌝ }
 {
-    let listed = catalogue_contents::names_tested(names);
-    let bound = catalogue_contents::bounds_tested(bounds, letters.len());
-    let spelt = catalogue_contents::letters_tested(letters);
-    let bad = first_bad_digest(bounds, catalogue_contents::name_count(names), digests);
+    let listed = catalogue_names::names_tested(names);
+    let bound = catalogue_book::bounds_tested(bounds, letters.len());
+    let spelt = catalogue_book::letters_tested(letters);
+    let bad = first_bad_digest(bounds, catalogue_names::name_count(names), digests);
     let cut = field_tested(bad, digests.len() / 16);
     and_then(listed, and_then(bound, and_then(spelt, cut)))
 }

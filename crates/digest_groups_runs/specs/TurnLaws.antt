@@ -18,10 +18,10 @@ use Rattle.records.specs.StoreLaws.{stored, storedFrom}
 use Rattle.sorting_texts.specs.declared.text.By.the-variants.{Name, Spelled}
 use Rattle.sorting_spec.specs.Sort.{sorted}
 use Rattle.sorting_texts.specs.Text.{leBy}
-use Rattle.sorting.specs.Runs.{runLength, runsOf}
-use Rattle.sorting.specs.RunLaws.{runs-slice, run-some, run-most}
-use Rattle.sorting.specs.Sorting.{arranged}
-use Rattle.sorting.specs.SortingLaws.{length-arranged, arranged-before, arranged-between, arranged-sorted, arranged-drop}
+use Rattle.sorting_spec.specs.Runs.{runLength, runsOf}
+use Rattle.sorting_spec.specs.RunLaws.{runs-slice, run-some, run-most}
+use Rattle.sorting_slices.specs.Sorting.{arranged}
+use Rattle.sorting_slices.specs.SortingLaws.{length-arranged, arranged-before, arranged-between, arranged-sorted, arranged-drop}
 use Rattle.sorting_spec.specs.PartLaws.{at-slice, slice-same, slice-join, drop-same}
 use Rattle.digest_groups_spec.specs.DigestGroups.{digestAt, protein, byName, proteinsOf, groupOf, groupsFrom, proteinList}
 use Rattle.digest_groups_runs.specs.Turns.{Replaced, Listed, Ready, orderOf, runsFrom, Turned, Ahead, Gathered}

@@ -9,7 +9,7 @@ use Rattle.records.specs.Le.{le}
 use Rattle.records.specs.StoreLaws.{stored, storedFrom}
 use Rattle.sorting_texts.specs.declared.text.By.the-variants.{Spelled}
 use Rattle.sorting_texts.specs.Text.{leBy}
-use Rattle.sorting.specs.Runs.{runLength, runsOf}
+use Rattle.sorting_spec.specs.Runs.{runLength, runsOf}
 use Rattle.digest_groups_spec.specs.DigestGroups.{digestAt, digestsIn, gathered, proteinsOf, groupsFrom, proteinList}
 
 -- f of each number from lo up to hi

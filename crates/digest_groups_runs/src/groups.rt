@@ -1,5 +1,5 @@
 // Sorted digests made groups, run by run: each run becomes a record, and its place in the work memory the list of its proteins.
-use sorting::By;
+use sorting_texts::By;
 ghost use mathlib.Core.Path.{_≡_};
 ghost use mathlib.Core.List.{_++_};
 ghost use Prim.Native.Nat.{ℕ, _+_, _*_, _≤_, _<_};
@@ -53,7 +53,7 @@ fn list_proteins(names: &[u8], digests: &[u8], w: &mut [u32], lo: usize, hi: usi
     ensures { λ _. ⌜ Listed (now (names .entry)) (now (digests .entry)) (now (w .entry)) (now (w .exit)) lo hi n ⌝ }
 {
     take_proteins(digests, w, lo, hi);
-    sorting::sort(By::Name, names, w, lo, hi, n, 2 * n);
+    sorting_slices::sort(By::Name, names, w, lo, hi, n, 2 * n);
 }
 
 // Makes the run from lo on group g, and says where it ends.
@@ -71,7 +71,7 @@ fn gather_run(
     ensures { λ r. ⌜ Turned (now (names .entry)) (now (letters .entry)) (now (digests .entry)) n lo (now (w .entry)) (now (groups .entry)) g r (now (w .exit)) (now (groups .exit)) ⌝ }
 {
     let all = n as u32;
-    let hi = sorting::run_end(By::Spelled(all), letters, w, lo, n, 2 * n);
+    let hi = sorting_runs::run_end(By::Spelled(all), letters, w, lo, n, 2 * n);
     let at = 16 * (w[lo] as usize);
     put_group(&digests[at..at + 16], lo, hi - lo, groups, g);
     list_proteins(names, digests, w, lo, hi, n);

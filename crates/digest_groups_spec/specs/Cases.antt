@@ -9,8 +9,8 @@ use Rattle.records.specs.Cases.{Case, Hold, answered, refused, told}
 use Rattle.records.specs.Room.{written}
 use Rattle.records.specs.Search.{seek}
 use Rattle.letters.specs.Letters.{isLetter, firstBad}
-use Rattle.catalogue_contents.specs.Names.{nameLength, zerosTo, namesTested}
-use Rattle.catalogue_contents.specs.Book.{firstBadBound}
+use Rattle.catalogue_spec.specs.Names.{nameLength, zerosTo, namesTested}
+use Rattle.catalogue_spec.specs.Book.{firstBadBound}
 use Rattle.digest_groups_spec.specs.DigestGrouping.{firstBadDigest, groupOutcome}
 
 -- a name of these bytes

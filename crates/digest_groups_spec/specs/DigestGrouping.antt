@@ -13,8 +13,8 @@ use Rattle.records.specs.declared.refusal.Counted.the-variants.{Refused as No}
 use Rattle.records.specs.Outcome.{Outcome, outcome, unlessRefused, only}
 use Rattle.records.specs.Tested.{andThen, fieldTested}
 use Rattle.records.specs.Search.{seek}
-use Rattle.catalogue_contents.specs.Names.{nameCount, tooManyNames, wholeNames, namesTested}
-use Rattle.catalogue_contents.specs.Book.{tooManyLetters, boundsOf, boundsTested, lettersTested}
+use Rattle.catalogue_spec.specs.Names.{nameCount, tooManyNames, wholeNames, namesTested}
+use Rattle.catalogue_spec.specs.Book.{tooManyLetters, boundsOf, boundsTested, lettersTested}
 use Rattle.enzyme_keep.specs.Digests.{goodRecord}
 use Rattle.digest_groups_spec.specs.DigestGroups.{digestAt, digestsIn, end, protein, gathered, grouped}
 

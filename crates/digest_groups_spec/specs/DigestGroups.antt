@@ -16,7 +16,7 @@ use Rattle.letters.specs.Reversal.{lettersOf}
 use Rattle.sorting_spec.specs.Sort.{sorted}
 use Rattle.sorting_spec.specs.Lex.{lexLe}
 use Rattle.sorting_spec.specs.Joined.{nameOf}
-use Rattle.sorting.specs.Distinct.{distinct}
+use Rattle.sorting_spec.specs.Distinct.{distinct}
 
 -- digest i of a list: the 16 bytes of its record
 abbrev pub digestAt : List ℕ → ℕ → List ℕ

@@ -18,8 +18,8 @@ use Rattle.records.specs.Outcome.{outcome}
 use Rattle.records.specs.Room.{fits, fitted, singly}
 use Rattle.records.specs.RoomLaws.{Sized, stored-text}
 use Rattle.records.specs.StoreLaws.{storedFrom, stored-all}
-use Rattle.sorting.specs.Distinct.{distinct}
-use Rattle.sorting.specs.Runs.{joined, runsOf}
+use Rattle.sorting_spec.specs.Distinct.{distinct}
+use Rattle.sorting_spec.specs.Runs.{joined, runsOf}
 use Rattle.digest_groups_spec.specs.DigestGroups.{digestAt, digestsIn, keyOf, gathered, groupOf, groupsFrom, proteinList, grouped}
 use Rattle.digest_groups_runs.specs.Turns.{orderOf, Sorted, Gathered}
 use Rattle.digest_groups_runs.specs.TurnLaws.{length-digest}

@@ -15,9 +15,9 @@ use Rattle.sorting_spec.specs.Sort.{sorted}
 use Rattle.sorting_spec.specs.SortLaws.{sorted-in, sorted-alike, sorted-map}
 use Rattle.sorting_spec.specs.Lex.{lexLe}
 use Rattle.sorting_texts.specs.Text.{textOf, leBy, spellingOf as lettersBy}
-use Rattle.sorting.specs.Runs.{joined, runsOf}
-use Rattle.sorting.specs.RunLaws.{runs-alike}
-use Rattle.sorting.specs.DistinctLaws.{runs-distinct}
+use Rattle.sorting_spec.specs.Runs.{joined, runsOf}
+use Rattle.sorting_spec.specs.RunLaws.{runs-alike}
+use Rattle.sorting_spec.specs.DistinctLaws.{runs-distinct}
 use Rattle.digest_groups_spec.specs.DigestGroups.{digestAt, digestsIn, position, decoy, lettersIn, keyOf, gathered}
 use Rattle.digest_groups_words.specs.Word.{wordOf}
 use Rattle.digest_groups_words.specs.WordLaws.{word-key}

@@ -14,9 +14,9 @@ use Rattle.sorting_spec.specs.Sort.{sorted}
 use Rattle.sorting_spec.specs.SortLaws.{sorted-in, length-sorted}
 use Rattle.sorting_texts.specs.Text.{leBy}
 use Rattle.sorting_spec.specs.PartLaws.{at-slice}
-use Rattle.sorting.specs.Runs.{runsOf}
-use Rattle.sorting.specs.Sorting.{fitting, arranged}
-use Rattle.sorting.specs.SortingLaws.{order-fitting, length-arranged, arranged-sorted, arranged-drop}
+use Rattle.sorting_spec.specs.Runs.{runsOf}
+use Rattle.sorting_slices.specs.Sorting.{fitting, arranged}
+use Rattle.sorting_slices.specs.SortingLaws.{order-fitting, length-arranged, arranged-sorted, arranged-drop}
 use Rattle.digest_groups_spec.specs.DigestGroups.{digestAt}
 use Rattle.digest_groups_words.specs.Tables.{Good, Tables}
 use Rattle.digest_groups_tables.specs.KeyLaws.{gathered-runs}

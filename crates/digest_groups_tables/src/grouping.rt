@@ -3,7 +3,7 @@ use digest_groups_runs::gather_runs;
 use digest_groups_words::spell_all;
 use records::Counted;
 use records::Refusal;
-use sorting::By;
+use sorting_texts::By;
 ghost use mathlib.Core.Path.{_≡_};
 ghost use mathlib.Core.Bool.{cond, _&&_};
 ghost use mathlib.Core.List.{[], _∷_};
@@ -22,7 +22,7 @@ fn arrange(letters: &[u8], bounds: &[u32], digests: &[u8], w: &mut [u32], n: usi
 {
     let all = n as u32;
     spell_all(letters, bounds, digests, w, n);
-    sorting::sort(By::Spelled(all), letters, w, 0, n, n, 2 * n);
+    sorting_slices::sort(By::Spelled(all), letters, w, 0, n, n, 2 * n);
 }
 
 // How many groups there are, or that a list has no room for all.

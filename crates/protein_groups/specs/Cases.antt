@@ -4,6 +4,7 @@ use Prim.Native.Nat.{ℕ}
 use mathlib.Core.Path.{refl}
 use mathlib.Core.List.{List, [], _∷_, _++_, flatten, map}
 use lib.ListN.{replicate}
+use Rattle.protein_groups_tests.specs.Testing.{firstBadPair, firstBadFlag}
 use Rattle.records.specs.Le.{le, numberAt}
 use Rattle.records.specs.Cases.{Case, Hold, refused}
 use Rattle.records.specs.Outcome.{Outcome}
@@ -15,7 +16,7 @@ use Rattle.protein_groups_members.specs.Members.{memberBytes}
 use Rattle.protein_groups_spec.specs.ProteinGroups.{proteins, metas, groupsOf, grouping}
 use Rattle.protein_groups.specs.declared.grouping.Grouped.{Grouped}
 use Rattle.protein_groups.specs.declared.grouping.Grouped.the-variants.{Made, Refused}
-use Rattle.protein_groups.specs.ProteinGrouping.{firstBadPair, firstBadFlag, groupOutcome}
+use Rattle.protein_groups.specs.ProteinGrouping.{groupOutcome}
 
 -- groups, meta-peptides, edges, members; refusal 0 is none
 abbrev pub made : ℕ → ℕ → ℕ → ℕ → List ℕ

@@ -7,18 +7,20 @@ use mathlib.Core.List.{List, [], _∷_}
 use native.Mathlib.Omega.{arith}
 use lib.ListN.{length, getD, replicate, length-map, getD-replicate}
 use lib.Dec.{leb}
+use Rattle.protein_groups_tests.specs.TestingLaws.{Ready}
+use Rattle.protein_groups_spec.specs.Rows.{standingEdge, standingEdges, standingMember, standingMembers}
 use Rattle.lists.specs.Lists.{upFrom}
 use Rattle.lists.specs.RowLaws.{length-up}
 use Rattle.records.specs.declared.refusal.Refusal.the-variants.{Room}
 use Rattle.records.specs.Outcome.{outcome}
-use Rattle.protein_groups_copy.specs.Placing.{Laid, standingEdge, standingEdges, standingMember, standingMembers}
+use Rattle.protein_groups_place.specs.Placing.{Laid}
 use Rattle.protein_groups_spec.specs.ProteinGroups.{pairsIn, grouping}
 use Rattle.protein_groups_spec.specs.PackedGroups.{packedGrouping}
 use Rattle.protein_groups_spec.specs.PackingLaws.{packed-grouping}
 use Rattle.protein_groups.specs.declared.grouping.Grouped.{Grouped}
 use Rattle.protein_groups.specs.declared.grouping.Grouped.the-variants.{Made, Refused as No}
 use Rattle.protein_groups.specs.ProteinGrouping.{listed}
-use Rattle.protein_groups.specs.Steps.{Ready, Handed}
+use Rattle.protein_groups.specs.Steps.{Handed}
 use Rattle.protein_groups.specs.ProteinGroupingLaws.{left-listed}
 
 -- the work memory is large enough for the tables, the pairs, and what they show

@@ -5,6 +5,8 @@ use mathlib.Core.Logic.{_↔_}
 use mathlib.Core.List.{List, flatten, map}
 use native.Mathlib.Omega.{arith}
 use lib.ListN.{length, length-map}
+use Rattle.protein_groups_tests.specs.Testing.{tested}
+use Rattle.protein_groups_tests.specs.TestingLaws.{Ready, ready}
 use Rattle.lists.specs.Lists.{In, upFrom, bit}
 use Rattle.lists.specs.RowLaws.{length-up, up-in}
 use Rattle.lists.specs.InLaws.{map-in}
@@ -21,9 +23,6 @@ use Rattle.protein_groups_spec.specs.PackingLaws.{packed-grouping}
 use Rattle.protein_groups_spec.specs.TheoremLaws.{Fit, all-members}
 use Rattle.protein_groups_spec.specs.GroupingLaws as laws
 use Rattle.protein_groups_spec.specs.SizeLaws.{few-groups, few-metas, few-edges, few-members}
-use Rattle.protein_groups.specs.ProteinGrouping.{tested}
-use Rattle.protein_groups.specs.Steps.{Ready}
-use Rattle.protein_groups.specs.ProteinGroupingLaws.{ready}
 
 module _ (pairs flags : List ℕ) (peptides proteins words : ℕ) (p : tested pairs flags peptides proteins words ≡ Passed) where
   -- its pairs, and their grouping

@@ -1,12 +1,12 @@
 // The work memory of a grouping: filled, and written out.
-use protein_groups_copy::place_pairs;
 use protein_groups_copy::write_edges;
 use protein_groups_copy::write_members;
+use protein_groups_place::place_pairs;
 use records::clear;
 ghost use Prim.Native.Nat.{ℕ, _+_, _*_, _≤_, _<_};
 ghost use lib.ListN.{length, replicate};
 ghost use Rattle.records.specs.Le.{numberAt};
-ghost use Rattle.protein_groups_copy.specs.Placing.{Laid};
+ghost use Rattle.protein_groups_place.specs.Placing.{Laid};
 ghost use Rattle.protein_groups.specs.Steps.{Handed};
 
 // Clears the work memory, and places n pairs from w[a] on.

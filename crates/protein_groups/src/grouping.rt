@@ -1,8 +1,8 @@
 // The groups of proteins, as records of lent buffers.
 use crate::arranging::hand_out;
 use crate::arranging::set_up;
-use crate::tests::tested;
 use protein_groups_tables::group_in;
+use protein_groups_tests::tested;
 use records::Refusal;
 use records::Tested;
 use records::clear;
@@ -13,11 +13,11 @@ ghost use mathlib.Core.List.{[], _∷_};
 ghost use Prim.Native.Nat.{_+_, _*_, _/_, _≤_, min};
 ghost use lib.Dec.{leb};
 ghost use lib.ListN.{length};
+ghost use Rattle.protein_groups_tests.specs.TestingLaws.{Ready};
 ghost use Rattle.records.specs.Outcome.{outcome};
 ghost use Rattle.protein_groups_spec.specs.ProteinGroups.{pairsIn, grouping};
 ghost use Rattle.protein_groups_tables.specs.Placed.{keysAt};
 ghost use Rattle.protein_groups.specs.ProteinGrouping.{listed, groupOutcome};
-ghost use Rattle.protein_groups.specs.Steps.{Ready};
 
 // How many groups, meta-peptides, edges and members there are.
 pub struct Sizes {

@@ -1,5 +1,2 @@
--- What a reader has to believe: nothing here; Placing says where in the work memory pairs, edges and members stand. The files named
--- Laws say what follows.
-pub mod Placing
-pub mod PlacingLaws
+-- What a reader has to believe: nothing here; WritingLaws says what is written, and why.
 pub mod WritingLaws

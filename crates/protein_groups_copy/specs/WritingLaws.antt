@@ -6,6 +6,7 @@ use native.Mathlib.Omega.{arith}
 use native.Mathlib.Numerals.{add-one}
 use lib.ListN.{length}
 use lib.Seq.{sets}
+use Rattle.protein_groups_spec.specs.Rows.{memberOf}
 use Rattle.protein_groups_members.specs.MemberLaws.{sized-members}
 use Rattle.cover_edges.specs.BackLaws.{sized-edges}
 use Rattle.lists.specs.Lists.{upFrom}
@@ -16,7 +17,6 @@ use Rattle.records.specs.StoreLaws.{stored, storedFrom, stored-all}
 use Rattle.cover_spec.specs.Cover.{Edge}
 use Rattle.cover_edges.specs.Edges.{edgeBytes}
 use Rattle.protein_groups_members.specs.Members.{Member, memberBytes}
-use Rattle.protein_groups_copy.specs.Placing.{memberOf}
 
 -- ---- a record's bytes, number by number
 

@@ -6,11 +6,11 @@ ghost use mathlib.Core.Path.{_≡_};
 ghost use mathlib.Core.List.{map};
 ghost use Prim.Native.Nat.{_+_, _≤_, _<_};
 ghost use lib.ListN.{length, getD};
+ghost use Rattle.protein_groups_spec.specs.Rows.{standingEdges, memberOf, standingMembers};
 ghost use Rattle.records.specs.Room.{roomOf, fitted};
 ghost use Rattle.records.specs.StoreLaws.{stored};
 ghost use Rattle.cover_edges.specs.Edges.{edgeBytes};
 ghost use Rattle.protein_groups_members.specs.Members.{memberBytes};
-ghost use Rattle.protein_groups_copy.specs.Placing.{standingEdges, memberOf, standingMembers};
 
 // Writes edge i, where there is room for it.
 fn put_edge(group: u32, meta: u32, i: usize, room: usize, out: &mut [u8])

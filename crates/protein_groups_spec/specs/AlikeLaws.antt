@@ -18,7 +18,7 @@ use Rattle.sorting_spec.specs.Sort.{sorted}
 use Rattle.sorting_spec.specs.SortLaws.{Ordered, sorted-ordered, count-sorted}
 use Rattle.sorting_spec.specs.Lex.{lexLe}
 use Rattle.sorting_spec.specs.LexLaws.{lex-trans, lex-antisym, lex-refl, by-list}
-use Rattle.sorting.specs.Distinct.{onceAfter, once, distinct}
+use Rattle.sorting_spec.specs.Distinct.{onceAfter, once, distinct}
 use Rattle.protein_groups_members.specs.Members.{Member}
 use Rattle.protein_groups_spec.specs.ProteinGroups.{Pair, pairsOf, up, listFrom}
 use Rattle.protein_groups_spec.specs.PackedGroups.{shown, seen, proteins, metas, evidence, member}

@@ -14,7 +14,7 @@ use Rattle.lists.specs.Tests.{below?, both}
 use Rattle.lists.specs.Lists.{In, bit, count, All}
 use Rattle.lists.specs.KeepLaws.{all-map}
 use Rattle.lists.specs.InLaws.{count-in, none-count, is-in}
-use Rattle.sorting.specs.Distinct.{distinct}
+use Rattle.sorting_spec.specs.Distinct.{distinct}
 use Rattle.cover_spec.specs.Cover.{Edge, group, meta, ofGroup, ofMeta, cover}
 use Rattle.cover_spec.specs.ChoiceLaws.{Under}
 use Rattle.cover_spec.specs.CoverLaws.{neighbour}

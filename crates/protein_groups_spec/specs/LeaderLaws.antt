@@ -17,10 +17,10 @@ use Rattle.lists.specs.KeyLaws.{Under}
 use Rattle.sorting_spec.specs.Sort.{insert, sorted}
 use Rattle.sorting_spec.specs.SortLaws.{sorted-in}
 use Rattle.sorting_spec.specs.Lex.{lexLe}
-use Rattle.sorting.specs.Runs.{equalsAfter, runsOf, joined, next, numbersFrom, runNumbers}
-use Rattle.sorting.specs.RunLaws.{run-behind}
-use Rattle.sorting.specs.Distinct.{onceAfter, once, distinct}
-use Rattle.sorting.specs.DistinctLaws.{runs-distinct}
+use Rattle.sorting_spec.specs.Runs.{equalsAfter, runsOf, joined, next, numbersFrom, runNumbers}
+use Rattle.sorting_spec.specs.RunLaws.{run-behind}
+use Rattle.sorting_spec.specs.Distinct.{onceAfter, once, distinct}
+use Rattle.sorting_spec.specs.DistinctLaws.{runs-distinct}
 use Rattle.cover_spec.specs.Cover.{Edge}
 use Rattle.protein_groups_spec.specs.ProteinGroups.{edgesFrom}
 use Rattle.protein_groups_spec.specs.CountingLaws.{along, metasIn}

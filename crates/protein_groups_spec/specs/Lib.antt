@@ -13,3 +13,4 @@ pub mod CountingLaws
 pub mod LeaderLaws
 pub mod WholeLaws
 pub mod ReadingLaws
+pub mod Rows

@@ -6,7 +6,7 @@ use lib.ListN.{length, getD}
 use Rattle.lists.specs.FirstLaws.{place, firsts}
 use Rattle.lists.specs.Lists.{upFrom, keep, same}
 use Rattle.sorting_spec.specs.Sort.{sorted}
-use Rattle.sorting.specs.Distinct.{distinct}
+use Rattle.sorting_spec.specs.Distinct.{distinct}
 use Rattle.protein_groups_members.specs.Members.{Member}
 use Rattle.protein_groups_spec.specs.ProteinGroups.{Pair, pairsOf, taking, up, listFrom, edgesFrom, Groups}
 

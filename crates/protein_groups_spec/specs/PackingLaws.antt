@@ -10,7 +10,7 @@ use lib.ListN.{length, getD}
 use Rattle.lists.specs.KeepLaws.{keep-map}
 use Rattle.lists.specs.Lists.{upFrom, keep, same, has}
 use Rattle.sorting_spec.specs.Sort.{sorted}
-use Rattle.sorting.specs.Distinct.{distinct}
+use Rattle.sorting_spec.specs.Distinct.{distinct}
 use Rattle.protein_groups_spec.specs.ProteinGroups.{Pair, Seen, seen, alike, among, place, firsts, pairsOf, shown, proteins, taking, up, evidence, metas, listFrom, listOf, edgesFrom, member, membersFrom, groupsOf, grouping}
 use Rattle.lists.specs.FirstLaws as first
 use Rattle.protein_groups_spec.specs.PackedGroups as packed

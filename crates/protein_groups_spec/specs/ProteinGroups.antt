@@ -8,7 +8,7 @@ use Rattle.lists.specs.Lists.{upFrom, keep, same, times}
 use Rattle.records.specs.Le.{numberAt}
 use Rattle.sorting_spec.specs.Sort.{sorted}
 use Rattle.sorting_spec.specs.Lex.{lexLe}
-use Rattle.sorting.specs.Distinct.{distinct}
+use Rattle.sorting_spec.specs.Distinct.{distinct}
 use Rattle.cover_spec.specs.Cover.{Edge}
 use Rattle.protein_groups_members.specs.Members.{Member}
 

@@ -7,6 +7,7 @@ use Prim.Native.Nat.{ℕ, zero, suc, _+_, _≤_, _<_}
 use native.Mathlib.Omega.{arith}
 use lib.Dec.{eqb}
 use lib.ListN.{length, getD, length-map}
+use Rattle.sorting_spec.specs.RunLaws.{length-numbers}
 use Rattle.lists.specs.Lists.{In, upFrom, keep, same, times}
 use Rattle.lists.specs.RowLaws.{length-up}
 use Rattle.lists.specs.FirstLaws.{place, at-most}
@@ -14,9 +15,8 @@ use Rattle.lists.specs.KeyLaws.{ofKey, below, below-suc, below-most, under-of}
 use Rattle.sorting_spec.specs.Sort.{sorted}
 use Rattle.sorting_spec.specs.SortLaws.{length-sorted}
 use Rattle.sorting_spec.specs.Lex.{lexLe}
-use Rattle.sorting.specs.Runs.{runNumbers}
-use Rattle.sorting.specs.NumberLaws.{length-numbers}
-use Rattle.sorting.specs.Distinct.{onceAfter, once, distinct}
+use Rattle.sorting_spec.specs.Runs.{runNumbers}
+use Rattle.sorting_spec.specs.Distinct.{onceAfter, once, distinct}
 use Rattle.cover_spec.specs.Cover.{Edge}
 use Rattle.protein_groups_spec.specs.ProteinGroups.{Pair, pairsOf, paired, taking, up, listFrom, edgesFrom, Groups}
 use Rattle.protein_groups_spec.specs.PackedGroups.{seen, shown, proteins, evidence, metas, lists, member, groupsOf, packedGrouping}

@@ -10,6 +10,7 @@ use native.Mathlib.Omega.{arith}
 use borrow.Author.Tests.{ltb-true, lt-ltb, eqb-true, eqb-false, eq-eqb, ne-eqb}
 use lib.Dec.{eqb}
 use lib.ListN.{length, getD, replicate, List·getD-eq-default}
+use Rattle.sorting_spec.specs.RunLaws.{length-numbers}
 use Rattle.lists.specs.KeepLaws.{count-times}
 use Rattle.lists.specs.InLaws.{in-left, in-right, in-append, in-keep, keep-in, in-map, map-in, in-getD, getD-in, is-in, in-some, some-in, has-in, in-has, in-times, times-in, count-in, in-count}
 use Rattle.lists.specs.Tests.{below?, clash, iff}
@@ -20,9 +21,8 @@ use Rattle.lists.specs.FirstLaws.{place, firsts, place-lt, has-append, times-ap
 use Rattle.sorting_spec.specs.Sort.{sorted}
 use Rattle.sorting_spec.specs.SortLaws.{in-sorted, sorted-in, count-sorted}
 use Rattle.sorting_spec.specs.Lex.{lexLe}
-use Rattle.sorting.specs.Runs.{runNumbers}
-use Rattle.sorting.specs.NumberLaws.{length-numbers}
-use Rattle.sorting.specs.Distinct.{onceAfter, once, distinct}
+use Rattle.sorting_spec.specs.Runs.{runNumbers}
+use Rattle.sorting_spec.specs.Distinct.{onceAfter, once, distinct}
 use Rattle.cover_spec.specs.Cover.{Edge}
 use Rattle.protein_groups_members.specs.Members.{Member}
 use Rattle.protein_groups_members.specs.MemberLaws.{Ranged}

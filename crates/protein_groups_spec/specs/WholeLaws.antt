@@ -12,9 +12,9 @@ use lib.ListN.{length}
 use Rattle.lists.specs.Lists.{upFrom, keep, same, times}
 use Rattle.lists.specs.KeyLaws.{below, below-suc}
 use Rattle.sorting_spec.specs.Sort.{sorted}
-use Rattle.sorting.specs.Runs.{runsOf}
-use Rattle.sorting.specs.Distinct.{distinct}
-use Rattle.sorting.specs.DistinctLaws.{count-distinct}
+use Rattle.sorting_spec.specs.Runs.{runsOf}
+use Rattle.sorting_spec.specs.Distinct.{distinct}
+use Rattle.sorting_spec.specs.DistinctLaws.{count-distinct}
 use Rattle.protein_groups_members.specs.Members.{Member}
 use Rattle.protein_groups_spec.specs.ProteinGroups.{Pair, pairsOf, taking, paired, listFrom, edgesFrom}
 use Rattle.protein_groups_spec.specs.PackedGroups.{proteins, metas, evidence, lists, member, membersFrom, groupsOf}

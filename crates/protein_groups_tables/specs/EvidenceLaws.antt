@@ -24,7 +24,7 @@ use Rattle.sorting_counting.specs.PlacingLaws.{Counted}
 use Rattle.sorting_counting.specs.TallyLaws.{Laid}
 use Rattle.protein_groups_numbering.specs.KnowingLaws.{Numbered}
 use Rattle.protein_groups_numbering.specs.SpreadLaws.{textAt}
-use Rattle.protein_groups_tables.specs.TakerLaws.{bound}
+use Rattle.protein_groups_runs.specs.TakerLaws.{bound}
 
 -- what it asks: the found go from 0 on, their table from k on, and then come the boundaries
 pub record Given (w : List ℕ) (k c m l a b n : ℕ) : Type 0 where

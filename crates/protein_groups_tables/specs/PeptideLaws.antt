@@ -10,16 +10,16 @@ use Rattle.lists.specs.Lists.{upFrom, keep}
 use Rattle.lists.specs.KeyLaws.{Under, below-le, below-most, under-at, under-keep}
 use Rattle.sorting_spec.specs.SortLaws.{under-sorted}
 use Rattle.sorting_spec.specs.PartLaws.{at-slice, slice-same}
-use Rattle.sorting.specs.Runs.{runNumbers}
+use Rattle.sorting_spec.specs.Runs.{runNumbers}
 use Rattle.protein_groups_spec.specs.ProteinGroups.{Pair, taking, edgesFrom}
 use Rattle.protein_groups_spec.specs.PackedGroups.{seen, proteins, metas, evidence}
 use Rattle.protein_groups_spec.specs.CountingLaws.{metasIn, groupsIn, shown-chosen, all-shown}
 use Rattle.protein_groups_spec.specs.LeaderLaws.{le, spread, spread-under}
 use Rattle.protein_groups_spec.specs.WholeLaws.{peptidesOf, taking-by, metas-spread, metas-count}
 use Rattle.protein_groups_numbering.specs.SpreadLaws.{textAt}
-use Rattle.protein_groups_tables.specs.TakerLaws.{filled}
+use Rattle.protein_groups_runs.specs.TakerLaws.{filled}
 use Rattle.protein_groups_tables.specs.EvidenceLaws.{Given, Evident, keysOf, orderOf, evidence-under}
-use Rattle.protein_groups_tables.specs.MetaLaws.{Bounded, Distinct, takersBy}
+use Rattle.protein_groups_runs.specs.MetaLaws.{Bounded, Distinct, takersBy}
 
 -- what it asks: behind the found and their table work memory, and then the boundaries
 pub record Peptides (w : List ℕ) (k o s c m l a b n : ℕ) : Type 0 where

@@ -1,13 +1,11 @@
 -- Where the grouping of n pairs stands in a lent slice: k is twice the number of proteins, m the number of peptides.
 use mathlib.Core.Path.{_≡_}
-use mathlib.Core.List.{List, map}
-use Prim.Native.Nat.{ℕ, _+_, _*_, _/_, _%_, _≤_, _<_}
+use mathlib.Core.List.{List}
+use Prim.Native.Nat.{ℕ, _+_, _*_, _≤_, _<_}
 use lib.ListN.{length, getD}
-use Rattle.lists.specs.Lists.{upFrom}
-use Rattle.cover_spec.specs.Cover.{Edge}
-use Rattle.protein_groups_members.specs.Members.{Member}
 use Rattle.protein_groups_spec.specs.ProteinGroups.{Pair}
 use Rattle.protein_groups_spec.specs.PackedGroups.{packedGrouping}
+use Rattle.protein_groups_spec.specs.Rows.{standingEdges, standingMembers}
 
 -- the pairs' peptides, and behind them what the pairs show; the edges' meta-peptides, and behind them their groups
 abbrev pub keysAt : ℕ → ℕ → ℕ → ℕ
@@ -15,13 +13,6 @@ keysAt k m n = 4 * k + 3 * m + n + 4
 
 abbrev pub valuesAt : ℕ → ℕ → ℕ → ℕ
 valuesAt k m n = keysAt k m n + n
-
-abbrev pub edgeIn : List ℕ → ℕ → ℕ → ℕ → Edge
-edgeIn w a b i = (getD w (b + i) 0, getD w (a + i) 0)
-
--- of the j-th member the group stands from s on, and the place of what shows it from o on
-abbrev pub memberIn : List ℕ → ℕ → ℕ → ℕ → Member
-memberIn w o s j = record { group = getD w (s + j) 0; protein = getD w (getD w (o + j) 0) 0 / 2; decoy = getD w (getD w (o + j) 0) 0 % 2 }
 
 -- what is asked: all of it fits, the numbers are in their range, and what stands before the places of the values by key is zero
 pub record Placeable (w : List ℕ) (k m n : ℕ) : Type 0 where
@@ -35,8 +26,8 @@ pub record Placeable (w : List ℕ) (k m n : ℕ) : Type 0 where
 
 -- the grouping of qs
 pub record Placed (flags : List ℕ) (qs : List Pair) (w : List ℕ) (k m n groups metas edges members : ℕ) : Type 0 where
-  pub edges-are : map (edgeIn w (keysAt k m n) (valuesAt k m n)) (upFrom 0 edges) ≡ packedGrouping flags m qs .edges
-  pub members-are : map (memberIn w k (2 * k)) (upFrom 0 members) ≡ packedGrouping flags m qs .members
+  pub edges-are : standingEdges w (keysAt k m n) (valuesAt k m n) edges ≡ packedGrouping flags m qs .edges
+  pub members-are : standingMembers w k (2 * k) members ≡ packedGrouping flags m qs .members
   pub groups-are : groups ≡ packedGrouping flags m qs .groups
   pub metas-are : metas ≡ packedGrouping flags m qs .metas
 

@@ -6,14 +6,15 @@ use native.Mathlib.Nat.{zero-add}
 use native.Mathlib.Omega.{arith}
 use lib.ListN.{length, getD, length-map}
 use lib.Seq.{slice, length-slice}
+use Rattle.protein_groups_spec.specs.Rows.{standingEdge, standingMember}
+use Rattle.sorting_spec.specs.RunLaws.{length-numbers}
 use Rattle.lists.specs.Lists.{upFrom}
 use Rattle.lists.specs.RowLaws.{length-up}
 use Rattle.lists.specs.KeyLaws.{Under, under-at, under-up}
 use Rattle.sorting_spec.specs.Sort.{sorted}
 use Rattle.sorting_spec.specs.SortLaws.{length-sorted, under-sorted}
 use Rattle.sorting_spec.specs.PartLaws.{at-slice}
-use Rattle.sorting.specs.Runs.{runNumbers}
-use Rattle.sorting.specs.NumberLaws.{length-numbers}
+use Rattle.sorting_spec.specs.Runs.{runNumbers}
 use Rattle.cover_spec.specs.Cover.{Edge}
 use Rattle.protein_groups_spec.specs.ProteinGroups.{Pair, Groups, listFrom}
 use Rattle.protein_groups_spec.specs.PackedGroups.{seen, proteins, metas, member, packedGrouping}
@@ -23,7 +24,7 @@ use Rattle.protein_groups_spec.specs.WholeLaws.{peptidesOf, map-alike, whole}
 use Rattle.protein_groups_spec.specs.ReadingLaws.{read-edges, read-walk}
 use Rattle.protein_groups_tables.specs.PeptideLaws.{Peptides, ByPeptides}
 use Rattle.protein_groups_tables.specs.ProteinLaws.{Proteins, ByProteins}
-use Rattle.protein_groups_tables.specs.Placed.{keysAt, valuesAt, edgeIn, memberIn, Placeable, Placed, Within}
+use Rattle.protein_groups_tables.specs.Placed.{keysAt, valuesAt, Placeable, Placed, Within}
 
 -- what the first half asks
 module _ (w₀ : List ℕ) (k m n o s c l a b : ℕ) (g : Placeable w₀ k m n) (eo : o ≡ 4 * k + 2) (es : s ≡ o + m) (ec : c ≡ s + m) (el : l ≡ c + m + 2) (ea : a ≡ l + n) (eb : b ≡ a + n) where
@@ -108,20 +109,20 @@ module _ (w₀ : List ℕ) (k m n o s c l a b : ℕ) (g : Placeable w₀ k m n) 
       long-spread : length (spread text those) ≡ e
       long-spread = sym (length-map (spread text those) (λ (x : Edge). x .1)) ∙ sym (ap length (d .keys)) ∙ long-keys
 
-      edge-at : (i : ℕ) → i < e → edgeIn w₂ a b i ≡ (getD (groupsIn (spread text those)) i 0, getD (metasIn (spread text those)) i 0)
+      edge-at : (i : ℕ) → i < e → standingEdge w₂ a b i ≡ (getD (groupsIn (spread text those)) i 0, getD (metasIn (spread text those)) i 0)
       edge-at i h =
           let x : getD w₂ (b + i) 0 ≡ getD (groupsIn (spread text those)) i 0 = sym (at-slice b (b + e) w₂ i (omega arith)) ∙ ap (λ (z : List ℕ). getD z i 0) (d .values) in
           let y : getD w₂ (a + i) 0 ≡ getD (metasIn (spread text those)) i 0 = sym (at-slice a (a + e) w₂ i (omega arith)) ∙ ap (λ (z : List ℕ). getD z i 0) (d .keys) in
           cc
 
-      edges-read : map (edgeIn w₂ a b) (upFrom 0 e) ≡ spread text those
+      edges-read : map (standingEdge w₂ a b) (upFrom 0 e) ≡ spread text those
       edges-read =
-          map-alike (edgeIn w₂ a b) (λ (i : ℕ). (getD (groupsIn (spread text those)) i 0, getD (metasIn (spread text those)) i 0)) 0 e (λ i h. edge-at i (rw zero-add at h))
+          map-alike (standingEdge w₂ a b) (λ (i : ℕ). (getD (groupsIn (spread text those)) i 0, getD (metasIn (spread text those)) i 0)) 0 e (λ i h. edge-at i (rw zero-add at h))
           ∙ (rw long-spread at (read-edges (spread text those)))
 
       -- the members, read back
       module _ (ps : List ℕ) (found : slice 0 r w₁ ≡ ps) where
-        member-at : (j : ℕ) → j < r → memberIn w₂ k (2 * k) j ≡ member ps (getD (runNumbers (le text) those) j 0) (getD those j 0)
+        member-at : (j : ℕ) → j < r → standingMember w₂ k (2 * k) j ≡ member ps (getD (runNumbers (le text) those) j 0) (getD those j 0)
         member-at j h =
             let x : getD w₂ (2 * k + j) 0 ≡ getD (runNumbers (le text) those) j 0 = sym (at-slice (2 * k) (2 * k + r) w₂ j (omega arith)) ∙ ap (λ (z : List ℕ). getD z j 0) (d .ranks) in
             let y : getD w₂ (k + j) 0 ≡ getD those j 0 = sym (at-slice k (k + r) w₂ j (omega arith)) ∙ ap (λ (z : List ℕ). getD z j 0) (d .order) in
@@ -131,9 +132,9 @@ module _ (w₀ : List ℕ) (k m n o s c l a b : ℕ) (g : Placeable w₀ k m n) 
             ∙ ap (λ (z : List ℕ). getD z (getD w₂ (k + j) 0) 0) found in
             rw (x, v, y)
 
-        members-read : map (memberIn w₂ k (2 * k)) (upFrom 0 r) ≡ walk text (member ps) those
+        members-read : map (standingMember w₂ k (2 * k)) (upFrom 0 r) ≡ walk text (member ps) those
         members-read =
-            map-alike (memberIn w₂ k (2 * k)) (λ (j : ℕ). member ps (getD (runNumbers (le text) those) j 0) (getD those j 0)) 0 r (λ j h. member-at j (rw zero-add at h))
+            map-alike (standingMember w₂ k (2 * k)) (λ (j : ℕ). member ps (getD (runNumbers (le text) those) j 0) (getD those j 0)) 0 r (λ j h. member-at j (rw zero-add at h))
             ∙ (rw (length-numbers (le text) those ∙ long-those) at (read-walk (member ps) (runNumbers (le text) those) those (length-numbers (le text) those)))
 
       pub placed : (flags : List ℕ) (qs : List Pair) → slice (keysAt k m n) (keysAt k m n + n) w₀ ≡ peptidesOf qs → slice (valuesAt k m n) (valuesAt k m n + n) w₀ ≡ map (seen flags) qs
@@ -149,8 +150,8 @@ module _ (w₀ : List ℕ) (k m n o s c l a b : ℕ) (g : Placeable w₀ k m n) 
           let all = rw long at (whole (proteins flags m qs) (metas (proteins flags m qs) flags m qs) (d .text) h) in
           record {
             edges-are =
-                ap (λ (z : ℕ). map (edgeIn w₂ z (valuesAt k m n)) (upFrom 0 e)) keys-at
-                ∙ ap (λ (z : ℕ). map (edgeIn w₂ a z) (upFrom 0 e)) values-at
+                ap (λ (z : ℕ). map (standingEdge w₂ z (valuesAt k m n)) (upFrom 0 e)) keys-at
+                ∙ ap (λ (z : ℕ). map (standingEdge w₂ a z) (upFrom 0 e)) values-at
                 ∙ edges-read
                 ∙ sym (ap (λ (z : Groups). z .edges) all);
             members-are = members-read (proteins flags m qs) (x .found) ∙ sym (ap (λ (z : Groups). z .members) all);

@@ -12,13 +12,13 @@ use Rattle.lists.specs.RowLaws.{up-snoc}
 use Rattle.lists.specs.KeyLaws.{ofKey, below, below-le, below-most, under-up}
 use Rattle.sorting_spec.specs.Sort.{sorted}
 use Rattle.sorting_spec.specs.PartLaws.{slice-same, slice-set}
-use Rattle.sorting.specs.Runs.{runsOf, runNumbers}
+use Rattle.sorting_spec.specs.Runs.{runsOf, runNumbers}
 use Rattle.protein_groups_spec.specs.CountingLaws.{metasIn, groupsIn}
 use Rattle.protein_groups_spec.specs.LeaderLaws.{le, spread, total}
 use Rattle.sorting_counting.specs.PlacingLaws.{Counted}
 use Rattle.sorting_counting.specs.TallyLaws.{Laid}
 use Rattle.protein_groups_numbering.specs.SpreadLaws.{textAt}
-use Rattle.protein_groups_tables.specs.ThingLaws.{Things, Ran, total-up}
+use Rattle.protein_groups_runs.specs.ThingLaws.{Things, Ran, total-up}
 
 -- ---- numbers in a row
 

@@ -1,5 +1,5 @@
 // The evidence of peptides.
-use sorting::By;
+use sorting_texts::By;
 ghost use Rattle.protein_groups_tables.specs.EvidenceLaws.{Given, Evident};
 
 // Of the n values from w[b] on, each below k, and their keys from w[a] on, each below m: the evidence of each key, numbered by first

@@ -1,6 +1,5 @@
 // The grouping, first by peptides and then by proteins.
 use crate::evidence::evidences;
-use crate::runs;
 use sorting_counting::by_counting;
 use sorting_counting::wide;
 ghost use mathlib.Core.Path.{_≡_};
@@ -41,7 +40,7 @@ fn by_peptides(
 {
     let size = wide(m);
     let found = evidences(w, k, c, size, l, a, b, n);
-    let metas = runs::distinct_runs(w, o, s, c, m, l, a, b, n);
+    let metas = protein_groups_runs::distinct_runs(w, o, s, c, m, l, a, b, n);
     Half {
         found,
         entries: metas.entries,
@@ -74,14 +73,14 @@ fn by_proteins(
     a: usize,
     b: usize,
     t: usize,
-) -> runs::Runs
+) -> protein_groups_runs::Runs
     requires { ⌜ Proteins (now w) o s c f l a b t ⌝ }
     ensures { λ r. ⌜ ByProteins (now (w .entry)) (now (w .exit)) o s f a b t (r .entries) (r .count) ⌝ }
 {
     let size = wide(f);
     by_counting(w, c, size, l, a, b, t);
     count_from(w, o, f);
-    runs::runs_of(w, o, size, s, c, size, l, a, b, t)
+    protein_groups_runs::runs_of(w, o, size, s, c, size, l, a, b, t)
 }
 
 // How many groups, meta-peptides, edges and members there are.

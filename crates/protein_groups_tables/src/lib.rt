@@ -1,7 +1,6 @@
 // The grouping of proteins in tables of one lent slice of numbers. Only crates of this repository call these.
 mod evidence;
 mod grouping;
-mod runs;
 
 pub use grouping::Made;
 pub use grouping::group_in;

@@ -5,19 +5,20 @@ use mathlib.Core.Path.{refl}
 use mathlib.Core.Bool.{Bool, true, false}
 use mathlib.Core.List.{List, [], _∷_, _++_, flatten}
 use lib.ListN.{length, replicate}
+use Rattle.report_lines_tests.specs.Testing.{firstBadProtein, firstBadTagByte}
 use Rattle.records.specs.Le.{le, numberAt}
 use Rattle.records.specs.Refusals.{numberOf, placeOf}
 use Rattle.records.specs.Outcome.{Outcome}
 use Rattle.records.specs.Room.{written}
 use Rattle.records.specs.Search.{seek}
 use Rattle.records.specs.Cases.{Case, Hold, refused}
-use Rattle.catalogue_contents.specs.Names.{nameLength, zerosTo, namesTested}
+use Rattle.catalogue_spec.specs.Names.{nameLength, zerosTo, namesTested}
 use Rattle.cover_edges.specs.Edges.{firstBadMark}
 use Rattle.protein_groups_members.specs.Members.{firstBadMember}
 use Rattle.report_lines_spec.specs.Line.{lineText, lineCount}
 use Rattle.report_lines.specs.declared.reporting.Reported.{Reported}
 use Rattle.report_lines.specs.declared.reporting.Reported.the-variants.{Line, Refused}
-use Rattle.report_lines.specs.Reporting.{firstBadProtein, firstBadTagByte, lineOutcome}
+use Rattle.report_lines.specs.Reporting.{lineOutcome}
 
 -- refusal 0 being none
 abbrev pub line : ℕ → ℕ → List ℕ

@@ -1,6 +1,5 @@
 // The report line of a peptide.
 mod reporting;
-mod tests;
 
 pub use reporting::Report;
 pub use reporting::Reported;

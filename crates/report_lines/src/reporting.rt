@@ -1,21 +1,24 @@
 // The report line of a peptide, in lent bytes.
-use crate::tests::is_uneven;
-use crate::tests::lists_tested;
-use crate::tests::too_large;
 use records::Refusal;
 use records::Tested;
+use report_lines_tests::is_uneven;
+use report_lines_tests::lists_tested;
+use report_lines_tests::too_large;
+use report_lines_texts::Line;
 ghost use mathlib.Core.Path.{_≡_};
 ghost use mathlib.Core.Bool.{_&&_};
 ghost use mathlib.Core.List.{[], _∷_};
 ghost use Prim.Native.Nat.{_/_, _≤_};
 ghost use lib.Dec.{leb};
 ghost use lib.ListN.{length};
+ghost use Rattle.report_lines_tests.specs.Testing.{tested};
+ghost use Rattle.report_lines_tests.specs.TestingLaws.{Fair};
 ghost use Rattle.records.specs.Outcome.{outcome};
-ghost use Rattle.catalogue_contents.specs.Names.{nameCount};
+ghost use Rattle.catalogue_spec.specs.Names.{nameCount};
 ghost use Rattle.report_lines_select.specs.Laying.{Given};
 ghost use Rattle.report_lines_write.specs.LineLaws.{Tag};
-ghost use Rattle.report_lines.specs.Reporting.{reportedOf, lineLined, lineOutcome, tested};
-ghost use Rattle.report_lines.specs.ReportingLaws.{lineTold, Fair, Table, testsOf};
+ghost use Rattle.report_lines.specs.Reporting.{reportedOf, lineLined, lineOutcome};
+ghost use Rattle.report_lines.specs.ReportingLaws.{lineTold, Table, testsOf};
 
 // How many bytes the line has, and how many groups it counts.
 pub struct Report {
@@ -59,7 +62,7 @@ fn line_laid(
 {
     let room = out.len();
     report_lines_select::lay_out(names, members, marks, list, decoy, tag, generated, w, c);
-    let line = report_lines_write::line_in(names, w, c, marks.len(), out);
+    let line: Line = report_lines_write::line_in(names, w, c, marks.len(), out);
     let bytes = line.bytes;
     let groups = line.groups;
     answer(bytes, groups, room)
@@ -81,8 +84,8 @@ fn line_over(
     requires { ⌜ Fair (now names) (now members) (now marks) (now list) × Table (now names) (now members) (now marks) (now w) c ⌝ }
     ensures { λ r. ⌜ outcome r (now (out .exit) ∷ []) ≡ lineTold (now (names .entry)) (now (members .entry)) (now (marks .entry)) (now (list .entry)) decoy (now (tag .entry)) generated (now (out .entry)) ⌝ }
 {
-    let proteins = catalogue_contents::name_count(names);
-    let named = catalogue_contents::names_tested_in(names, w);
+    let proteins = catalogue_names::name_count(names);
+    let named = catalogue_names::names_tested_in(names, w);
     let found = lists_tested(named, members, marks, list, tag, proteins);
     match found {
         Tested::Refused(why) => Reported::Refused(why),

@@ -1,7 +1,4 @@
--- Nothing here has to be believed: Noting and Selecting say what the steps leave in the lent slice, Laying what is asked of the
--- whole.
-pub mod Noting
-pub mod NoteLaws
+-- Nothing here has to be believed: Selecting says what the steps leave in the lent slice, Laying what is asked of the whole.
 pub mod Selecting
 pub mod PickLaws
 pub mod TallyLaws

@@ -7,6 +7,4 @@ pub mod TextLaws
 pub mod ReadyLaws
 pub mod SizeLaws
 pub mod LineLaws
-pub mod WriteLaws
-pub mod WalkLaws
 pub mod OrderLaws

@@ -15,13 +15,13 @@ use Rattle.sorting_spec.specs.Lex.{lexLe}
 use Rattle.sorting_spec.specs.Joined.{join}
 use Rattle.sorting_texts.specs.Text.{joinedText, leBy}
 use Rattle.sorting_spec.specs.PartLaws.{rest-all}
-use Rattle.sorting.specs.Sorting.{fitting, arranged}
-use Rattle.sorting.specs.SortingLaws.{order-fitting, length-arranged, arranged-sorted, arranged-drop}
+use Rattle.sorting_slices.specs.Sorting.{fitting, arranged}
+use Rattle.sorting_slices.specs.SortingLaws.{order-fitting, length-arranged, arranged-sorted, arranged-drop}
 use Rattle.report_lines_spec.specs.Line.{countOf}
 use Rattle.report_lines_write.specs.Laid.{boundIn, somes, textIn, lineIn, countIn, Laid}
 use Rattle.report_lines_write.specs.ReadyLaws.{Ready, ready-texts}
 use Rattle.report_lines_write.specs.SizeLaws.{line-short}
-use Rattle.report_lines_write.specs.WriteLaws.{put-fits}
+use Rattle.report_lines_texts.specs.WriteLaws.{put-fits}
 
 -- the texts of the first `count` numbers are the line's, in its order
 pub record Lined (names w₀ : List ℕ) (c groups : ℕ) (w : List ℕ) (count : ℕ) : Type 0 where

@@ -1,8 +1,8 @@
 // The line of the groups that stand as stretches in a slice.
 use crate::arranging::arrange;
-use crate::writing::Line;
-use crate::writing::write_line;
-use sorting::By;
+use report_lines_texts::Line;
+use report_lines_texts::write_line;
+use sorting_texts::By;
 ghost use mathlib.Core.Path.{_≡_};
 ghost use lib.ListN.{length};
 ghost use Rattle.records.specs.Room.{fitted, singly};
@@ -15,7 +15,7 @@ fn order(names: &[u8], w: &mut [u32], c: usize, groups: usize) -> usize
     ensures { λ r. ⌜ Lined (now (names .entry)) (now (w .entry)) c groups (now (w .exit)) r ⌝ }
 {
     let count = arrange(w, c, groups);
-    sorting::sort(By::Joined, names, w, 0, count, c, 2 * c);
+    sorting_slices::sort(By::Joined, names, w, 0, count, c, 2 * c);
     count
 }
 

@@ -9,12 +9,12 @@ use Rattle.lists.specs.Lists.{keep}
 use Rattle.records.specs.Cases.{Case, Hold}
 use Rattle.records.specs.CaseLaws.{Table, holding, allOf}
 use Rattle.records.specs.Search.{seek}
-use Rattle.catalogue_contents.specs.Names.{nameLength, zerosTo, namesTested}
+use Rattle.catalogue_spec.specs.Names.{nameLength, zerosTo, namesTested}
 use Rattle.cover_spec.specs.Cover.{markForced, coverMarked, stays, pass, passes, greatest, mark, choose, turn, turns, cover, listed, coverList}
 use Rattle.protein_groups_members.specs.Members.{Member}
 use Rattle.protein_groups_spec.specs.ProteinGroups.{Pair, Groups, proteins, metas, groupsOf, grouping}
 use Rattle.sorting.specs.Cases.{table as orders, cases as orders-hold}
-use Rattle.catalogue.specs.Cases.{table as books, cases as books-hold}
+use Rattle.catalogue_spec.specs.Cases.{table as books, cases as books-hold}
 use Rattle.modification.specs.Cases.{table as rules, cases as rules-hold}
 use Rattle.enzyme_spec.specs.Cases.{table as digests, cases as digests-hold}
 use Rattle.peptide_choices.specs.Cases.{table as choices, cases as choices-hold}

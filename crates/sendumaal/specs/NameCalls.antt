@@ -3,8 +3,8 @@ use Prim.Native.Nat.{ℕ}
 use mathlib.Core.Path.{_≡_}
 use mathlib.Core.List.{List}
 use Rattle.records.specs.Outcome.{Outcome, outcome, only}
-use Rattle.catalogue_contents.specs.Names.{catalogueTested}
-use Rattle.catalogue.specs.Books.{allLettersTested}
+use Rattle.catalogue_spec.specs.Names.{catalogueTested}
+use Rattle.catalogue_spec.specs.Books.{allLettersTested}
 use Rattle.sendumaal_calls.specs.Calls.{testCall}
 
 abbrev pub namesCall : List ℕ → Outcome ℕ

@@ -4,6 +4,7 @@ use mathlib.Core.Path.{_≡_, sym, ap, _∙_}
 use mathlib.Core.Bool.{true, false}
 use mathlib.Core.List.{List, [], _∷_}
 use lib.Dec.{eqb}
+use Rattle.report_lines_tests.specs.Testing.{tested}
 use Rattle.records.specs.declared.refusal.Refusal.{Refusal}
 use Rattle.records.specs.Outcome.{Outcome, outcome}
 use Rattle.protein_groups.specs.declared.grouping.Sizes.{Sizes}
@@ -11,7 +12,7 @@ use Rattle.protein_groups.specs.declared.grouping.Grouped.{Grouped}
 use Rattle.protein_groups.specs.declared.grouping.Grouped.the-variants.{Made, Refused as No}
 use Rattle.protein_groups.specs.ProteinGrouping.{groupOutcome}
 use Rattle.report_lines.specs.declared.reporting.Reported.{Reported}
-use Rattle.report_lines.specs.Reporting.{tested, lineOutcome}
+use Rattle.report_lines.specs.Reporting.{lineOutcome}
 use Rattle.sendumaal_calls.specs.Calls.{refused, withLent}
 use Rattle.sendumaal_calls.specs.DigestCalls.{fieldCall}
 use Rattle.sendumaal.specs.ProteinCalls.{ProteinsArguments, sizesCall, proteinsCall, LineArguments, reportCall, areFlags, lineCall}

@@ -5,13 +5,14 @@ use mathlib.Core.Path.{_≡_}
 use mathlib.Core.Bool.{Bool, cond, _&&_}
 use mathlib.Core.List.{List, [], _∷_}
 use lib.Dec.{leb, eqb}
+use Rattle.report_lines_tests.specs.Testing.{tested}
 use Rattle.records.specs.Outcome.{Outcome, outcome, only}
 use Rattle.protein_groups.specs.declared.grouping.Grouped.{Grouped}
 use Rattle.protein_groups.specs.declared.grouping.Grouped.the-variants.{Made, Refused as No}
 use Rattle.protein_groups.specs.ProteinGrouping.{groupOutcome}
 use Rattle.report_lines.specs.declared.reporting.Reported.{Reported}
 use Rattle.report_lines.specs.declared.reporting.Reported.the-variants.{Line, Refused as Not}
-use Rattle.report_lines.specs.Reporting.{tested, lineOutcome}
+use Rattle.report_lines.specs.Reporting.{lineOutcome}
 use Rattle.sendumaal_calls.specs.Calls.{accepted, refused, withLent}
 use Rattle.sendumaal_calls.specs.DigestCalls.{fieldCall}
 

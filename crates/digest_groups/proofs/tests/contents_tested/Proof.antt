@@ -1,7 +1,7 @@
 -- `contents_tested` meets its contract. Assumes nothing.
 use mathlib.Core.Path.{_∙_}
 use denote.Ref.{now}
-use Rattle.catalogue_contents.specs.NameLaws.{tested-contents}
+use Rattle.catalogue_spec.specs.NameLaws.{tested-contents}
 use borrow.Author.Needs.{needs}
 use Rattle.digest_groups.proofs.tests.contents_tested.Statement.{statement}
 use Rattle.digest_groups.proofs.tests.contents_tested.Tie as tie

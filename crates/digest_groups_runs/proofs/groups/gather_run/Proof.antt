@@ -9,7 +9,7 @@ use Rattle.digest_groups_runs.proofs.groups.gather_run.Statement.{state
 use Rattle.digest_groups_runs.proofs.groups.gather_run.Tie as tie
 use Rattle.digest_groups_runs.proofs.groups.list_proteins.Reads as list-proteins-reads
 use Rattle.digest_groups_runs.proofs.groups.put_group.Reads as put-group-reads
-use Rattle.sorting.proofs.run_end.Reads as run-end-reads
+use Rattle.sorting_runs.proofs.run_end.Reads as run-end-reads
 
 cast-at : tie.Need-cast-at
 cast-at c = let r = c .before .before .before .before .before .before .before .before .pre .1 in omega (arith, r .numbers (c .before .before .before .before .before .before .before .before .args .lo) (omega arith) (c .before .before .before .before .before .before .before .before .pre .0), r .whole, r .few)

@@ -3,13 +3,13 @@ use Prim.Native.Nat.{_-_, _*_}
 use native.Mathlib.Omega.{arith}
 use mathlib.Core.Path.{_≡_}
 use lib.ListN.{length}
-use Rattle.sorting.specs.SortingLaws.{order-fitting}
+use Rattle.sorting_slices.specs.SortingLaws.{order-fitting}
 use Rattle.digest_groups_runs.specs.TurnLaws.{listed-of}
 use borrow.Author.Needs.{needs}
 use Rattle.digest_groups_runs.proofs.groups.list_proteins.Statement.{statement}
 use Rattle.digest_groups_runs.proofs.groups.list_proteins.Tie as tie
 use Rattle.digest_groups_runs.proofs.groups.take_proteins.Reads as take-proteins-reads
-use Rattle.sorting.proofs.sort.Reads as sort-reads
+use Rattle.sorting_slices.proofs.sort.Reads as sort-reads
 
 take-proteins-requires : tie.Need-take-proteins-requires
 take-proteins-requires c κs =

@@ -1,8 +1,8 @@
 -- `group_proteins` meets its contract: a refusal, or the groups. Assumes nothing.
 use mathlib.Core.Path.{sym, _∙_}
 use lib.ListN.{length}
-use Rattle.protein_groups.specs.ProteinGroupingLaws.{ready}
 use borrow.Author.Needs.{needs}
+use Rattle.protein_groups_tests.specs.TestingLaws.{ready}
 use Rattle.protein_groups.proofs.grouping.group_proteins.Statement.{statement}
 use Rattle.protein_groups.proofs.grouping.group_proteins.Tie as tie
 

@@ -3,8 +3,8 @@ use Prim.Native.Nat.{ℕ, _+_, _*_, _/_, _≤_}
 use native.Mathlib.Omega.{arith}
 use mathlib.Core.Path.{_≡_, _∙_}
 use lib.ListN.{length, replicate, length-replicate}
-use Rattle.protein_groups_copy.specs.Placing.{Laid}
-use Rattle.protein_groups_copy.specs.PlacingLaws.{laid-peptides, laid-shown}
+use Rattle.protein_groups_place.specs.Placing.{Laid}
+use Rattle.protein_groups_place.specs.PlacingLaws.{laid-peptides, laid-shown}
 use Rattle.protein_groups_spec.specs.ProteinGroups.{pairsIn}
 use Rattle.protein_groups_tables.specs.Placed.{keysAt, Placeable, Placed}
 use Rattle.protein_groups.specs.FinishLaws.{tables-fit, keys-below, values-below, zeros-before, left-made}

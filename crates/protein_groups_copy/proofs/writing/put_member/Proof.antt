@@ -1,10 +1,10 @@
 -- `put_member` meets its contract: three stores are one record, where there is room. Assumes nothing.
 use Prim.Native.Nat.{_*_, _<_}
 use mathlib.Core.Path.{_∙_}
+use Rattle.protein_groups_spec.specs.Rows.{memberOf}
 use Rattle.records.specs.Room.{roomOf}
 use Rattle.records.specs.StoreLaws.{stored-full, stored-free}
 use Rattle.protein_groups_members.specs.Members.{memberBytes}
-use Rattle.protein_groups_copy.specs.Placing.{memberOf}
 use Rattle.protein_groups_copy.specs.WritingLaws.{member-stored}
 use borrow.Author.Needs.{needs}
 use Rattle.protein_groups_copy.proofs.writing.put_member.Statement.{statement}

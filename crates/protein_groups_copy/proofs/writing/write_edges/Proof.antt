@@ -4,10 +4,10 @@ use native.Mathlib.Omega.{arith}
 use mathlib.Core.Path.{_≡_, refl, sym, _∙_}
 use mathlib.Core.List.{map}
 use lib.ListN.{length}
+use Rattle.protein_groups_spec.specs.Rows.{standingEdge, standingEdges}
 use Rattle.lists.specs.Lists.{upFrom}
 use Rattle.records.specs.StoreLaws.{storedFrom, length-stored}
 use Rattle.cover_edges.specs.Edges.{edgeBytes}
-use Rattle.protein_groups_copy.specs.Placing.{standingEdge, standingEdges}
 use Rattle.protein_groups_copy.specs.WritingLaws.{writes-start, writes-more, writes-end, edges-fitted}
 use borrow.Author.Needs.{needs}
 use Rattle.protein_groups_copy.proofs.writing.write_edges.Statement.{statement}

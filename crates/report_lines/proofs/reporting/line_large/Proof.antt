@@ -1,6 +1,7 @@
 -- `line_large` meets its contract. Assumes nothing.
 use native.Mathlib.Omega.{arith}
-use Rattle.report_lines.specs.ReportingLaws.{fair-sizes, new-table}
+use Rattle.report_lines_tests.specs.TestingLaws.{fair-sizes}
+use Rattle.report_lines.specs.ReportingLaws.{new-table}
 use borrow.Author.Needs.{needs}
 use Rattle.report_lines.proofs.reporting.line_large.Statement.{statement}
 use Rattle.report_lines.proofs.reporting.line_large.Tie as tie

@@ -1,10 +1,11 @@
 -- `line_over` meets its contract: a refusal, or the line. Assumes nothing.
 use mathlib.Core.Path.{_≡_, sym, _∙_}
 use denote.Ref.{now}
+use Rattle.report_lines_tests.specs.Testing.{contents}
+use Rattle.report_lines_tests.specs.TestingLaws.{contents-told, fair-good}
 use Rattle.records.specs.declared.refusal.Tested.{Tested}
 use Rattle.records.specs.declared.refusal.Tested.the-variants.{Passed}
-use Rattle.report_lines.specs.Reporting.{contents}
-use Rattle.report_lines.specs.ReportingLaws.{names-told, contents-told, fair-good, good-given, good-tag}
+use Rattle.report_lines.specs.ReportingLaws.{names-told, good-given, good-tag}
 use borrow.Author.Needs.{needs}
 use Rattle.report_lines.proofs.reporting.line_over.Statement.{statement}
 use Rattle.report_lines.proofs.reporting.line_over.Tie as tie

@@ -2,7 +2,7 @@
 use mathlib.Core.Path.{_≡_, sym, _∙_}
 use mathlib.Core.Bool.{true, false}
 use denote.Ref.{now}
-use Rattle.report_lines.specs.Reporting.{tooLarge, uneven}
+use Rattle.report_lines_tests.specs.Testing.{tooLarge, uneven}
 use Rattle.report_lines.specs.ReportingLaws.{told-fair}
 use borrow.Author.Needs.{needs}
 use Rattle.report_lines.proofs.reporting.report_line.Statement.{statement}

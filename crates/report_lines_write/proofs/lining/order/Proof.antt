@@ -2,7 +2,7 @@
 use Prim.Native.Nat.{_*_}
 use mathlib.Core.Path.{_≡_}
 use Rattle.sorting_texts.specs.declared.text.By.the-variants.{Joined}
-use Rattle.sorting.specs.Sorting.{arranged}
+use Rattle.sorting_slices.specs.Sorting.{arranged}
 use Rattle.report_lines_write.specs.OrderLaws.{sort-fits, ordered}
 use borrow.Author.Needs.{needs}
 use Rattle.report_lines_write.proofs.lining.order.Statement.{statement}

@@ -1,0 +1,16 @@
+-- `told` meets its contract. Assumes nothing.
+use borrow.Author.Tests.{lt-ltb, le-ltb}
+use Rattle.catalogue_names.proofs.names.told.Statement.{statement}
+use Rattle.catalogue_names.proofs.names.told.Tie as tie
+
+returns : tie.Need-returns
+returns c = rw (lt-ltb (c .before .args .again) (c .before .args .bad) (c .if1 .taken))
+
+returns-2 : tie.Need-returns-2
+returns-2 c = rw (le-ltb (c .before .before .args .again) (c .before .before .args .bad) (c .before .if1 .left), lt-ltb (c .before .before .args .bad) (c .before .before .args .n) (c .if2 .taken))
+
+returns-3 : tie.Need-returns-3
+returns-3 c = rw (le-ltb (c .before .before .args .again) (c .before .before .args .bad) (c .before .if1 .left), le-ltb (c .before .before .args .bad) (c .before .before .args .n) (c .if2 .left))
+
+pub told-spec : {M : Type 1} → statement M
+told-spec = tie.close (tie.spec returns returns-2 returns-3)

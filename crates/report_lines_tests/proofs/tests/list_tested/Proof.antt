@@ -1,0 +1,10 @@
+-- `list_tested` meets its contract. Assumes nothing.
+use borrow.Author.Needs.{needs}
+use Rattle.report_lines_tests.proofs.tests.list_tested.Statement.{statement}
+use Rattle.report_lines_tests.proofs.tests.list_tested.Tie as tie
+
+returns : tie.Need-returns
+returns c = cc
+
+pub list-tested-spec : {M : Type 1} → statement M
+list-tested-spec = tie.close (tie.spec (λ c. search needs) (λ c. search needs) returns)
