@@ -20,8 +20,8 @@ use Rattle.enzyme_windows.specs.WindowLaws.{joined-append}
 use Rattle.enzyme_windows.specs.StartLaws.{startOf, start-next, site-letters}
 use Rattle.enzyme_windows.specs.FirstLaws.{shared-window}
 use Rattle.enzyme_windows.specs.TableLaws.{Counted}
-use Rattle.enzyme_order.specs.Keys.{Site, lettersAt}
-use Rattle.enzyme_runs.specs.Steps.{Has, OneName, Stepped}
+use Rattle.enzyme_keys.specs.Keys.{Site, lettersAt}
+use Rattle.enzyme_rows.specs.Steps.{Has, OneName, Stepped}
 use Rattle.enzyme_sifted.specs.Sifted.{Sifted}
 use Rattle.enzyme_levels.specs.Levels.{Placed, Level}
 use Rattle.enzyme_levels.specs.LevelLaws.{has?, next-level}

@@ -10,7 +10,7 @@ use Rattle.lists.specs.Tests.{same?, below?}
 use Rattle.enzyme_windows.specs.Shared.{SameWindow, Named, sharedSites}
 use Rattle.enzyme_windows.specs.NameLaws.{window-on, window-back}
 use Rattle.enzyme_windows.specs.TableLaws.{Counted, counted-more, counted-same}
-use Rattle.enzyme_runs.specs.Steps.{Has, Stepped}
+use Rattle.enzyme_rows.specs.Steps.{Has, Stepped}
 use Rattle.enzyme_runs.specs.RunLaws.{alike?}
 use Rattle.enzyme_levels.specs.Levels.{Level}
 

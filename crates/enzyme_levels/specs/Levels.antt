@@ -7,8 +7,8 @@ use Rattle.enzyme_windows.specs.Pieces.{joined}
 use Rattle.enzyme_windows.specs.Shared.{SameWindow, Named}
 use Rattle.enzyme_windows.specs.StartLaws.{startOf}
 use Rattle.enzyme_windows.specs.TableLaws.{Counted}
-use Rattle.enzyme_order.specs.Keys.{Site}
-use Rattle.enzyme_runs.specs.Steps.{Has, Apart}
+use Rattle.enzyme_keys.specs.Keys.{Site}
+use Rattle.enzyme_rows.specs.Steps.{Has, Apart}
 
 -- the letters are cut into m texts, and the table says where each starts and where the last one ends
 pub record Placed (ts : List (List ℕ)) (s starts : List ℕ) (m : ℕ) : Type 0 where

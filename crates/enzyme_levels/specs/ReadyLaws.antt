@@ -4,8 +4,8 @@ use mathlib.Core.Path.{_≡_}
 use mathlib.Core.List.{List}
 use native.Mathlib.Omega.{arith}
 use lib.ListN.{length, getD}
-use Rattle.enzyme_order.specs.Keys.{Site}
-use Rattle.enzyme_runs.specs.Steps.{Has, Apart, Sited, Arranged, Runs, Stepped}
+use Rattle.enzyme_keys.specs.Keys.{Site}
+use Rattle.enzyme_rows.specs.Steps.{Has, Apart, Sited, Arranged, Runs, Stepped}
 use Rattle.enzyme_runs.specs.RunLaws.{run-start}
 use Rattle.enzyme_strewn.specs.Shuffled.{Shuffled}
 use Rattle.enzyme_sifted.specs.Sifted.{Sifted}

@@ -1,12 +1,12 @@
 // Windows of more and more sites.
-use enzyme_order::Key;
+use enzyme_keys::Key;
 ghost use mathlib.Core.Path.{_≡_};
 ghost use mathlib.Core.List.{List};
 ghost use Prim.Native.Nat.{ℕ, _+_, _≤_, _<_};
 ghost use lib.ListN.{length, getD};
 ghost use Rattle.enzyme_windows.specs.TableLaws.{Counted};
-ghost use Rattle.enzyme_order.specs.Keys.{Site, lettersAt, keyOf};
-ghost use Rattle.enzyme_runs.specs.Steps.{Ranked, OneName, Stepped};
+ghost use Rattle.enzyme_keys.specs.Keys.{Site, lettersAt, keyOf};
+ghost use Rattle.enzyme_rows.specs.Steps.{Ranked, OneName, Stepped};
 ghost use Rattle.enzyme_sifted.specs.Sifted.{Sifted};
 ghost use Rattle.enzyme_levels.specs.Levels.{Placed, Ready, Level};
 
@@ -28,8 +28,8 @@ fn rank_sites(
     ensures { λ _. ⌜ Ranked (keyOf key (now (letters .entry)) (now (starts .entry)) (now (name .entry)) (now (rank .entry))) (now (order .entry)) (now (order .exit)) (now (other .exit)) (now (rank .entry)) (now (rank .exit)) (now (share .entry)) (now (share .exit)) g n ⌝ }
 {
     enzyme_runs::line_up(key, letters, starts, name, rank, order, other, g);
-    enzyme_runs::bring(order, other, rank, g);
-    enzyme_runs::mark(order, other, share, g, n);
+    enzyme_rows::bring(order, other, rank, g);
+    enzyme_rows::mark(order, other, share, g, n);
 }
 
 // The same, and leaves first in the order those that have the key of another and a site n places on; says how many there are.
@@ -82,7 +82,7 @@ fn sifted_sites(
     ensures { λ r. ⌜ Sifted (now (letters .entry)) (now (starts .entry)) (now (order .exit)) m r × ((i : ℕ) → i < m → (getD (now (name .exit)) i 0 ≡ i) × (getD (now (share .exit)) i 0 ≡ 0)) ⌝ }
 {
     let g = enzyme_sifted::sift(letters, starts, m, order, name, seen);
-    enzyme_runs::count_up(name, share, m);
+    enzyme_rows::count_up(name, share, m);
     enzyme_strewn::strew(letters, starts, order, other, rank, g);
     g
 }
@@ -115,7 +115,7 @@ fn first_names(
         m,
         1,
     );
-    enzyme_runs::name_runs(order, other, name, g);
+    enzyme_rows::name_runs(order, other, name, g);
     enzyme_runs::keep(order, other, g, m, 1)
 }
 

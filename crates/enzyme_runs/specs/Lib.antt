@@ -1,7 +1,5 @@
--- Nothing here has to be believed: Steps says what each step leaves, the files named Laws how. `stepped` of StepLaws joins them.
-pub mod Steps
+-- Nothing here has to be believed: the files named Laws say how the steps go together. `stepped` of StepLaws joins them.
 pub mod RunLaws
 pub mod ArrangeLaws
 pub mod SortedLaws
-pub mod TurnLaws
 pub mod StepLaws

@@ -9,7 +9,7 @@ use lib.ListN.{getD}
 use Rattle.lists.specs.Tests.{below?, truth?, clash}
 use Rattle.lists.specs.Lists.{same}
 use Rattle.lists.specs.SameLaws.{same-refl, same-eq}
-use Rattle.enzyme_runs.specs.Steps.{Lined, Runs}
+use Rattle.enzyme_rows.specs.Steps.{Lined, Runs}
 
 pub alike? : (t u : List ℕ) → (t ≡ u) ⊎ (t ≡ u → ⊥)
 alike? t u = go (truth? (same t u))

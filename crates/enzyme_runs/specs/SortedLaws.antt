@@ -6,10 +6,10 @@ use native.Mathlib.Omega.{arith}
 use lib.ListN.{length, getD, take}
 use lib.Seq.{getD-take, length-take-le}
 use Rattle.sorting_spec.specs.Sort.{sorted}
-use Rattle.enzyme_order.specs.declared.keys.Key.{Key}
-use Rattle.enzyme_order.specs.Keys.{Sites, keyOf, leOf}
-use Rattle.enzyme_order.specs.KeyLaws.{leOf-orders, leOf-rises, leOf-between}
-use Rattle.enzyme_runs.specs.Steps.{Sited, Apart, Arranged}
+use Rattle.enzyme_keys.specs.declared.keys.Key.{Key}
+use Rattle.enzyme_keys.specs.Keys.{Sites, keyOf, leOf}
+use Rattle.enzyme_keys.specs.KeyLaws.{leOf-orders, leOf-rises, leOf-between}
+use Rattle.enzyme_rows.specs.Steps.{Sited, Apart, Arranged}
 use Rattle.enzyme_runs.specs.ArrangeLaws.{sorted-arranged}
 
 pub sited-sites : (s starts order : List ℕ) (g : ℕ) → g ≤ length order → Sited s starts order g → Sites s starts (take g order)

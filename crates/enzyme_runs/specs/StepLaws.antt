@@ -9,7 +9,7 @@ use borrow.Author.Tests.{ltb-true, lt-ltb, ne-eqb}
 use lib.Dec.{ltb, eqb}
 use lib.ListN.{getD}
 use Rattle.lists.specs.Tests.{same?, below?, both}
-use Rattle.enzyme_runs.specs.Steps.{Has, Arranged, Runs, Called, Ranked, OneName, inRun, goesOn, Kept, Stepped}
+use Rattle.enzyme_rows.specs.Steps.{Has, Arranged, Runs, Called, Ranked, OneName, inRun, goesOn, Kept, Stepped}
 use Rattle.enzyme_runs.specs.RunLaws.{run-start, runs-back, runs-same, first-least, first-later, run-later, run-sooner}
 
 module _ (text : ℕ → List ℕ) (y x r x' rank rank' share share' : List ℕ) (g k m n : ℕ)

@@ -1,18 +1,17 @@
 // Sites that go on to windows of one site more.
-use crate::rows;
 ghost use mathlib.Core.Path.{_≡_};
 ghost use mathlib.Core.Bool.{cond, _&&_, not};
 ghost use Prim.Native.Nat.{_+_, _≤_, _<_};
 ghost use lib.Dec.{ltb, eqb};
 ghost use lib.ListN.{length, getD};
-ghost use Rattle.enzyme_runs.specs.Steps.{Apart, inRun, goesOn, Kept};
+ghost use Rattle.enzyme_rows.specs.Steps.{Apart, inRun, goesOn, Kept};
 
 // Whether a run does not start at a place.
 fn joins(runs: &[u16], i: usize) -> bool
     requires { ⌜ i < length (now runs) ⌝ }
     ensures { λ r. ⌜ r ≡ not (eqb (getD (now (runs .entry)) i 0) i) ⌝ }
 {
-    let run = rows::wide(runs[i]);
+    let run = enzyme_keys::wide(runs[i]);
     run != i
 }
 
@@ -32,16 +31,8 @@ fn goes_on(runs: &[u16], x: u16, g: usize, m: usize, n: u8, i: usize) -> bool
 {
     let here = joins(runs, i);
     let there = next_joins(runs, g, i);
-    let on = rows::wide(x) + n as usize;
+    let on = enzyme_keys::wide(x) + n as usize;
     (here | there) & (on < m)
-}
-
-// How many stay, with one more or not.
-fn after(k: usize, more: bool) -> usize
-    requires { ⌜ k < 65536 ⌝ }
-    ensures { λ r. ⌜ r ≡ cond more (k + 1) k ⌝ }
-{
-    if more { k + 1 } else { k }
 }
 
 // Moves those of the first g sites that go on to the front; says how many there are.
@@ -55,7 +46,7 @@ pub fn keep(order: &mut [u16], runs: &[u16], g: usize, m: usize, n: u8) -> usize
         let x = order[i];
         let more = goes_on(runs, x, g, m, n, i);
         order[k] = x;
-        k = after(k, more);
+        k = enzyme_rows::after(k, more);
         i += 1;
     }
     k

@@ -1,23 +1,22 @@
 // Sites put in order, and the runs of those with one key.
-use crate::reading;
-use enzyme_order::Key;
+use enzyme_keys::Key;
 ghost use mathlib.Core.Path.{_≡_};
 ghost use mathlib.Core.Bool.{cond};
 ghost use Prim.Native.Nat.{_≤_};
 ghost use lib.ListN.{length};
 ghost use Rattle.lists.specs.Lists.{same};
-ghost use Rattle.enzyme_order.specs.Keys.{Site, lettersAt, namesAt, keyOf};
-ghost use Rattle.enzyme_runs.specs.Steps.{Apart, Sited, Arranged, Runs};
+ghost use Rattle.enzyme_keys.specs.Keys.{Site, lettersAt, namesAt, keyOf};
+ghost use Rattle.enzyme_rows.specs.Steps.{Apart, Sited, Arranged, Runs};
 
 // Whether two sites have the same letters.
 fn same_site(letters: &[u8], starts: &[u32], a: u16, b: u16) -> bool
     requires { ⌜ Site (now letters) (now starts) a × Site (now letters) (now starts) b ⌝ }
     ensures { λ r. ⌜ r ≡ same (lettersAt (now (letters .entry)) (now (starts .entry)) a) (lettersAt (now (letters .entry)) (now (starts .entry)) b) ⌝ }
 {
-    let p = reading::start_of(starts, a);
-    let q = reading::end_of(starts, a);
-    let u = reading::start_of(starts, b);
-    let v = reading::end_of(starts, b);
+    let p = enzyme_keys::start_of(starts, a);
+    let q = enzyme_keys::end_of(starts, a);
+    let u = enzyme_keys::start_of(starts, b);
+    let v = enzyme_keys::end_of(starts, b);
     enzyme_cuts::equal(&letters[p..q], &letters[u..v])
 }
 
@@ -25,10 +24,10 @@ fn same_site(letters: &[u8], starts: &[u32], a: u16, b: u16) -> bool
 fn same_names(name: &[u16], rank: &[u16], k: usize, a: u16, b: u16) -> bool
     ensures { λ r. ⌜ r ≡ same (namesAt k (now (name .entry)) (now (rank .entry)) a) (namesAt k (now (name .entry)) (now (rank .entry)) b) ⌝ }
 {
-    let x = reading::rank_of(rank, a);
-    let y = reading::rank_of(rank, b);
-    let u = reading::name_on(name, a, k);
-    let v = reading::name_on(name, b, k);
+    let x = enzyme_keys::rank_of(rank, a);
+    let y = enzyme_keys::rank_of(rank, b);
+    let u = enzyme_keys::name_on(name, a, k);
+    let v = enzyme_keys::name_on(name, b, k);
     (x == y) & (u == v)
 }
 
@@ -115,6 +114,6 @@ pub fn line_up(
     requires { ⌜ (g ≤ length (now order)) × (g ≤ length (now runs)) × (g ≤ 65536) × Apart (now order) g × Sited (now letters) (now starts) (now order) g ⌝ }
     ensures { λ _. ⌜ Arranged (keyOf key (now (letters .entry)) (now (starts .entry)) (now (name .entry)) (now (rank .entry))) (now (order .entry)) (now (order .exit)) g × Runs (keyOf key (now (letters .entry)) (now (starts .entry)) (now (name .entry)) (now (rank .entry))) (now (order .exit)) (now (runs .exit)) g ⌝ }
 {
-    enzyme_order::sort(key, letters, starts, name, rank, order, runs, g);
+    enzyme_sort::sort(key, letters, starts, name, rank, order, runs, g);
     number_runs(key, letters, starts, name, rank, order, runs, g);
 }

@@ -1,4 +1,3 @@
--- Nothing here has to be believed: Sifted says which sites are found and Codes how, SiftLaws that none is missed.
-pub mod Codes
+-- Nothing here has to be believed: Sifted says which sites are found, SiftLaws that none is missed.
 pub mod Sifted
 pub mod SiftLaws

@@ -9,9 +9,9 @@ use borrow.Author.Tests.{lt-ltb, le-ltb, le-leb}
 use lib.ListN.{length, getD, set, List·getD-eq-default}
 use lib.Seq.{getD-set-same, getD-set-other, set-getD, set-out}
 use Rattle.lists.specs.Tests.{same?, below?}
-use Rattle.enzyme_runs.specs.Steps.{Has}
-use Rattle.enzyme_runs.specs.TurnLaws.{filled-more}
-use Rattle.enzyme_sifted.specs.Codes.{codeOf, codeAt}
+use Rattle.enzyme_rows.specs.Steps.{Has}
+use Rattle.enzyme_rows.specs.TurnLaws.{filled-more}
+use Rattle.enzyme_codes.specs.Codes.{codeOf, codeAt}
 use Rattle.enzyme_sifted.specs.Sifted.{Sifted, oneMore, raised, CodesSeen, seenTwice, Picked}
 
 -- ---- a code counted

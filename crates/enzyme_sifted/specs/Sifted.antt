@@ -5,8 +5,8 @@ use mathlib.Core.Bool.{Bool, true, cond}
 use mathlib.Core.List.{List}
 use lib.Dec.{ltb, leb}
 use lib.ListN.{getD, set}
-use Rattle.enzyme_order.specs.Keys.{lettersAt}
-use Rattle.enzyme_runs.specs.Steps.{Has, Apart}
+use Rattle.enzyme_keys.specs.Keys.{lettersAt}
+use Rattle.enzyme_rows.specs.Steps.{Has, Apart}
 
 -- of m sites the first g in order; each that has the letters of another is one of them
 pub record Sifted (s starts order : List ℕ) (m g : ℕ) : Type 0 where

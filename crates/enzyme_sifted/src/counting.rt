@@ -1,17 +1,10 @@
 // The codes of all sites, and how often each was seen.
-use crate::coding;
 ghost use mathlib.Core.Path.{_≡_};
 ghost use Prim.Native.Nat.{ℕ, _≤_, _<_};
 ghost use lib.ListN.{length};
-ghost use Rattle.enzyme_order.specs.Keys.{Site};
-ghost use Rattle.enzyme_sifted.specs.Codes.{codeAt};
+ghost use Rattle.enzyme_keys.specs.Keys.{Site};
+ghost use Rattle.enzyme_codes.specs.Codes.{codeAt};
 ghost use Rattle.enzyme_sifted.specs.Sifted.{oneMore, raised, CodesSeen};
-
-pub(crate) fn wide(x: u16) -> usize
-    ensures { λ r. ⌜ r ≡ x ⌝ }
-{
-    x as usize
-}
 
 // One more, up to 2.
 fn one_more(n: u8) -> u8
@@ -24,7 +17,7 @@ fn one_more(n: u8) -> u8
 fn raise(seen: &mut [u8], code: u16)
     ensures { λ _. ⌜ now (seen .exit) ≡ raised (now (seen .entry)) code ⌝ }
 {
-    let i = wide(code);
+    let i = enzyme_keys::wide(code);
     if i < seen.len() {
         seen[i] = one_more(seen[i]);
     }
@@ -38,7 +31,7 @@ pub(crate) fn count(letters: &[u8], starts: &[u32], m: usize, codes: &mut [u16],
     let size = seen.len();
     let mut z = 0;
     while z < m {
-        let code = coding::code_at(letters, starts, z, size);
+        let code = enzyme_codes::code_at(letters, starts, z, size);
         codes[z] = code;
         raise(seen, code);
         z += 1;

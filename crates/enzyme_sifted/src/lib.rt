@@ -1,5 +1,4 @@
 // The sites of a protein that may have the letters of another, found by their codes. Only crates of this repository call this.
-mod coding;
 mod counting;
 mod picking;
 mod sifting;

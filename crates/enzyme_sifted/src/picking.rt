@@ -1,5 +1,4 @@
 // The sites whose codes were seen twice.
-use crate::counting;
 ghost use mathlib.Core.Path.{_≡_};
 ghost use mathlib.Core.Bool.{cond};
 ghost use Prim.Native.Nat.{_+_, _≤_, _<_};
@@ -10,16 +9,8 @@ ghost use Rattle.enzyme_sifted.specs.Sifted.{seenTwice, Picked};
 fn seen_twice(seen: &[u8], code: u16) -> bool
     ensures { λ r. ⌜ r ≡ seenTwice (now (seen .entry)) code ⌝ }
 {
-    let i = counting::wide(code);
+    let i = enzyme_keys::wide(code);
     if i < seen.len() { 2 <= seen[i] } else { true }
-}
-
-// How many are picked, with one more or not.
-fn after(k: usize, more: bool) -> usize
-    requires { ⌜ k < 65536 ⌝ }
-    ensures { λ r. ⌜ r ≡ cond more (k + 1) k ⌝ }
-{
-    if more { k + 1 } else { k }
 }
 
 // Writes those of the first m sites whose codes were seen twice to the front of order; says how many there are.
@@ -33,7 +24,7 @@ pub(crate) fn pick(codes: &[u16], seen: &[u8], m: usize, order: &mut [u16]) -> u
         let site = z as u16;
         let more = seen_twice(seen, codes[z]);
         order[k] = site;
-        k = after(k, more);
+        k = enzyme_rows::after(k, more);
         z += 1;
     }
     k

@@ -3,7 +3,7 @@ use crate::counting;
 use crate::picking;
 ghost use Prim.Native.Nat.{ℕ, _≤_, _<_};
 ghost use lib.ListN.{length};
-ghost use Rattle.enzyme_order.specs.Keys.{Site};
+ghost use Rattle.enzyme_keys.specs.Keys.{Site};
 ghost use Rattle.enzyme_sifted.specs.Sifted.{Sifted};
 
 // Writes the sites that may have the letters of another to the front of order, rising; says how many there are. Whatever stands in

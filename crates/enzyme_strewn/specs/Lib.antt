@@ -1,5 +1,4 @@
--- Nothing here has to be believed: Shuffled says what strewing leaves, Coded what it goes by, the others why.
+-- Nothing here has to be believed: Shuffled says what strewing leaves, the files named Laws why.
 pub mod Shuffled
 pub mod ShuffleLaws
-pub mod Coded
 pub mod CodedLaws

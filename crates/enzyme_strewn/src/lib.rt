@@ -1,5 +1,4 @@
 // Sites strewn into buckets before they are sorted. Only crates of this repository call this.
-mod codes;
 mod counting;
 mod strewing;
 

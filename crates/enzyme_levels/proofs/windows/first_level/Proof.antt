@@ -1,6 +1,6 @@
 -- `first_level` meets its contract. Assumes nothing.
 use native.Mathlib.Omega.{arith}
-use Rattle.enzyme_order.specs.Keys.{lettersAt}
+use Rattle.enzyme_keys.specs.Keys.{lettersAt}
 use Rattle.enzyme_levels.specs.ReadyLaws.{ready-sifted, ready-next}
 use Rattle.enzyme_levels.specs.FirstLaws.{level-one}
 use borrow.Author.Needs.{needs}

@@ -1,5 +1,5 @@
 -- `first_names` meets its contract. Assumes nothing.
-use Rattle.enzyme_order.specs.Keys.{lettersAt}
+use Rattle.enzyme_keys.specs.Keys.{lettersAt}
 use Rattle.enzyme_runs.specs.StepLaws.{stepped, one-name}
 use Rattle.enzyme_levels.specs.ReadyLaws.{for-naming, for-keeping}
 use borrow.Author.Needs.{needs}

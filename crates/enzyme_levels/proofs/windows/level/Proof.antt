@@ -1,7 +1,7 @@
 -- `level` meets its contract. Assumes nothing.
 use Prim.Native.Nat.{_+_}
-use Rattle.enzyme_order.specs.declared.keys.Key.the-variants.{Names}
-use Rattle.enzyme_order.specs.Keys.{keyOf}
+use Rattle.enzyme_keys.specs.declared.keys.Key.the-variants.{Names}
+use Rattle.enzyme_keys.specs.Keys.{keyOf}
 use Rattle.enzyme_levels.specs.ReadyLaws.{ready-next}
 use Rattle.enzyme_levels.specs.LevelLaws.{level-more}
 use borrow.Author.Needs.{needs}

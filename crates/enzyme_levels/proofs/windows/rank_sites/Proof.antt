@@ -1,6 +1,6 @@
 -- `rank_sites` meets its contract. Assumes nothing.
 use native.Mathlib.Omega.{arith}
-use Rattle.enzyme_order.specs.Keys.{keyOf}
+use Rattle.enzyme_keys.specs.Keys.{keyOf}
 use Rattle.enzyme_levels.specs.ReadyLaws.{ready-sited, for-writing}
 use borrow.Author.Needs.{needs}
 use Rattle.enzyme_levels.proofs.windows.rank_sites.Statement.{statement}

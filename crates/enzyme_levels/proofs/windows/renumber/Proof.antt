@@ -1,5 +1,5 @@
 -- `renumber` meets its contract. Assumes nothing.
-use Rattle.enzyme_order.specs.Keys.{keyOf}
+use Rattle.enzyme_keys.specs.Keys.{keyOf}
 use Rattle.enzyme_runs.specs.StepLaws.{stepped}
 use borrow.Author.Needs.{needs}
 use Rattle.enzyme_levels.proofs.windows.renumber.Statement.{statement}

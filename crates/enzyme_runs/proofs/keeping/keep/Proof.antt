@@ -4,8 +4,8 @@ use lib.ListN.{getD}
 use Prim.Native.Nat.{_≤_, _<_, _-_}
 use native.Mathlib.Omega.{arith}
 use borrow.Author.Needs.{needs}
-use Rattle.enzyme_runs.specs.Steps.{goesOn, Kept}
-use Rattle.enzyme_runs.specs.TurnLaws.{kept-none, kept-turn}
+use Rattle.enzyme_rows.specs.Steps.{goesOn, Kept}
+use Rattle.enzyme_rows.specs.TurnLaws.{kept-none, kept-turn}
 use Rattle.enzyme_runs.proofs.keeping.keep.Statement.{statement}
 use Rattle.enzyme_runs.proofs.keeping.keep.Tie as tie
 

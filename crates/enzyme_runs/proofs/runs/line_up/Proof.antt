@@ -1,6 +1,6 @@
 -- `line_up` meets its contract. Assumes nothing.
 use native.Mathlib.Omega.{arith}
-use Rattle.enzyme_order.specs.Keys.{keyOf}
+use Rattle.enzyme_keys.specs.Keys.{keyOf}
 use Rattle.enzyme_runs.specs.SortedLaws.{sited-sites, sort-arranged, sited-arranged}
 use borrow.Author.Needs.{needs}
 use Rattle.enzyme_runs.proofs.runs.line_up.Statement.{statement}

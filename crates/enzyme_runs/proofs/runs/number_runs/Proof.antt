@@ -3,9 +3,9 @@ use Prim.Native.Nat.{_≤_, _<_, _-_}
 use mathlib.Core.Path.{_≡_, refl, _∙_}
 use lib.ListN.{length, getD, length-set}
 use native.Mathlib.Omega.{arith}
-use Rattle.enzyme_order.specs.Keys.{keyOf}
-use Rattle.enzyme_runs.specs.Steps.{Runs}
-use Rattle.enzyme_runs.specs.TurnLaws.{Passed, passed-none, passed-more, passed-has, runs-none, runs-more}
+use Rattle.enzyme_keys.specs.Keys.{keyOf}
+use Rattle.enzyme_rows.specs.Steps.{Runs}
+use Rattle.enzyme_rows.specs.TurnLaws.{Passed, passed-none, passed-more, passed-has, runs-none, runs-more}
 use Rattle.enzyme_runs.proofs.runs.number_runs.Statement.{statement}
 use Rattle.enzyme_runs.proofs.runs.number_runs.Tie as tie
 

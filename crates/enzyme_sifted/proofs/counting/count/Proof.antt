@@ -3,7 +3,7 @@ use Prim.Native.Nat.{_≤_, _-_}
 use mathlib.Core.Path.{_≡_, refl, _∙_}
 use lib.ListN.{length, length-set}
 use native.Mathlib.Omega.{arith}
-use Rattle.enzyme_sifted.specs.Codes.{codeAt}
+use Rattle.enzyme_codes.specs.Codes.{codeAt}
 use Rattle.enzyme_sifted.specs.Sifted.{CodesSeen}
 use Rattle.enzyme_sifted.specs.SiftLaws.{seen-none, seen-more}
 use borrow.Author.Needs.{needs}
