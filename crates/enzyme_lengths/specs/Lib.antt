@@ -1,7 +1,6 @@
--- Nothing here is for a reader to believe: Longest, Listing and Blocks say what the code does; the files named Laws say what follows.
+-- Nothing here is for a reader to believe: Longest and Listing say what the code does; the files named Laws say what follows.
 pub mod Longest
 pub mod LongestLaws
 pub mod Listing
 pub mod ListingLaws
-pub mod Blocks
-pub mod BlockLaws
+pub mod StartLaws

@@ -1,7 +1,8 @@
 // The ranges of "none" as records.
-use crate::blocks::block_end;
-use crate::blocks::fill_least;
-use crate::blocks::lesser;
+use enzyme_blocks::block_end;
+use enzyme_blocks::fill_least;
+use enzyme_blocks::lesser;
+use enzyme_blocks::wide;
 use enzyme_keep::Step;
 use enzyme_keep::Terms;
 ghost use mathlib.Core.Path.{_≡_};
@@ -11,13 +12,7 @@ ghost use Rattle.enzyme_cuts.specs.Cutting.{starting, ofLength, noneSites};
 ghost use Rattle.enzyme_keep.specs.Steps.{after, offers};
 ghost use Rattle.enzyme_lengths.specs.Longest.{Longests, Measured};
 ghost use Rattle.enzyme_lengths.specs.Listing.{chosenOf};
-ghost use Rattle.enzyme_lengths.specs.Blocks.{Above, Blocked};
-
-fn wide(x: u32) -> usize
-    ensures { λ r. ⌜ r ≡ x ⌝ }
-{
-    x as usize
-}
+ghost use Rattle.enzyme_blocks.specs.Blocks.{Above, Blocked};
 
 // Writes the new ranges of a length that start from `from` to `to`.
 fn list_starts(

@@ -1,12 +1,7 @@
-// Samples of a list of records that rises: the last one below a range is found by halving. They are only advice: a search of
-// the list may begin at any record of it that is below. Only crates of this repository call these.
+// Samples of a list of records put in and taken out. Only crates of this repository call these.
 mod marking;
-mod sampling;
 
 pub use marking::count_one;
 pub use marking::mark_first;
 pub use marking::split;
 pub use marking::thin;
-pub use sampling::head_of;
-pub use sampling::last_below;
-pub use sampling::sample;

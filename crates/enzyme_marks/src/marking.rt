@@ -1,9 +1,9 @@
 // Samples put in and taken out.
-use crate::sampling::head_at;
-use crate::sampling::sample;
+use enzyme_search::head_at;
+use enzyme_search::sample;
 ghost use Prim.Native.Nat.{_+_, _*_, _≤_, _<_};
 ghost use lib.ListN.{length};
-ghost use Rattle.enzyme_marks.specs.Marks.{Has0, Marked, Alike, First, MovedUp, PutIn, Thinned};
+ghost use Rattle.enzyme_search.specs.Marks.{Has0, Marked, Alike, First, MovedUp, PutIn, Thinned};
 
 // The record n links behind record t.
 fn follow(out: &[u8], count: usize, head: usize, t: usize, n: usize) -> usize

@@ -15,7 +15,7 @@ use Rattle.enzyme_list.specs.declared.offering.Run.{Run as Ends}
 use Rattle.enzyme_list.specs.declared.offering.Offered.the-variants as list
 use Rattle.enzyme_list.specs.Offer.{Came, Wrote}
 use Rattle.enzyme_list.specs.WriteLaws.{wrote-other}
-use Rattle.enzyme_marks.specs.Marks.{markAt, Marked}
+use Rattle.enzyme_search.specs.Marks.{markAt, Marked}
 use Rattle.enzyme_samples.specs.declared.offering.Run.{Run}
 use Rattle.enzyme_samples.specs.declared.offering.Offered.the-variants.{Left, NoRoom}
 use Rattle.enzyme_samples.specs.Ready.{Ready, Offers, Noted}

@@ -14,7 +14,7 @@ use Rattle.enzyme_keep.specs.Steps.{View}
 use Rattle.enzyme_words.specs.Words.{Far}
 use Rattle.enzyme_once.specs.DistinctLaws.{Distinct}
 use Rattle.enzyme_list.specs.Offer.{Keeps, Knows}
-use Rattle.enzyme_marks.specs.Marks.{Marked}
+use Rattle.enzyme_search.specs.Marks.{Marked}
 use Rattle.enzyme_samples.specs.declared.offering.Run.{Run}
 use Rattle.enzyme_samples.specs.declared.offering.Offered.{Offered}
 use Rattle.enzyme_samples.specs.declared.offering.Offered.the-variants.{Left, NoRoom}

@@ -4,7 +4,7 @@ ghost use mathlib.Core.Path.{_≡_};
 ghost use mathlib.Core.Bool.{false};
 ghost use Prim.Native.Nat.{_-_, _*_, _≤_, _<_};
 ghost use lib.ListN.{length};
-ghost use Rattle.enzyme_marks.specs.Marks.{Chained, Marked};
+ghost use Rattle.enzyme_search.specs.Marks.{Chained, Marked};
 ghost use Rattle.enzyme_samples.specs.Ready.{Noted};
 
 // Whether there are as many samples as there may be. Making way for one more costs as many moves as there are samples, but

@@ -86,9 +86,9 @@ fn seek_range(
     requires { ⌜ Ready (now letters) (now far) (range a e missed semi ∷ []) run (now out) (now marks) × (e - a ≤ getD (now far) a 0) ⌝ }
     ensures { λ r. ⌜ Offers (now (letters .entry)) (now (far .entry)) terms (range a e missed semi ∷ []) run (now (out .entry)) (now (marks .entry)) r (now (out .exit)) (now (marks .exit)) ⌝ }
 {
-    let head = enzyme_marks::head_of(&letters[a..e]);
-    let k = enzyme_marks::last_below(letters, out, run.count, marks, run.samples, a, e, head);
-    let from = enzyme_marks::sample(marks, k);
+    let head = enzyme_search::head_of(&letters[a..e]);
+    let k = enzyme_search::last_below(letters, out, run.count, marks, run.samples, a, e, head);
+    let from = enzyme_search::sample(marks, k);
     let got = enzyme_list::offer(
         letters,
         a,

@@ -1,9 +1,3 @@
--- Nothing here has to be believed: Walk says what the tables stand for, Going where a loop stands; the files named Laws say
--- what follows.
-pub mod Walk
-pub mod WalkLaws
+-- Nothing here has to be believed: the files named Laws say what of the tables the ranges need.
 pub mod SpotLaws
 pub mod SemiLaws
-pub mod Going
-pub mod GoingLaws
-pub mod PassLaws

@@ -13,7 +13,7 @@ use Rattle.enzyme_samples.specs.declared.offering.Offered.{Offered}
 use Rattle.enzyme_samples.specs.Ready.{started, Ready, stepOf, Offers}
 use Rattle.enzyme_words.specs.Words.{Far}
 use Rattle.enzyme_samples.specs.ReadyLaws.{ready-start}
-use Rattle.enzyme_semi.specs.Walk.{sitesIn}
+use Rattle.enzyme_parts.specs.Walk.{sitesIn}
 use Rattle.enzyme_semi.specs.SpotLaws.{fresh-spots}
 
 module _ (h : ℕ → ℕ) (k : Knife) (missed : ℕ) (s x : List ℕ) (m : ℕ) (g : Starts k s x m) (f out marks : List ℕ) where

@@ -13,7 +13,7 @@ use Rattle.enzyme_once.specs.SpotLaws.{spots}
 use Rattle.enzyme_fresh.specs.Fresh.{freshFrom, fresh}
 use Rattle.enzyme_fresh.specs.FreshLaws.{filled-pieces}
 use Rattle.enzyme_sites.specs.Starts.{Starts}
-use Rattle.enzyme_semi.specs.Walk.{placeIn, sitesIn}
+use Rattle.enzyme_parts.specs.Walk.{placeIn, sitesIn}
 
 placed-spots : (f : ℕ → ℕ) (i a : ℕ) (ts : List (List ℕ)) → ((j : ℕ) → j ≤ length ts → f (i + j) ≡ a + startOf ts j) → placed a ts ≡ spots f i (length ts)
 placed-spots f i a [] h = refl

@@ -1,8 +1,6 @@
 // Each different range of a set with the semi flag once, offered by the table of starts. Only crates of this repository
 // call this.
-mod cuts;
 mod owns;
-mod parts;
 mod semi;
 mod windows;
 

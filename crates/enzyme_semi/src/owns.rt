@@ -1,7 +1,7 @@
 // The parts of windows of neighbouring sites, by the table of their starts; those whose letters an earlier one has are left out.
-use crate::parts::offer_own;
 use crate::windows::place;
 use enzyme_keep::Terms;
+use enzyme_parts::offer_own;
 use enzyme_samples::Offered;
 use enzyme_samples::Run;
 ghost use mathlib.Core.Path.{_≡_};
@@ -10,7 +10,7 @@ ghost use lib.ListN.{length};
 ghost use Rattle.enzyme_once.specs.Once.{own};
 ghost use Rattle.enzyme_fresh.specs.Fresh.{freshOwns, freshFrom};
 ghost use Rattle.enzyme_samples.specs.Ready.{Ready, Offers};
-ghost use Rattle.enzyme_semi.specs.Walk.{sitesIn, siteIn, sharedIn, freshIn};
+ghost use Rattle.enzyme_parts.specs.Walk.{sitesIn, siteIn, sharedIn, freshIn};
 
 // Offers the parts of the window of the sites i to j.
 fn offer_parts(

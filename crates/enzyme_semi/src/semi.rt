@@ -16,7 +16,7 @@ ghost use Rattle.enzyme_fresh.specs.Fresh.{freshFrom, fresh};
 ghost use Rattle.enzyme_sites.specs.Starts.{Starts};
 ghost use Rattle.enzyme_samples.specs.Ready.{Ready, Offers};
 ghost use Rattle.enzyme_words.specs.Words.{Far};
-ghost use Rattle.enzyme_semi.specs.Walk.{sitesIn, sharedIn};
+ghost use Rattle.enzyme_parts.specs.Walk.{sitesIn, sharedIn};
 
 // Offers all windows, and behind them the parts of those that are new.
 fn offer_both(

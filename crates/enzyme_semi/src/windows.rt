@@ -9,7 +9,7 @@ ghost use Prim.Native.Nat.{suc, _+_, _<_, _≤_};
 ghost use lib.ListN.{length};
 ghost use Rattle.enzyme_cuts.specs.Cutting.{range, windows, windowsFrom};
 ghost use Rattle.enzyme_samples.specs.Ready.{Ready, Offers};
-ghost use Rattle.enzyme_semi.specs.Walk.{placeIn, sitesIn};
+ghost use Rattle.enzyme_parts.specs.Walk.{placeIn, sitesIn};
 
 // The place at which site i starts.
 pub(crate) fn place(starts: &[u32], i: usize) -> usize

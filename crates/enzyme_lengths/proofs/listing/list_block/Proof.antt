@@ -1,6 +1,6 @@
 -- `list_block` meets its contract: of a block that has enough nothing is chosen. Assumes nothing.
 use denote.Ref.{now}
-use Rattle.enzyme_lengths.specs.BlockLaws.{block-passed}
+use Rattle.enzyme_lengths.specs.StartLaws.{block-passed}
 use borrow.Author.Needs.{needs}
 use Rattle.enzyme_lengths.proofs.listing.list_block.Statement.{statement}
 use Rattle.enzyme_lengths.proofs.listing.list_block.Tie as tie

@@ -6,7 +6,8 @@ use denote.Ref.{now}
 use lib.ListN.{length}
 use Rattle.enzyme_cuts.specs.Cutting.{starting}
 use Rattle.enzyme_lengths.specs.Listing.{chosenOf}
-use Rattle.enzyme_lengths.specs.BlockLaws.{block-above, walk-kept, walk-full, starts-end}
+use Rattle.enzyme_blocks.specs.BlockLaws.{block-above}
+use Rattle.enzyme_lengths.specs.StartLaws.{walk-kept, walk-full, starts-end}
 use borrow.Author.Needs.{needs}
 use Rattle.enzyme_lengths.proofs.listing.list_blocks.Statement.{statement}
 use Rattle.enzyme_lengths.proofs.listing.list_blocks.Tie as tie

@@ -4,7 +4,8 @@ use mathlib.Core.Path.{refl}
 use Prim.Native.Nat.{_+_, _/_}
 use denote.Ref.{now}
 use lib.ListN.{length}
-use Rattle.enzyme_lengths.specs.BlockLaws.{block-above, block-passed}
+use Rattle.enzyme_blocks.specs.BlockLaws.{block-above}
+use Rattle.enzyme_lengths.specs.StartLaws.{block-passed}
 use borrow.Author.Needs.{needs}
 use Rattle.enzyme_lengths.proofs.listing.list_great.Statement.{statement}
 use Rattle.enzyme_lengths.proofs.listing.list_great.Tie as tie

@@ -6,7 +6,7 @@ use denote.Ref.{now}
 use lib.ListN.{length}
 use Rattle.enzyme_cuts.specs.Cutting.{starting, ofLength}
 use Rattle.enzyme_lengths.specs.Listing.{chosenOf}
-use Rattle.enzyme_lengths.specs.BlockLaws.{walk-kept, walk-full, starts-end}
+use Rattle.enzyme_lengths.specs.StartLaws.{walk-kept, walk-full, starts-end}
 use borrow.Author.Needs.{needs}
 use Rattle.enzyme_lengths.proofs.listing.list_length.Statement.{statement}
 use Rattle.enzyme_lengths.proofs.listing.list_length.Tie as tie

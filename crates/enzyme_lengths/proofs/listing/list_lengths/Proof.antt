@@ -9,7 +9,7 @@ use Rattle.enzyme_cuts.specs.Cutting.{Range, ofLength, ofLengths, noneSites}
 use Rattle.enzyme_lengths.specs.ListingLaws.{lengths-on}
 use Rattle.enzyme_lengths.specs.Listing.{chosenOf}
 use Rattle.enzyme_lengths.specs.ListingLaws.{chosen-kept, chosen-full}
-use Rattle.enzyme_lengths.specs.BlockLaws.{lengths-stop}
+use Rattle.enzyme_lengths.specs.StartLaws.{lengths-stop}
 use borrow.Author.Needs.{needs}
 use Rattle.enzyme_lengths.proofs.listing.list_lengths.Statement.{statement}
 use Rattle.enzyme_lengths.proofs.listing.list_lengths.Tie as tie

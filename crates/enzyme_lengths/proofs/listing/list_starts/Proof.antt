@@ -8,7 +8,7 @@ use lib.ListN.{length}
 use Rattle.enzyme_cuts.specs.Cutting.{Range, site, starting}
 use Rattle.enzyme_lengths.specs.Listing.{chosenOf}
 use Rattle.enzyme_lengths.specs.ListingLaws.{one-kept, one-full}
-use Rattle.enzyme_lengths.specs.BlockLaws.{starts-on, starts-end}
+use Rattle.enzyme_lengths.specs.StartLaws.{starts-on, starts-end}
 use borrow.Author.Needs.{needs}
 use Rattle.enzyme_lengths.proofs.listing.list_starts.Statement.{statement}
 use Rattle.enzyme_lengths.proofs.listing.list_starts.Tie as tie

@@ -1,6 +1,6 @@
 -- `count_one` meets its contract. Assumes nothing.
 use denote.Ref.{now}
-use Rattle.enzyme_marks.specs.MarkLaws.{sized-alike}
+use Rattle.enzyme_search.specs.MarkLaws.{sized-alike}
 use borrow.Author.Needs.{needs}
 use Rattle.enzyme_marks.proofs.marking.count_one.Statement.{statement}
 use Rattle.enzyme_marks.proofs.marking.count_one.Tie as tie

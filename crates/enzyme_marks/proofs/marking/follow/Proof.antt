@@ -2,8 +2,8 @@
 use Prim.Native.Nat.{_-_}
 use native.Mathlib.Omega.{arith}
 use denote.Ref.{now}
-use Rattle.enzyme_marks.specs.Marks.{Has0}
-use Rattle.enzyme_marks.specs.MarkLaws.{next-has, has-few}
+use Rattle.enzyme_search.specs.Marks.{Has0}
+use Rattle.enzyme_search.specs.MarkLaws.{next-has, has-few}
 use Rattle.enzyme_marks.proofs.marking.follow.Statement.{statement}
 use Rattle.enzyme_marks.proofs.marking.follow.Tie as tie
 

@@ -3,8 +3,8 @@ use Prim.Native.Nat.{_≤_}
 use mathlib.Core.Path.{_≡_}
 use native.Mathlib.Omega.{arith}
 use denote.Ref.{now}
-use Rattle.enzyme_marks.specs.Marks.{MovedUp}
-use Rattle.enzyme_marks.specs.MarkLaws.{moved-none, moved-on}
+use Rattle.enzyme_search.specs.Marks.{MovedUp}
+use Rattle.enzyme_search.specs.MarkLaws.{moved-none, moved-on}
 use Rattle.enzyme_marks.proofs.marking.make_way.Statement.{statement}
 use Rattle.enzyme_marks.proofs.marking.make_way.Tie as tie
 

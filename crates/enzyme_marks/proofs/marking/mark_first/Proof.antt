@@ -2,7 +2,7 @@
 use native.Mathlib.Omega.{arith}
 use lib.ListN.{length-set}
 use denote.Ref.{now}
-use Rattle.enzyme_marks.specs.MarkLaws.{first-other, first-new, first-over}
+use Rattle.enzyme_search.specs.MarkLaws.{first-other, first-new, first-over}
 use borrow.Author.Needs.{needs}
 use Rattle.enzyme_marks.proofs.marking.mark_first.Statement.{statement}
 use Rattle.enzyme_marks.proofs.marking.mark_first.Tie as tie

@@ -2,7 +2,7 @@
 use native.Mathlib.Omega.{arith}
 use lib.ListN.{length-set}
 use denote.Ref.{now}
-use Rattle.enzyme_marks.specs.MarkLaws.{put-more}
+use Rattle.enzyme_search.specs.MarkLaws.{put-more}
 use borrow.Author.Needs.{needs}
 use Rattle.enzyme_marks.proofs.marking.put_in.Statement.{statement}
 use Rattle.enzyme_marks.proofs.marking.put_in.Tie as tie

@@ -1,7 +1,7 @@
 -- `split` meets its contract. Assumes nothing.
 use native.Mathlib.Omega.{arith}
 use denote.Ref.{now}
-use Rattle.enzyme_marks.specs.MarkLaws.{sample-has, has-few, put-marked}
+use Rattle.enzyme_search.specs.MarkLaws.{sample-has, has-few, put-marked}
 use borrow.Author.Needs.{needs}
 use Rattle.enzyme_marks.proofs.marking.split.Statement.{statement}
 use Rattle.enzyme_marks.proofs.marking.split.Tie as tie

@@ -3,8 +3,8 @@ use Prim.Native.Nat.{_+_, _-_, _*_, _≤_}
 use native.Mathlib.Omega.{arith}
 use lib.ListN.{getD, length-set}
 use denote.Ref.{now}
-use Rattle.enzyme_marks.specs.Marks.{Thinning}
-use Rattle.enzyme_marks.specs.MarkLaws.{thinning-none, thinning-on}
+use Rattle.enzyme_search.specs.Marks.{Thinning}
+use Rattle.enzyme_search.specs.MarkLaws.{thinning-none, thinning-on}
 use Rattle.enzyme_marks.proofs.marking.thin.Statement.{statement}
 use Rattle.enzyme_marks.proofs.marking.thin.Tie as tie
 

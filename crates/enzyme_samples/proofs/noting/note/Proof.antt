@@ -1,7 +1,7 @@
 -- `note` meets its contract. Assumes nothing.
 use native.Mathlib.Omega.{arith}
 use denote.Ref.{now}
-use Rattle.enzyme_marks.specs.MarkLaws.{has-few, chained-first, first-marked, alike-marked}
+use Rattle.enzyme_search.specs.MarkLaws.{has-few, chained-first, first-marked, alike-marked}
 use borrow.Author.Needs.{needs}
 use Rattle.enzyme_samples.proofs.noting.note.Statement.{statement}
 use Rattle.enzyme_samples.proofs.noting.note.Tie as tie

@@ -2,7 +2,7 @@
 use mathlib.Core.Path.{refl}
 use native.Mathlib.Omega.{arith}
 use denote.Ref.{now}
-use Rattle.enzyme_marks.specs.MarkLaws.{thin-marked}
+use Rattle.enzyme_search.specs.MarkLaws.{thin-marked}
 use borrow.Author.Needs.{needs}
 use Rattle.enzyme_samples.proofs.noting.settle.Statement.{statement}
 use Rattle.enzyme_samples.proofs.noting.settle.Tie as tie

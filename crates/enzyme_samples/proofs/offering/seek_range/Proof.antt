@@ -1,7 +1,7 @@
 -- `seek_range` meets its contract. Assumes nothing.
 use denote.Ref.{now}
 use Rattle.enzyme_cuts.specs.Cutting.{range, site, part}
-use Rattle.enzyme_marks.specs.MarkLaws.{marked-numbered, below-begun}
+use Rattle.enzyme_search.specs.MarkLaws.{marked-numbered, below-begun}
 use Rattle.enzyme_samples.specs.RangeLaws.{sought-left, sought-noted, sought-full, sought-marked}
 use borrow.Author.Needs.{needs}
 use Rattle.enzyme_samples.proofs.offering.seek_range.Statement.{statement}

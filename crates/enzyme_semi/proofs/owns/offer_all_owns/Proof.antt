@@ -5,10 +5,10 @@ use native.Mathlib.Omega.{arith}
 use native.Mathlib.Numerals.{add-one}
 use borrow.Author.Needs.{needs}
 use Rattle.enzyme_fresh.specs.Fresh.{freshOwns, freshFrom}
-use Rattle.enzyme_semi.specs.Walk.{sitesIn, sharedIn}
-use Rattle.enzyme_semi.specs.WalkLaws.{fresh-sizes-on, fresh-sizes-end}
-use Rattle.enzyme_semi.specs.Going.{Going}
-use Rattle.enzyme_semi.specs.GoingLaws.{going-start, going-end, going-first, going-on, going-full}
+use Rattle.enzyme_parts.specs.Walk.{sitesIn, sharedIn}
+use Rattle.enzyme_parts.specs.WalkLaws.{fresh-sizes-on, fresh-sizes-end}
+use Rattle.enzyme_parts.specs.Going.{Going}
+use Rattle.enzyme_parts.specs.GoingLaws.{going-start, going-end, going-first, going-on, going-full}
 use Rattle.enzyme_semi.proofs.owns.offer_all_owns.Statement.{statement}
 use Rattle.enzyme_semi.proofs.owns.offer_all_owns.Tie as tie
 

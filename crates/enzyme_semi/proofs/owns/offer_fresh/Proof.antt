@@ -2,7 +2,7 @@
 use native.Mathlib.Omega.{arith}
 use denote.Ref.{now}
 use Rattle.enzyme_samples.specs.ReadyLaws.{offers-none}
-use Rattle.enzyme_semi.specs.WalkLaws.{fresh-none, fresh-all}
+use Rattle.enzyme_parts.specs.WalkLaws.{fresh-none, fresh-all}
 use borrow.Author.Needs.{needs}
 use Rattle.enzyme_semi.proofs.owns.offer_fresh.Statement.{statement}
 use Rattle.enzyme_semi.proofs.owns.offer_fresh.Tie as tie

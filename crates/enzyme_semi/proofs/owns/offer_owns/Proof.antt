@@ -3,10 +3,10 @@ use native.Mathlib.Omega.{arith}
 use borrow.Author.Needs.{needs}
 use Prim.Native.Nat.{_+_, _-_, _≤_}
 use Rattle.enzyme_fresh.specs.Fresh.{freshOwns}
-use Rattle.enzyme_semi.specs.Walk.{sitesIn, sharedIn, freshIn, freshIns}
-use Rattle.enzyme_semi.specs.WalkLaws.{fresh-on, fresh-end, fresh-start}
-use Rattle.enzyme_semi.specs.Going.{Going}
-use Rattle.enzyme_semi.specs.GoingLaws.{going-start, going-end, going-first, going-on, going-full}
+use Rattle.enzyme_parts.specs.Walk.{sitesIn, sharedIn, freshIn, freshIns}
+use Rattle.enzyme_parts.specs.WalkLaws.{fresh-on, fresh-end, fresh-start}
+use Rattle.enzyme_parts.specs.Going.{Going}
+use Rattle.enzyme_parts.specs.GoingLaws.{going-start, going-end, going-first, going-on, going-full}
 use Rattle.enzyme_semi.proofs.owns.offer_owns.Statement.{statement}
 use Rattle.enzyme_semi.proofs.owns.offer_owns.Tie as tie
 

@@ -3,7 +3,7 @@ use Prim.Native.Nat.{suc}
 use Rattle.enzyme_cuts.specs.Cutting.{windowsFrom}
 use Rattle.enzyme_fresh.specs.Fresh.{freshFrom}
 use Rattle.enzyme_samples.specs.ReadyLaws.{ready-first, offers-then, offers-full}
-use Rattle.enzyme_semi.specs.Walk.{sitesIn, sharedIn}
+use Rattle.enzyme_parts.specs.Walk.{sitesIn, sharedIn}
 use borrow.Author.Needs.{needs}
 use Rattle.enzyme_semi.proofs.semi.offer_both.Statement.{statement}
 use Rattle.enzyme_semi.proofs.semi.offer_both.Tie as tie

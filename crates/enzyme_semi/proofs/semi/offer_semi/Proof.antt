@@ -1,7 +1,7 @@
 -- `offer_semi` meets its contract. Assumes nothing.
 use denote.Ref.{now}
 use Rattle.enzyme_samples.specs.declared.offering.Offered.the-variants.{Left, NoRoom}
-use Rattle.enzyme_semi.specs.Walk.{sharedIn}
+use Rattle.enzyme_parts.specs.Walk.{sharedIn}
 use Rattle.enzyme_semi.specs.SemiLaws.{semi-ready, semi-view}
 use borrow.Author.Needs.{needs}
 use Rattle.enzyme_semi.proofs.semi.offer_semi.Statement.{statement}

@@ -5,10 +5,10 @@ use native.Mathlib.Omega.{arith}
 use native.Mathlib.Numerals.{add-one}
 use borrow.Author.Needs.{needs}
 use Rattle.enzyme_cuts.specs.Cutting.{windows, windowsFrom}
-use Rattle.enzyme_semi.specs.Walk.{sitesIn}
-use Rattle.enzyme_semi.specs.WalkLaws.{sizes-on, sizes-end}
-use Rattle.enzyme_semi.specs.Going.{Going}
-use Rattle.enzyme_semi.specs.GoingLaws.{going-start, going-end, going-first, going-on, going-full}
+use Rattle.enzyme_parts.specs.Walk.{sitesIn}
+use Rattle.enzyme_parts.specs.WalkLaws.{sizes-on, sizes-end}
+use Rattle.enzyme_parts.specs.Going.{Going}
+use Rattle.enzyme_parts.specs.GoingLaws.{going-start, going-end, going-first, going-on, going-full}
 use Rattle.enzyme_semi.proofs.windows.offer_all_windows.Statement.{statement}
 use Rattle.enzyme_semi.proofs.windows.offer_all_windows.Tie as tie
 

@@ -4,10 +4,10 @@ use borrow.Author.Needs.{needs}
 use Prim.Native.Nat.{_-_, _≤_}
 use Rattle.enzyme_cuts.specs.Cutting.{windows}
 use Rattle.enzyme_once.specs.SpotLaws.{spans}
-use Rattle.enzyme_semi.specs.Walk.{placeIn, sitesIn}
-use Rattle.enzyme_semi.specs.WalkLaws.{spans-on, spans-end, windows-start}
-use Rattle.enzyme_semi.specs.Going.{Going}
-use Rattle.enzyme_semi.specs.GoingLaws.{going-start, going-end, one-first, one-on, one-full}
+use Rattle.enzyme_parts.specs.Walk.{placeIn, sitesIn}
+use Rattle.enzyme_parts.specs.WalkLaws.{spans-on, spans-end, windows-start}
+use Rattle.enzyme_parts.specs.Going.{Going}
+use Rattle.enzyme_parts.specs.GoingLaws.{going-start, going-end, one-first, one-on, one-full}
 use Rattle.enzyme_semi.proofs.windows.offer_windows.Statement.{statement}
 use Rattle.enzyme_semi.proofs.windows.offer_windows.Tie as tie
 

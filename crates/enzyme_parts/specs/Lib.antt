@@ -1,0 +1,7 @@
+-- Nothing here has to be believed: Walk says what the tables stand for, Going where a loop stands; the files named Laws say
+-- what follows.
+pub mod Walk
+pub mod WalkLaws
+pub mod Going
+pub mod GoingLaws
+pub mod PassLaws

@@ -1,0 +1,108 @@
+-- What is ahead of each loop of the code: one turn, and the end. Assumes nothing.
+use Prim.Native.Nat.{ℕ, zero, suc, _+_, _-_, _≤_, _<_}
+use mathlib.Core.Path.{_≡_, refl, ap, _∙_}
+use mathlib.Core.Bool.{Bool, true, false, cond}
+use mathlib.Core.List.{List, [], _∷_, _++_}
+use native.Mathlib.Omega.{arith}
+use native.Mathlib.Numerals.{add-one}
+use lib.Dec.{ltb}
+use borrow.Author.Tests.{lt-ltb, le-ltb}
+use Rattle.enzyme_cuts.specs.Cutting.{Range, range, site, halves, windows, windowsFrom}
+use Rattle.enzyme_once.specs.Once.{endings, openings, own}
+use Rattle.enzyme_once.specs.SpotLaws.{spots, spans, drop-spots, windows-spans}
+use Rattle.enzyme_fresh.specs.Fresh.{freshZip, freshOwns, freshFrom}
+use Rattle.enzyme_parts.specs.Walk.{placeIn, sitesIn, siteIn, sharedIn, freshIn, freshIns}
+
+-- ---- the cuts within a site
+
+module _ (r : Range) (c : ℕ) where
+  pub halves-on : c < r .to → halves r c (r .to - c) ≡ range (r .from) c (r .missed) 1 ∷ range c (r .to) (r .missed) 1 ∷ halves r (c + 1) (r .to - (c + 1))
+  halves-on h = let e : r .to - c ≡ suc (r .to - (c + 1)) = omega arith in rw (e, add-one c)
+
+  pub halves-end : r .to ≤ c → halves r c (r .to - c) ≡ []
+  halves-end h = let e : r .to - c ≡ 0 = omega arith in rw e
+
+-- x is the end of all, or the start of all
+module _ (m x c z : ℕ) where
+  pub endings-on : c < z → endings m x c (z - c) ≡ range c x m 1 ∷ endings m x (c + 1) (z - (c + 1))
+  endings-on h = let e : z - c ≡ suc (z - (c + 1)) = omega arith in rw (e, add-one c)
+
+  pub endings-end : z ≤ c → endings m x c (z - c) ≡ []
+  endings-end h = let e : z - c ≡ 0 = omega arith in rw e
+
+  pub openings-on : c < z → openings m x c (z - c) ≡ range x c m 1 ∷ openings m x (c + 1) (z - (c + 1))
+  openings-on h = let e : z - c ≡ suc (z - (c + 1)) = omega arith in rw (e, add-one c)
+
+  pub openings-end : z ≤ c → openings m x c (z - c) ≡ []
+  openings-end h = let e : z - c ≡ 0 = omega arith in rw e
+
+-- ---- the windows of one size, from the sites i to j on, and their parts
+
+module _ (f : ℕ → ℕ) (m i j n : ℕ) where
+  pub spans-on : j < n → spans f m i j (n - j) ≡ range (f i) (f (j + 1)) m 0 ∷ spans f m (i + 1) (j + 1) (n - (j + 1))
+  spans-on h = let e : n - j ≡ suc (n - (j + 1)) = omega arith in rw (e, add-one i, add-one j)
+
+  pub spans-end : n ≤ j → spans f m i j (n - j) ≡ []
+  spans-end h = let e : n - j ≡ 0 = omega arith in rw e
+
+module _ (f : ℕ → ℕ) (m n : ℕ) where
+  pub windows-start : windows m (spots f 0 n) ≡ spans f m 0 m (n - m)
+  windows-start = let e : 0 + m ≡ m = omega arith in windows-spans f m 0 n ∙ rw e
+
+-- the parts of a window: none, or all
+module _ (x y : List ℕ) (m i j : ℕ) where
+  pub fresh-none : m < sharedIn y i → freshIn x y m i j ≡ []
+  fresh-none h = rw (lt-ltb m (sharedIn y i) h)
+
+  pub fresh-all : sharedIn y i ≤ m → freshIn x y m i j ≡ own m (siteIn x i) (siteIn x j)
+  fresh-all h = rw (le-ltb m (sharedIn y i) h)
+
+module _ (x y : List ℕ) (m : ℕ) where
+  pub fresh-on : (i j n : ℕ) → j < n → freshIns x y m i j (n - j) ≡ freshIn x y m i j ++ freshIns x y m (i + 1) (j + 1) (n - (j + 1))
+  fresh-on i j n h = let e : n - j ≡ suc (n - (j + 1)) = omega arith in ap (freshIns x y m i j) e ∙ rw (add-one i, add-one j)
+
+  pub fresh-end : (i j n : ℕ) → n ≤ j → freshIns x y m i j (n - j) ≡ []
+  fresh-end i j n h = let e : n - j ≡ 0 = omega arith in rw e
+
+  fresh-zip : (i n j k : ℕ) → k ≤ n → freshZip (sharedIn y) m i (spots (placeIn x) i n) (spots (placeIn x) j k) ≡ freshIns x y m i j k
+  fresh-zip i zero j zero h = refl
+  fresh-zip i zero j (suc k) h = absurd (omega arith)
+  fresh-zip i (suc n) j zero h = refl
+  fresh-zip i (suc n) j (suc k) h = rw (add-one i, add-one j) (go (ltb m (sharedIn y i)) (fresh-zip (suc i) n (suc j) k (omega arith)))
+    where
+      O : List Range
+      O = own m (site (placeIn x i) (placeIn x (suc i))) (site (placeIn x j) (placeIn x (suc j)))
+
+      go : (t : Bool) {us vs : List Range} → us ≡ vs → cond t us (O ++ us) ≡ cond t [] O ++ vs
+      go true e = e
+      go false e = ap (λ (rs : List Range). O ++ rs) e
+
+  pub fresh-start : (n : ℕ) → freshOwns (sharedIn y) m (sitesIn x n) ≡ freshIns x y m 0 m (n - m)
+  fresh-start n =
+      let e : 0 + m ≡ m = omega arith in
+      ap (freshZip (sharedIn y) m 0 (sitesIn x n)) (drop-spots (placeIn x) m 0 n) ∙ rw e (fresh-zip 0 n m (n - m) (omega arith))
+
+-- ---- the sizes
+
+module _ (rs : List Range) (m left : ℕ) where
+  pub sizes-on : 0 < left → windowsFrom m left rs ≡ windows m rs ++ windowsFrom (m + 1) (left - 1) rs
+  sizes-on h = let e : left ≡ suc (left - 1) = omega arith in ap (λ (x : ℕ). windowsFrom m x rs) e ∙ rw (add-one m)
+
+  pub sizes-end : left ≤ 0 → windowsFrom m left rs ≡ []
+  sizes-end h = let e : left ≡ 0 = omega arith in rw e
+
+  pub fresh-sizes-on : (f : ℕ → ℕ) → 0 < left → freshFrom f m left rs ≡ freshOwns f m rs ++ freshFrom f (m + 1) (left - 1) rs
+  fresh-sizes-on f h = let e : left ≡ suc (left - 1) = omega arith in ap (λ (x : ℕ). freshFrom f m x rs) e ∙ rw (add-one m)
+
+  pub fresh-sizes-end : (f : ℕ → ℕ) → left ≤ 0 → freshFrom f m left rs ≡ []
+  fresh-sizes-end f h = let e : left ≡ 0 = omega arith in rw e
+
+-- ---- the parts of one window
+
+pub own-site : (m : ℕ) (q p : Range) → m ≡ 0 → own m q p ≡ halves (range (q .from) (p .to) 0 0) (suc (q .from)) (p .to - suc (q .from))
+own-site m q p h = rw h
+
+pub own-more : (m : ℕ) (q p : Range) → (m ≡ 0 → ⊥)
+    → own m q p ≡ endings m (p .to) (suc (q .from)) (q .to - suc (q .from)) ++ openings m (q .from) (suc (p .from)) (p .to - suc (p .from))
+own-more zero q p h = absurd (h refl)
+own-more (suc m) q p h = refl
