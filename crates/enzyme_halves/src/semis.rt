@@ -3,12 +3,11 @@
 use enzyme_cuts::Knife;
 use enzyme_keep::Step;
 use enzyme_keep::Terms;
-ghost use mathlib.Core.Path.{_≡_};
 ghost use mathlib.Core.Bool.{true};
 ghost use mathlib.Core.List.{List};
 ghost use Prim.Native.Nat.{ℕ, _≤_, _<_};
 ghost use lib.ListN.{length, getD};
-ghost use Rattle.enzyme_keep.specs.Steps.{after, offers};
+ghost use Rattle.enzyme_tables.specs.Listed.{Listed};
 ghost use Rattle.enzyme_once.specs.Once.{once};
 ghost use Rattle.enzyme_words.specs.Words.{Zeros, Far};
 ghost use Rattle.enzyme_sites.specs.Starts.{Starts};
@@ -52,7 +51,7 @@ fn list_semi(
     marks: &mut [u32],
 ) -> Step
     requires { ⌜ (length (now letters) ≤ 65536) × (missed ≤ 16) × Starts knife (now letters) (now starts) m × Far (now letters) (now far) ⌝ }
-    ensures { λ r. ⌜ after r (now (out .exit)) ≡ offers (now (letters .entry)) terms (fresh (λ i. getD (now (share .entry)) i 0) knife missed (now (letters .entry))) 0 (now (out .entry)) ⌝ }
+    ensures { λ r. ⌜ Listed (now (letters .entry)) terms (fresh (λ i. getD (now (share .entry)) i 0) knife missed (now (letters .entry))) (now (out .entry)) r (now (out .exit)) ⌝ }
 {
     let Step::Kept(k) = enzyme_semi::offer_semi(
         letters,
@@ -93,7 +92,7 @@ fn semi_over(
     seen: &mut [u8],
 ) -> Step
     requires { ⌜ (length (now letters) ≤ 65536) × (missed ≤ 16) × (length (now letters) < length (now starts)) × (length (now letters) ≤ length (now far)) × (0 < length (now count)) × (length (now count) ≤ 131072) × Zeros (now count) × (length (now order) ≤ length (now other)) × (length (now order) ≤ length (now name)) × (length (now order) ≤ length (now rank)) × (length (now order) ≤ length (now share)) × Zeros (now share) ⌝ }
-    ensures { λ r. ⌜ after r (now (out .exit)) ≡ offers (now (letters .entry)) terms (once knife true missed (now (letters .entry))) 0 (now (out .entry)) ⌝ }
+    ensures { λ r. ⌜ Listed (now (letters .entry)) terms (once knife true missed (now (letters .entry))) (now (out .entry)) r (now (out .exit)) ⌝ }
 {
     let m = enzyme_sites::sites(letters, knife, starts);
     let n = missed as usize + 1;
@@ -116,7 +115,7 @@ fn semi_over(
 // The same with tables of three sizes.
 pub fn semi_small(letters: &[u8], knife: Knife, missed: u8, terms: Terms, out: &mut [u8]) -> Step
     requires { ⌜ (length (now letters) ≤ 1024) × (missed ≤ 16) ⌝ }
-    ensures { λ r. ⌜ after r (now (out .exit)) ≡ offers (now (letters .entry)) terms (once knife true missed (now (letters .entry))) 0 (now (out .entry)) ⌝ }
+    ensures { λ r. ⌜ Listed (now (letters .entry)) terms (once knife true missed (now (letters .entry))) (now (out .entry)) r (now (out .exit)) ⌝ }
 {
     let mut starts = [0 as u32; 1025];
     let mut far = [0 as u32; 1024];
@@ -149,7 +148,7 @@ pub fn semi_small(letters: &[u8], knife: Knife, missed: u8, terms: Terms, out: &
 
 pub fn semi_middle(letters: &[u8], knife: Knife, missed: u8, terms: Terms, out: &mut [u8]) -> Step
     requires { ⌜ (length (now letters) ≤ 8192) × (missed ≤ 16) ⌝ }
-    ensures { λ r. ⌜ after r (now (out .exit)) ≡ offers (now (letters .entry)) terms (once knife true missed (now (letters .entry))) 0 (now (out .entry)) ⌝ }
+    ensures { λ r. ⌜ Listed (now (letters .entry)) terms (once knife true missed (now (letters .entry))) (now (out .entry)) r (now (out .exit)) ⌝ }
 {
     let mut starts = [0 as u32; 8193];
     let mut far = [0 as u32; 8192];
@@ -182,7 +181,7 @@ pub fn semi_middle(letters: &[u8], knife: Knife, missed: u8, terms: Terms, out: 
 
 pub fn semi_large(letters: &[u8], knife: Knife, missed: u8, terms: Terms, out: &mut [u8]) -> Step
     requires { ⌜ (length (now letters) ≤ 65536) × (missed ≤ 16) ⌝ }
-    ensures { λ r. ⌜ after r (now (out .exit)) ≡ offers (now (letters .entry)) terms (once knife true missed (now (letters .entry))) 0 (now (out .entry)) ⌝ }
+    ensures { λ r. ⌜ Listed (now (letters .entry)) terms (once knife true missed (now (letters .entry))) (now (out .entry)) r (now (out .exit)) ⌝ }
 {
     let mut starts = [0 as u32; 65537];
     let mut far = [0 as u32; 65536];

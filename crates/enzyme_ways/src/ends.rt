@@ -1,16 +1,15 @@
 // "End": the whole protein.
 use enzyme_keep::Step;
 use enzyme_keep::Terms;
-ghost use mathlib.Core.Path.{_≡_};
 ghost use mathlib.Core.List.{[], _∷_};
 ghost use Prim.Native.Nat.{_≤_};
 ghost use lib.ListN.{length};
 ghost use Rattle.enzyme_cuts.specs.Cutting.{site};
-ghost use Rattle.enzyme_keep.specs.Steps.{after, offers};
+ghost use Rattle.enzyme_tables.specs.Listed.{Listed};
 
 pub(crate) fn offer_end(letters: &[u8], terms: Terms, out: &mut [u8]) -> Step
     requires { ⌜ length (now letters) ≤ 65536 ⌝ }
-    ensures { λ r. ⌜ after r (now (out .exit)) ≡ offers (now (letters .entry)) terms (site 0 (length (now (letters .entry))) ∷ []) 0 (now (out .entry)) ⌝ }
+    ensures { λ r. ⌜ Listed (now (letters .entry)) terms (site 0 (length (now (letters .entry))) ∷ []) (now (out .entry)) r (now (out .exit)) ⌝ }
 {
     let n = letters.len();
     let wanted = enzyme_keep::length_within(n, terms.minimum, terms.maximum);

@@ -1,0 +1,12 @@
+-- What the three ways to digests have in common: what is written, and the answer. The public statement does not cite this.
+use Prim.Native.Nat.{ℕ}
+use mathlib.Core.Path.{_≡_}
+use mathlib.Core.List.{List}
+use Rattle.enzyme_cuts.specs.Cutting.{Range}
+use Rattle.enzyme_keep.specs.declared.offering.Step.{Step}
+use Rattle.enzyme_keep.specs.declared.offering.Terms.{Terms}
+use Rattle.enzyme_keep.specs.Steps.{after, offers}
+
+-- the ranges rs of s were offered to the buffer out: that gave r, and left new
+abbrev pub Listed : List ℕ → Terms → List Range → List ℕ → Step → List ℕ → Type 0
+Listed s t rs out r new = after r new ≡ offers s t rs 0 out
