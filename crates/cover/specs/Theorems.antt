@@ -18,6 +18,7 @@ use Rattle.records.specs.declared.refusal.Tested.the-variants.{Passed}
 use Rattle.cover_spec.specs.Cover.{Edge, group, meta, ofMeta, cover, coverList, sameEdge}
 use Rattle.cover_spec.specs.Update.{touched}
 use Rattle.cover_spec.specs.CountLaws.{all-at, count-determined, find}
+use Rattle.cover_spec.specs.ConnectedLaws.{_∈_}
 use Rattle.cover_spec.specs.ChoiceLaws.{Under}
 use Rattle.cover_spec.specs.ListedLaws.{getD-listed, bit-is, length-cover}
 use Rattle.cover_spec.specs.LocalityLaws.{cover-local}
@@ -30,10 +31,6 @@ use Rattle.cover.specs.Covering.{coverMarks}
 use Rattle.cover.specs.Updating.{updateMarks}
 use Rattle.cover.specs.UpdatingLaws.{mark-of}
 
--- the edge stands in the list
-abbrev pub In : Edge → List Edge → Type 0
-In e l = 0 < count (sameEdge e) l
-
 -- ---- Document 01: "Also proved: each meta-peptide with an edge has a marked neighbour, and each marked group, when marked, newly
 -- covered one."
 
@@ -45,7 +42,7 @@ module _ (bs : List ℕ) (groups metas words : ℕ) (p : coverTested bs groups m
   unfolding coverList
   mark-at g h = getD-listed groups (λ k. bit (cover groups (edgesOf bs) k)) g h
 
-  pub marked-neighbour : (m : ℕ) → 0 < ofMeta m (edgesOf bs) → (e : Edge) × (meta e ≡ m) × In e (edgesOf bs) × (getD (coverMarks bs groups) (group e) 0 ≡ 1)
+  pub marked-neighbour : (m : ℕ) → 0 < ofMeta m (edgesOf bs) → (e : Edge) × (meta e ≡ m) × (e ∈ edgesOf bs) × (getD (coverMarks bs groups) (group e) 0 ≡ 1)
   marked-neighbour m h =
       let t : Edge → Bool = λ e. eqb (meta e) m && cover groups (edgesOf bs) (group e) in
       let (e, q, i) = find t (edgesOf bs) (ltb-true 0 (count t (edgesOf bs)) (neighbour groups (edgesOf bs) under m h)) in

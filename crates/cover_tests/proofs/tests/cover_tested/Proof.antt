@@ -17,10 +17,10 @@ returns : tie.Need-returns
 returns c = rw (sym (c .before .too-large .ensures) ∙ c .if1 .taken)
 
 -- the sizes are within their limits
-sizes : (c : tie.Else1) → tooLarge (length (c .before .before .before .args .edges .now) / 8) (c .before .before .before .args .groups) (c .before .before .before .args .metas) ≡ false
+sizes : (c : tie.Else1) → let a = c .before .before .before .args in tooLarge (length (a .edges .now) / 8) (a .groups) (a .metas) ≡ false
 sizes c = sym (c .before .too-large .ensures) ∙ c .if1 .left
 
-limits : (c : tie.Else1) → Small (length (c .before .before .before .args .edges .now) / 8) (c .before .before .before .args .groups) (c .before .before .before .args .metas)
+limits : (c : tie.Else1) → let a = c .before .before .before .args in Small (length (a .edges .now) / 8) (a .groups) (a .metas)
 limits c = let a = c .before .before .before .args in small (length (a .edges .now) / 8) (a .groups) (a .metas) (sizes c)
 
 returns-2 : tie.Need-returns-2
@@ -30,10 +30,10 @@ work-needed-requires : tie.Need-work-needed-requires
 work-needed-requires c κs = let s = limits (c .before) in (s .groups-max, s .metas-max, omega (arith, s .few))
 
 -- the work memory is enough, or not
-short : (c : tie.Then3) → ltb (c .before .before .before .before .before .before .args .words) (workNeeded (c .before .before .before .before .before .before .args .groups) (c .before .before .before .before .before .before .args .metas) (length (c .before .before .before .before .before .before .args .edges .now) / 8)) ≡ true
+short : (c : tie.Then3) → let a = c .before .before .before .before .before .before .args in ltb (a .words) (workNeeded (a .groups) (a .metas) (length (a .edges .now) / 8)) ≡ true
 short c = rw (c .before .work-needed .ensures) at (lt-ltb _ _ (c .if3 .taken))
 
-enough : (c : tie.Else3) → ltb (c .before .before .before .before .before .before .args .words) (workNeeded (c .before .before .before .before .before .before .args .groups) (c .before .before .before .before .before .before .args .metas) (length (c .before .before .before .before .before .before .args .edges .now) / 8)) ≡ false
+enough : (c : tie.Else3) → let a = c .before .before .before .before .before .before .args in ltb (a .words) (workNeeded (a .groups) (a .metas) (length (a .edges .now) / 8)) ≡ false
 enough c = rw (c .before .work-needed .ensures) at (le-ltb _ _ (c .if3 .left))
 
 returns-3 : tie.Need-returns-3

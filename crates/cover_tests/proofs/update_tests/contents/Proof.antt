@@ -10,7 +10,7 @@ returns : tie.Need-returns
 returns c = rw (sym (c .before .before .edges-tested .ensures) ∙ c .enum-told2 .given .1) (c .enum-told2 .given .1)
 
 -- the old edges passed
-old-passed : (c : tie.After-enum-told) → edgesTested (c .before .before .before .before .before .before .args .old .now) (c .before .before .before .before .before .before .args .groups) (c .before .before .before .before .before .before .args .metas) ≡ Passed
+old-passed : (c : tie.After-enum-told) → let a = c .before .before .before .before .before .before .args in edgesTested (a .old .now) (a .groups) (a .metas) ≡ Passed
 old-passed c = sym (c .before .before .edges-tested .ensures) ∙ c .enum-told .given .1
 
 returns-2 : tie.Need-returns-2

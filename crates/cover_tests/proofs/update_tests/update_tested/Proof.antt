@@ -14,21 +14,21 @@ use Rattle.cover_tests.proofs.update_tests.update_tested.Statement.{sta
 use Rattle.cover_tests.proofs.update_tests.update_tested.Tie as tie
 
 -- the sizes are within their limits
-sizes : (c : tie.Else1) → eitherTooLarge (length (c .before .before .before .before .before .args .old .now) / 8) (length (c .before .before .before .before .before .args .new .now) / 8) (c .before .before .before .before .before .args .groups) (c .before .before .before .before .before .args .metas) ≡ false
+sizes : (c : tie.Else1) → let a = c .before .before .before .before .before .args in eitherTooLarge (length (a .old .now) / 8) (length (a .new .now) / 8) (a .groups) (a .metas) ≡ false
 sizes c = sym (c .before .either-too-large .ensures) ∙ c .if1 .left
 
-limits : (c : tie.Else1) → Small (length (c .before .before .before .before .before .args .old .now) / 8) (c .before .before .before .before .before .args .groups) (c .before .before .before .before .before .args .metas) × Small (length (c .before .before .before .before .before .args .new .now) / 8) (c .before .before .before .before .before .args .groups) (c .before .before .before .before .before .args .metas)
+limits : (c : tie.Else1) → let a = c .before .before .before .before .before .args in Small (length (a .old .now) / 8) (a .groups) (a .metas) × Small (length (a .new .now) / 8) (a .groups) (a .metas)
 limits c = let a = c .before .before .before .before .before .args in both-small (length (a .old .now) / 8) (length (a .new .now) / 8) (a .groups) (a .metas) (sizes c)
 
 -- the lists have whole records, and there is a mark for each group
-lengths : (c : tie.Else2) → lengthsWrong (c .before .before .before .before .before .before .before .args .old .now) (c .before .before .before .before .before .before .before .args .new .now) (c .before .before .before .before .before .before .before .args .groups) (c .before .before .before .before .before .before .before .args .given .now) ≡ false
+lengths : (c : tie.Else2) → let a = c .before .before .before .before .before .before .before .args in lengthsWrong (a .old .now) (a .new .now) (a .groups) (a .given .now) ≡ false
 lengths c = sym (c .before .lengths-wrong .ensures) ∙ c .if2 .left
 
 -- the work memory is enough, or not
-short : (c : tie.Then3) → ltb (c .before .before .before .before .before .before .before .before .before .args .words) (workNeeded (c .before .before .before .before .before .before .before .before .before .args .groups) (c .before .before .before .before .before .before .before .before .before .args .metas) (length (c .before .before .before .before .before .before .before .before .before .args .old .now) / 8 + length (c .before .before .before .before .before .before .before .before .before .args .new .now) / 8)) ≡ true
+short : (c : tie.Then3) → let a = c .before .before .before .before .before .before .before .before .before .args in ltb (a .words) (workNeeded (a .groups) (a .metas) (length (a .old .now) / 8 + length (a .new .now) / 8)) ≡ true
 short c = rw (c .before .work-needed .ensures) at (lt-ltb _ _ (c .if3 .taken))
 
-enough : (c : tie.Else3) → ltb (c .before .before .before .before .before .before .before .before .before .args .words) (workNeeded (c .before .before .before .before .before .before .before .before .before .args .groups) (c .before .before .before .before .before .before .before .before .before .args .metas) (length (c .before .before .before .before .before .before .before .before .before .args .old .now) / 8 + length (c .before .before .before .before .before .before .before .before .before .args .new .now) / 8)) ≡ false
+enough : (c : tie.Else3) → let a = c .before .before .before .before .before .before .before .before .before .args in ltb (a .words) (workNeeded (a .groups) (a .metas) (length (a .old .now) / 8 + length (a .new .now) / 8)) ≡ false
 enough c = rw (c .before .work-needed .ensures) at (le-ltb _ _ (c .if3 .left))
 
 returns : tie.Need-returns
