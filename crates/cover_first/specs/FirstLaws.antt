@@ -9,6 +9,7 @@ use lib.Dec.{eqb}
 use lib.ListN.{length, getD, set, length-set}
 use lib.Seq.{getD-set-same, getD-set-other}
 use borrow.Author.Tests.{eqb-true, eqb-false}
+use Rattle.cover_tables.specs.declared.areas.Areas.{Areas}
 use Rattle.cover_tables.specs.TableLaws.{Tables, tables-same}
 use Rattle.cover_tables.specs.StepLaws.{Stands, Levels, levels-start}
 use Rattle.lists.specs.Lists.{bit, count, some, keep}
@@ -137,83 +138,98 @@ inMarked n m bs w i = eqb (getD w (n + m + groupAt bs i) 0) 1
 abbrev pub isOpen : ℕ → List ℕ → List ℕ → ℕ → Bool
 isOpen n bs w i = not (eqb (getD w (n + metaAt bs i) 0) 1)
 
--- after the first i edges: the groups of only edges are marked; the meta-peptides of marked groups are covered; the edges of uncovered
--- meta-peptides are counted
-abbrev pub Forced : ℕ → ℕ → ℕ → List ℕ → List ℕ → List ℕ → ℕ → Type 0
-Forced n m mo bs w v i = Flags (n + m) n (groupAt bs) (onlyEdge mo bs w) w v i
-
+-- after the first i edges: the meta-peptides of marked groups are covered; the edges of uncovered meta-peptides are counted
 abbrev pub Covered : ℕ → ℕ → List ℕ → List ℕ → List ℕ → ℕ → Type 0
 Covered n m bs w v i = Flags n m (metaAt bs) (inMarked n m bs w) w v i
 
 abbrev pub Counted : ℕ → List ℕ → List ℕ → List ℕ → ℕ → Type 0
 Counted n bs w v i = Counting n (groupAt bs) (isOpen n bs w) w v i
 
-module _ (n m go mo od : ℕ) (bs : List ℕ) (k : ℕ) where
-  abbrev edges : List Edge
-  edges = edgesTo bs k
+module _ (areas : Areas) where
+  abbrev n : ℕ
+  n = areas .groups
 
-  module _ (w w₁ w₂ w₃ : List ℕ) (r : Tables n m go mo od edges w) (i : InRange bs k n m)
-      (f₁ : Forced n m mo bs w w₁ k) (f₂ : Covered n m bs w₁ w₂ k) (f₃ : Counted n bs w₂ w₃ k) where
-    degree-meta : (x : ℕ) → x < m → getD w (mo + x + 1) 0 - getD w (mo + x) 0 ≡ ofMeta x edges
-    degree-meta x b = omega (arith, r .byMeta .sizes x b)
+  abbrev m : ℕ
+  m = areas .metas
 
-    marked-first : (g : ℕ) → g < n → eqb (getD w₁ (n + m + g) 0) 1 ≡ markForced (start edges) g
-    unfolding markForced
-    marked-first g b =
-        f₁ .flags g b
-        ∙ hits-some (λ e. eqb (group e) g && eqb (ofMeta (meta e) edges) 1) bs (groupAt bs) (onlyEdge mo bs w) k g
-        (λ j c. ap (λ (z : ℕ). eqb (groupAt bs j) g && eqb z 1) (degree-meta (metaAt bs j) (i j c .1)))
+  abbrev mo : ℕ
+  mo = areas .mo
 
-    covered-first : (y : ℕ) → y < m → eqb (getD w₂ (n + y) 0) 1 ≡ coverMarked (start edges) y
-    unfolding coverMarked
-    covered-first y b =
-        f₂ .flags y b
-        ∙ hits-some (λ e. eqb (meta e) y && markForced (start edges) (group e)) bs (metaAt bs) (inMarked n m bs w₁) k y
-        (λ j c. ap (λ (z : Bool). eqb (metaAt bs j) y && z) (marked-first (groupAt bs j) (i j c .0)))
+  -- after the first i edges the groups of only edges are marked
+  abbrev pub Forced : List ℕ → List ℕ → List ℕ → ℕ → Type 0
+  Forced bs w v i = Flags (n + m) n (groupAt bs) (onlyEdge mo bs w) w v i
 
-    same-covers : (y : ℕ) → getD w₃ (n + y) 0 ≡ getD w₂ (n + y) 0
-    same-covers y = f₃ .rest (n + y) (omega arith)
+  -- what the pass starts from: the tables of k edges, and nothing counted, covered or marked
+  abbrev pub Unmarked : List ℕ → ℕ → List ℕ → Type 0
+  Unmarked bs k w = Tables areas (edgesTo bs k) w × InRange bs k n m × ((x : ℕ) → x < n + m + n → getD w x 0 ≡ 0) × (k ≤ 1048576)
 
-    first-counts : (g : ℕ) → g < n → getD w₃ g 0 ≡ ofGroup g (keep (λ e. not (eqb (getD w₃ (n + meta e) 0) 1)) edges)
-    first-counts g b =
-        f₃ .counts g b
-        ∙ sumOf-count (λ e. not (eqb (getD w₃ (n + meta e) 0) 1) && eqb (group e) g) bs (groupAt bs) (isOpen n bs w₂) k g
-        (λ j c. and-comm (eqb (groupAt bs j) g) (isOpen n bs w₂ j) ∙ ap (λ (z : ℕ). not (eqb z 1) && eqb (groupAt bs j) g) (sym (same-covers (metaAt bs j))))
-        ∙ sym (count-keep (λ e. eqb (group e) g) (λ e. not (eqb (getD w₃ (n + meta e) 0) 1)) edges)
+  module _ (bs : List ℕ) (k : ℕ) where
+    abbrev edges : List Edge
+    edges = edgesTo bs k
 
-    first-stands : Stands n m go mo od edges 0 w₃
-    unfolding iter pass
-    first-stands = record {
-      counts = first-counts;
-      covered = λ y b. ap (λ (z : ℕ). eqb z 1) (same-covers y) ∙ covered-first y b;
-      marked = λ g b. ap (λ (z : ℕ). eqb z 1) (f₃ .rest (n + m + g) (omega arith) ∙ f₂ .rest (n + m + g) (λ x y. omega arith)) ∙ marked-first g b;
-    }
+    module _ (w w₁ w₂ w₃ : List ℕ) (r : Tables areas edges w) (i : InRange bs k n m)
+        (f₁ : Forced bs w w₁ k) (f₂ : Covered n m bs w₁ w₂ k) (f₃ : Counted n bs w₂ w₃ k) where
+      degree-meta : (x : ℕ) → x < m → getD w (mo + x + 1) 0 - getD w (mo + x) 0 ≡ ofMeta x edges
+      degree-meta x b = omega (arith, r .byMeta .sizes x b)
 
-    first-tables : Tables n m go mo od edges w₃
-    first-tables = tables-same n m go mo od edges w w₃ (f₃ .size ∙ f₂ .size ∙ f₁ .size)
-        (λ x b. f₃ .rest x (omega arith) ∙ f₂ .rest x (λ c d. omega arith) ∙ f₁ .rest x (λ c d. omega arith)) r
+      marked-first : (g : ℕ) → g < n → eqb (getD w₁ (n + m + g) 0) 1 ≡ markForced (start edges) g
+      unfolding markForced
+      marked-first g b =
+          f₁ .flags g b
+          ∙ hits-some (λ e. eqb (group e) g && eqb (ofMeta (meta e) edges) 1) bs (groupAt bs) (onlyEdge mo bs w) k g
+          (λ j c. ap (λ (z : ℕ). eqb (groupAt bs j) g && eqb z 1) (degree-meta (metaAt bs j) (i j c .1)))
 
-    pub first-levels : Levels n m go mo od edges k 0 w₃
-    first-levels = levels-start n m go mo od edges w₃ k first-tables first-stands
-        (λ g b. omega (arith, count-le (λ e. eqb (group e) g) edges, length-edges bs k))
+      covered-first : (y : ℕ) → y < m → eqb (getD w₂ (n + y) 0) 1 ≡ coverMarked (start edges) y
+      unfolding coverMarked
+      covered-first y b =
+          f₂ .flags y b
+          ∙ hits-some (λ e. eqb (meta e) y && markForced (start edges) (group e)) bs (metaAt bs) (inMarked n m bs w₁) k y
+          (λ j c. ap (λ (z : Bool). eqb (metaAt bs j) y && z) (marked-first (groupAt bs j) (i j c .0)))
 
--- ---- one turn of each loop, as the code makes it
+      same-covers : (y : ℕ) → getD w₃ (n + y) 0 ≡ getD w₂ (n + y) 0
+      same-covers y = f₃ .rest (n + y) (omega arith)
 
-module _ (n m go mo od : ℕ) (bs : List ℕ) (k : ℕ) (w₀ : List ℕ) (inp : InRange bs k n m) (w : List ℕ) (i : ℕ) (b : i < k)
-    (r : Tables n m go mo od (edgesTo bs k) w₀) (h : Forced n m mo bs w₀ w i) where
-  same-at : (x : ℕ) → n + m + n ≤ x → getD w x 0 ≡ getD w₀ x 0
-  same-at x c = h .rest x (λ p q. omega arith)
+      first-counts : (g : ℕ) → g < n → getD w₃ g 0 ≡ ofGroup g (keep (λ e. not (eqb (getD w₃ (n + meta e) 0) 1)) edges)
+      first-counts g b =
+          f₃ .counts g b
+          ∙ sumOf-count (λ e. not (eqb (getD w₃ (n + meta e) 0) 1) && eqb (group e) g) bs (groupAt bs) (isOpen n bs w₂) k g
+          (λ j c. and-comm (eqb (groupAt bs j) g) (isOpen n bs w₂ j) ∙ ap (λ (z : ℕ). not (eqb z 1) && eqb (groupAt bs j) g) (sym (same-covers (metaAt bs j))))
+          ∙ sym (count-keep (λ e. eqb (group e) g) (λ e. not (eqb (getD w₃ (n + meta e) 0) 1)) edges)
 
-  pub forced-inside : (n + m + groupAt bs i < length w) × (mo + metaAt bs i + 1 < length w) × (getD w (mo + metaAt bs i) 0 ≤ getD w (mo + metaAt bs i + 1) 0)
-  forced-inside = (
-    omega (arith, inp i b .0, r .order-above, r .order-fits, h .size),
-    omega (arith, inp i b .1, r .byMeta .fits, h .size),
-    omega (arith, same-at (mo + metaAt bs i) (omega (arith, r .byMeta .above)), same-at (mo + metaAt bs i + 1) (omega (arith, r .byMeta .above)), r .byMeta .sizes (metaAt bs i) (inp i b .1)),
-  )
+      first-stands : Stands areas edges 0 w₃
+      unfolding iter pass
+      first-stands = record {
+        counts = first-counts;
+        covered = λ y b. ap (λ (z : ℕ). eqb z 1) (same-covers y) ∙ covered-first y b;
+        marked = λ g b. ap (λ (z : ℕ). eqb z 1) (f₃ .rest (n + m + g) (omega arith) ∙ f₂ .rest (n + m + g) (λ x y. omega arith)) ∙ marked-first g b;
+      }
 
-  pub forced-step : (v : ℕ) → v ≡ cond (eqb (getD w (mo + metaAt bs i + 1) 0 - getD w (mo + metaAt bs i) 0) 1) 1 (getD w (n + m + groupAt bs i) 0) → Forced n m mo bs w₀ (set w (n + m + groupAt bs i) v) (i + 1)
-  forced-step v e = flags-step (n + m) n (groupAt bs) (onlyEdge mo bs w₀) w₀ w i v h (inp i b .0) (omega (arith, r .order-above, r .order-fits, h .size))
-      (e ∙ rw (same-at (mo + metaAt bs i) (omega (arith, r .byMeta .above)), same-at (mo + metaAt bs i + 1) (omega (arith, r .byMeta .above))))
+      first-tables : Tables areas edges w₃
+      first-tables = tables-same areas edges w w₃ (f₃ .size ∙ f₂ .size ∙ f₁ .size)
+          (λ x b. f₃ .rest x (omega arith) ∙ f₂ .rest x (λ c d. omega arith) ∙ f₁ .rest x (λ c d. omega arith)) r
+
+      pub first-levels : Levels areas edges k 0 w₃
+      first-levels = levels-start areas edges w₃ k first-tables first-stands
+          (λ g b. omega (arith, count-le (λ e. eqb (group e) g) edges, length-edges bs k))
+
+  -- one turn of the loop that marks
+  module _ (bs : List ℕ) (k : ℕ) (w₀ : List ℕ) (inp : InRange bs k n m) (w : List ℕ) (i : ℕ) (b : i < k)
+      (r : Tables areas (edgesTo bs k) w₀) (h : Forced bs w₀ w i) where
+    same-at : (x : ℕ) → n + m + n ≤ x → getD w x 0 ≡ getD w₀ x 0
+    same-at x c = h .rest x (λ p q. omega arith)
+
+    pub forced-inside : (n + m + groupAt bs i < length w) × (mo + metaAt bs i + 1 < length w) × (getD w (mo + metaAt bs i) 0 ≤ getD w (mo + metaAt bs i + 1) 0)
+    forced-inside = (
+      omega (arith, inp i b .0, r .order-above, r .order-fits, h .size),
+      omega (arith, inp i b .1, r .byMeta .fits, h .size),
+      omega (arith, same-at (mo + metaAt bs i) (omega (arith, r .byMeta .above)), same-at (mo + metaAt bs i + 1) (omega (arith, r .byMeta .above)), r .byMeta .sizes (metaAt bs i) (inp i b .1)),
+    )
+
+    pub forced-step : (v : ℕ) → v ≡ cond (eqb (getD w (mo + metaAt bs i + 1) 0 - getD w (mo + metaAt bs i) 0) 1) 1 (getD w (n + m + groupAt bs i) 0) → Forced bs w₀ (set w (n + m + groupAt bs i) v) (i + 1)
+    forced-step v e = flags-step (n + m) n (groupAt bs) (onlyEdge mo bs w₀) w₀ w i v h (inp i b .0) (omega (arith, r .order-above, r .order-fits, h .size))
+        (e ∙ rw (same-at (mo + metaAt bs i) (omega (arith, r .byMeta .above)), same-at (mo + metaAt bs i + 1) (omega (arith, r .byMeta .above))))
+
+-- ---- one turn of the loops that cover and count
 
 module _ (n m : ℕ) (bs : List ℕ) (k : ℕ) (w₀ : List ℕ) (inp : InRange bs k n m) (w : List ℕ) (i : ℕ) (b : i < k) where
   pub covered-inside : n + m + n ≤ length w₀ → Covered n m bs w₀ w i → (n + m + groupAt bs i < length w) × (n + metaAt bs i < length w)

@@ -1,6 +1,7 @@
 // The first pass: a group that holds the only edge of a meta-peptide is marked and takes its meta-peptides; what is left is counted.
 use crate::reading::group_of;
 use crate::reading::meta_of;
+use cover_tables::Areas;
 ghost use Prim.Native.Nat.{ℕ, _+_, _<_, _≤_};
 ghost use mathlib.Core.Path.{_≡_};
 ghost use mathlib.Core.Bool.{cond, not};
@@ -8,7 +9,7 @@ ghost use lib.Dec.{eqb};
 ghost use lib.ListN.{getD, length};
 ghost use Rattle.cover_tables.specs.TableLaws.{Tables};
 ghost use Rattle.cover_tables.specs.StepLaws.{Levels};
-ghost use Rattle.cover_first.specs.FirstLaws.{Forced, Covered, Counted};
+ghost use Rattle.cover_first.specs.FirstLaws.{Unmarked, Forced, Covered, Counted};
 ghost use Rattle.lists.specs.Lists.{bit};
 ghost use Rattle.cover_edges.specs.Edges.{edgesTo};
 ghost use Rattle.cover_edges.specs.RangeLaws.{InRange};
@@ -28,26 +29,18 @@ fn fresh(a: u32) -> u32
 }
 
 // Marks each group that holds the only edge of a meta-peptide.
-fn forced(
-    edges: &[u8],
-    n: usize,
-    w: &mut [u32],
-    groups: usize,
-    metas: usize,
-    go: usize,
-    mo: usize,
-    od: usize,
-)
-    requires { ⌜ Tables groups metas go mo od (edgesTo (now edges) n) (now w) × InRange (now edges) n groups metas × ((x : ℕ) → x < groups + metas + groups → getD (now w) x 0 ≡ 0) × (n ≤ 1048576) ⌝ }
-    ensures { λ _. ⌜ Forced groups metas mo (now (edges .entry)) (now (w .entry)) (now (w .exit)) n ⌝ }
+fn forced(edges: &[u8], n: usize, w: &mut [u32], areas: Areas)
+    requires { ⌜ Unmarked areas (now edges) n (now w) ⌝ }
+    ensures { λ _. ⌜ Forced areas (now (edges .entry)) (now (w .entry)) (now (w .exit)) n ⌝ }
 {
     let mut i = 0;
     while i < n {
         let g = group_of(edges, i);
         let x = meta_of(edges, i);
-        let d = w[mo + x + 1] - w[mo + x];
-        let v = flagged(d, w[groups + metas + g]);
-        w[groups + metas + g] = v;
+        let d = w[areas.mo + x + 1] - w[areas.mo + x];
+        let at = areas.groups + areas.metas + g;
+        let v = flagged(d, w[at]);
+        w[at] = v;
         i += 1;
     }
 }
@@ -83,20 +76,11 @@ fn counts(edges: &[u8], n: usize, w: &mut [u32], groups: usize, metas: usize)
 }
 
 // The first pass.
-pub fn first(
-    edges: &[u8],
-    n: usize,
-    w: &mut [u32],
-    groups: usize,
-    metas: usize,
-    go: usize,
-    mo: usize,
-    od: usize,
-)
-    requires { ⌜ Tables groups metas go mo od (edgesTo (now edges) n) (now w) × InRange (now edges) n groups metas × ((x : ℕ) → x < groups + metas + groups → getD (now w) x 0 ≡ 0) × (n ≤ 1048576) ⌝ }
-    ensures { λ _. ⌜ Levels groups metas go mo od (edgesTo (now (edges .entry)) n) n 0 (now (w .exit)) ⌝ }
+pub fn first(edges: &[u8], n: usize, w: &mut [u32], areas: Areas)
+    requires { ⌜ Unmarked areas (now edges) n (now w) ⌝ }
+    ensures { λ _. ⌜ Levels areas (edgesTo (now (edges .entry)) n) n 0 (now (w .exit)) ⌝ }
 {
-    forced(edges, n, w, groups, metas, go, mo, od);
-    covered(edges, n, w, groups, metas);
-    counts(edges, n, w, groups, metas);
+    forced(edges, n, w, areas);
+    covered(edges, n, w, areas.groups, areas.metas);
+    counts(edges, n, w, areas.groups, areas.metas);
 }

@@ -9,6 +9,7 @@ use lib.Dec.{eqb}
 use lib.ListN.{length, getD, set, length-set}
 use lib.Seq.{getD-set-same, getD-set-other}
 use borrow.Author.Tests.{eqb-true, eqb-false}
+use Rattle.cover_tables.specs.declared.areas.Areas.{Areas}
 use Rattle.cover_tables.specs.TableLaws.{Lists, Tables}
 use Rattle.lists.specs.Lists.{bit, count}
 use Rattle.lists.specs.KeepLaws.{count-le, count-append}
@@ -95,39 +96,6 @@ lists-sorted key val k o n l s w sz c p q a b e h = record {
     assoc : (x : ℕ) → o + x + 1 ≡ o + (x + 1)
     assoc x = omega arith
 
--- ---- where everything stands
-
-pub record Layout (n m k ge go mo gm mg od : ℕ) (w : List ℕ) : Type 0 where
-  pub edges-at : ge ≡ n + m + n
-  pub groups-at : go ≡ ge + k + k + 1
-  pub metas-at : mo ≡ go + n + 1
-  pub group-lists-at : gm ≡ mo + m + 1
-  pub meta-lists-at : mg ≡ gm + k
-  pub order-at : od ≡ mg + k
-  pub fits : od + n ≤ length w
-  pub room : od + n ≤ 4294967295
-  pub some : 0 < k
-  pub few : k ≤ 1048576
-
-module _ (n m ge go mo gm mg od : ℕ) (bs : List ℕ) (k : ℕ) (w : List ℕ) where
-  abbrev all : List Edge
-  all = edgesTo bs k
-
-  tables-from : Layout n m k ge go mo gm mg od w → InRange bs k n m → Sorted (groupAt bs) (metaAt bs) k go n gm w → Sorted (metaAt bs) (groupAt bs) k mo m mg w
-      → Order n (degree n all) (λ i. getD w (od + i) 0) → Tables n m go mo od all w
-  tables-from r i a b c = record {
-    bounds = edges-all bs k n m i;
-    byGroup = lists-sorted (groupAt bs) (metaAt bs) k go n gm (n + m + n) w (λ x. ofGroup x all) (λ x y. count (sameEdge (x, y)) all)
-        (equals-group bs k) (pairs-group bs k) (omega (arith, r .edges-at, r .groups-at)) (omega (arith, r .metas-at, r .group-lists-at))
-        (omega (arith, r .meta-lists-at, r .order-at, r .fits)) a;
-    byMeta = lists-sorted (metaAt bs) (groupAt bs) k mo m mg (n + m + n) w (λ x. ofMeta x all) (λ x y. count (sameEdge (y, x)) all)
-        (equals-meta bs k) (pairs-meta bs k) (omega (arith, r .edges-at, r .groups-at, r .metas-at)) (omega (arith, r .group-lists-at, r .meta-lists-at))
-        (omega (arith, r .order-at, r .fits)) b;
-    order = c;
-    order-above = omega (arith, r .edges-at, r .groups-at, r .metas-at, r .group-lists-at, r .meta-lists-at, r .order-at);
-    order-fits = r .fits;
-  }
-
 -- ---- clearing and copying
 
 -- the entries from a up to e of v are f 0, f 1, .., and the others those of w
@@ -150,193 +118,263 @@ puts-step f a i x w v h b e = record {
     one j c true q = subst (λ (z : ℕ). getD (set v (a + i) x) (a + z) 0 ≡ f z) (sym (eqb-true j i q)) (getD-set-same v (a + i) x 0 b ∙ e)
     one j c false q = getD-set-other v (a + i) (a + j) x 0 (λ z. eqb-false j i q (omega arith)) ∙ h .put j (omega (arith, eqb-false j i q))
 
--- ---- the order
-
-module _ (n m ge go mo gm mg od : ℕ) (bs : List ℕ) (k : ℕ) where
-  abbrev edges′ : List Edge
-  edges′ = edgesTo bs k
-
-  -- what the edges in w look like before the lists are made
-  pub record Gathered (w : List ℕ) : Type 0 where
-    pub groups : (i : ℕ) → i < k → from w ge i ≡ groupAt bs i
-    pub metas : (i : ℕ) → i < k → from w (ge + k) i ≡ metaAt bs i
-    pub zeros : (x : ℕ) → go ≤ x → x < od + n → getD w x 0 ≡ 0
-
-  -- the keys and the numbers of the groups, and room for the boundaries
-  pub record Ranked (w v : List ℕ) : Type 0 where
-    pub size : length v ≡ length w
-    pub keys : (g : ℕ) → g < n → getD v g 0 ≡ k - ofGroup g edges′
-    pub numbers : (g : ℕ) → g < n → getD v (n + m + g) 0 ≡ g
-    pub zeros : (x : ℕ) → x ≤ k → getD v (ge + x) 0 ≡ 0
-    pub rest : (x : ℕ) → go ≤ x → getD v x 0 ≡ getD w x 0
-
-  pub record Listed (w : List ℕ) : Type 0 where
-    pub byGroup : Sorted (groupAt bs) (metaAt bs) k go n gm w
-    pub byMeta : Sorted (metaAt bs) (groupAt bs) k mo m mg w
-
-  pub ranked-regions : (w v : List ℕ) → Layout n m k ge go mo gm mg od w → Ranked w v → Regions 0 (n + m) n ge (k + 1) od v
-  ranked-regions w v r h = record {
-    keys-before = omega (arith, r .edges-at);
-    vals-before = omega (arith, r .edges-at);
-    gap = omega (arith, r .groups-at, r .metas-at, r .group-lists-at, r .meta-lists-at, r .order-at, r .some);
-    fits = omega (arith, r .fits, h .size);
-    room = r .room;
-    keys = λ i b. rw (zero-add i) (omega (arith, h .keys i b));
-  }
-
-  module _ (w v u z : List ℕ) (r : Layout n m k ge go mo gm mg od w) (inp : InRange bs k n m) (l : Listed w) (h : Ranked w v)
-      (x : Indexed 0 (n + m) n ge (k + 1) od v u) (len : length u ≡ length v) (c : Puts (λ i. 0) 0 (n + m + n) u z) where
-    keep-at : (y : ℕ) → go ≤ y → y < od → getD z y 0 ≡ getD w y 0
-    keep-at y a b =
-        c .rest y (λ p q. omega (arith, r .edges-at, r .groups-at))
-        ∙ x .rest y (λ p q. omega (arith, r .groups-at, r .some)) (λ p q. omega arith)
-        ∙ h .rest y a
-
-    listed′ : Listed z
-    listed′ = record {
-      byGroup = sorted-kept (groupAt bs) (metaAt bs) k go n gm w z
-          (λ y a b. keep-at y a (omega (arith, r .metas-at, r .group-lists-at, r .meta-lists-at, r .order-at)))
-          (λ y a b. keep-at y (omega (arith, r .metas-at, r .group-lists-at)) (omega (arith, r .meta-lists-at, r .order-at))) (l .byGroup);
-      byMeta = sorted-kept (metaAt bs) (groupAt bs) k mo m mg w z
-          (λ y a b. keep-at y (omega (arith, r .metas-at)) (omega (arith, r .group-lists-at, r .meta-lists-at, r .order-at)))
-          (λ y a b. keep-at y (omega (arith, r .metas-at, r .group-lists-at, r .meta-lists-at)) (omega (arith, r .order-at))) (l .byMeta);
-    }
-
-    layout′ : Layout n m k ge go mo gm mg od z
-    layout′ = record {
-      edges-at = r .edges-at;
-      groups-at = r .groups-at;
-      metas-at = r .metas-at;
-      group-lists-at = r .group-lists-at;
-      meta-lists-at = r .meta-lists-at;
-      order-at = r .order-at;
-      fits = omega (arith, r .fits, c .size, h .size);
-      room = r .room;
-      some = r .some;
-      few = r .few;
-    }
-
-    small : (g : ℕ) → ofGroup g edges′ ≤ k
-    small g = omega (arith, count-le (λ e. eqb (group e) g) edges′, length-edges bs k)
-
-    order′ : Order n (degree n edges′) (λ i. getD z (od + i) 0)
-    order′ = sorted-order n k od (degree n edges′) z (λ g b. small g) (from v 0) (λ g b. ap (λ (y : ℕ). getD v y 0) (zero-add g) ∙ h .keys g b)
-        (λ g b. c .rest (spot (from v 0) n od g) (λ p q. omega (arith, spot-in (from v 0) n od g b .0, r .edges-at, r .groups-at, r .metas-at, r .group-lists-at, r .meta-lists-at, r .order-at))
-        ∙ x .spots g b ∙ h .numbers g b)
-
-    pub ordered-tables : Tables n m go mo od edges′ z
-    ordered-tables = tables-from n m ge go mo gm mg od bs k z layout′ inp (listed′ .byGroup) (listed′ .byMeta) order′
-
-    pub ordered-zeros : (y : ℕ) → y < n + m + n → getD z y 0 ≡ 0
-    ordered-zeros y b = ap (λ (t : ℕ). getD z t 0) (sym (zero-add y)) ∙ c .put y (omega arith)
-
-  -- ---- the two lists
-
-  module _ (w : List ℕ) (r : Layout n m k ge go mo gm mg od w) (inp : InRange bs k n m) (g : Gathered w) where
-    pub group-regions : Regions ge (ge + k) k go n gm w
-    group-regions = record {
-      keys-before = omega (arith, r .groups-at);
-      vals-before = omega (arith, r .groups-at);
-      gap = omega (arith, r .metas-at, r .group-lists-at);
-      fits = omega (arith, r .meta-lists-at, r .order-at, r .fits);
-      room = omega (arith, r .meta-lists-at, r .order-at, r .room);
-      keys = λ i b. rw (g .groups i b) (inp i b .0);
-    }
-
-    pub group-zeros : (x : ℕ) → x < n → getD w (go + x) 0 ≡ 0
-    group-zeros x b = g .zeros (go + x) (omega arith) (omega (arith, r .metas-at, r .group-lists-at, r .meta-lists-at, r .order-at))
-
-    module _ (v : List ℕ) (len : length v ≡ length w) (x : Indexed ge (ge + k) k go n gm w v) where
-      same-low : (y : ℕ) → y < go → getD v y 0 ≡ getD w y 0
-      same-low y b = x .rest y (λ p q. omega arith) (λ p q. omega (arith, r .metas-at, r .group-lists-at))
-
-      pub meta-regions : Regions (ge + k) ge k mo m mg v
-      meta-regions = record {
-        keys-before = omega (arith, r .groups-at, r .metas-at);
-        vals-before = omega (arith, r .groups-at, r .metas-at);
-        gap = omega (arith, r .group-lists-at, r .meta-lists-at);
-        fits = omega (arith, r .order-at, r .fits);
-        room = omega (arith, r .order-at, r .room);
-        keys = λ i b. rw (same-low (ge + k + i) (omega (arith, r .groups-at)), g .metas i b) (inp i b .1);
-      }
-
-      pub meta-zeros : (y : ℕ) → y < m → getD v (mo + y) 0 ≡ 0
-      meta-zeros y b =
-          x .rest (mo + y) (λ p q. omega (arith, r .metas-at)) (λ p q. omega (arith, r .group-lists-at))
-          ∙ g .zeros (mo + y) (omega (arith, r .metas-at)) (omega (arith, r .group-lists-at, r .meta-lists-at, r .order-at))
-
-      pub listed : (u : List ℕ) → Indexed (ge + k) ge k mo m mg v u → Listed u
-      listed u y = record {
-        byGroup = sorted-kept (groupAt bs) (metaAt bs) k go n gm v u
-            (λ z a b. y .rest z (λ p q. omega (arith, r .metas-at)) (λ p q. omega (arith, r .metas-at, r .group-lists-at, r .meta-lists-at)))
-            (λ z a b. y .rest z (λ p q. omega (arith, r .group-lists-at)) (λ p q. omega (arith, r .meta-lists-at)))
-            (sorted-indexed (groupAt bs) (metaAt bs) ge (ge + k) k go n gm w v (g .groups) (g .metas) x);
-        byMeta = sorted-indexed (metaAt bs) (groupAt bs) (ge + k) ge k mo m mg v u
-            (λ i b. same-low (ge + k + i) (omega (arith, r .groups-at)) ∙ g .metas i b)
-            (λ i b. same-low (ge + i) (omega (arith, r .groups-at)) ∙ g .groups i b) y;
-      }
-
-  -- ---- gathering and ranking
-
-  pub gathered : (w v u z : List ℕ) → Layout n m k ge go mo gm mg od w → InRange bs k n m → Puts (λ i. 0) 0 (od + n) w v → Puts (λ j. numberAt 4 bs (8 * j + 0)) ge (ge + k) v u
-      → Puts (metaAt bs) (ge + k) (ge + k + k) u z → Gathered z
-  gathered w v u z r i a b c = record {
-    groups = λ j d. c .rest (ge + j) (λ p q. omega arith) ∙ b .put j (omega arith) ∙ ap (numberAt 4 bs) (add-zero (8 * j));
-    metas = λ j d. c .put j (omega (arith));
-    zeros = λ x d e. c .rest x (λ p q. omega (arith, r .groups-at)) ∙ b .rest x (λ p q. omega (arith, r .groups-at)) ∙ ap (λ (t : ℕ). getD v t 0) (sym (zero-add x)) ∙ a .put x (omega arith);
-  }
-
-  pub ranked : (w v u z : List ℕ) → Layout n m k ge go mo gm mg od w → Puts (λ g. k - ofGroup g edges′) 0 n w v → Puts (λ i. i) (n + m) (n + m + n) v u
-      → Puts (λ i. 0) ge (ge + k + 1) u z → Ranked w z
-  ranked w v u z r a b c = record {
-    size = c .size ∙ b .size ∙ a .size;
-    keys = λ g d. c .rest g (λ p q. omega (arith, r .edges-at)) ∙ b .rest g (λ p q. omega arith) ∙ ap (λ (t : ℕ). getD v t 0) (sym (zero-add g)) ∙ a .put g (omega arith);
-    numbers = λ g d. c .rest (n + m + g) (λ p q. omega (arith, r .edges-at)) ∙ b .put g (omega arith);
-    zeros = λ x d. c .put x (omega arith);
-    rest = λ x d. c .rest x (λ p q. omega (arith, r .groups-at, r .some)) ∙ b .rest x (λ p q. omega (arith, r .edges-at, r .groups-at)) ∙ a .rest x (λ p q. omega (arith, r .edges-at, r .groups-at));
-  }
-
--- ---- one turn of each loop, as the code makes it
-
 pub puts-low : (f : ℕ → ℕ) (i x : ℕ) (w v : List ℕ) → Puts f 0 i w v → i < length v → x ≡ f i → Puts f 0 (i + 1) w (set v i x)
 puts-low f i x w v h b e =
     subst (λ (z : ℕ). Puts f 0 z w (set v i x)) (zero-add (i + 1))
     (subst (λ (z : ℕ). Puts f 0 (0 + (i + 1)) w (set v z x)) (zero-add i)
     (puts-step f 0 i x w v (subst (λ (z : ℕ). Puts f 0 z w v) (sym (zero-add i)) h) (omega arith) e))
 
--- the key of group g
-module _ (n m ge go mo gm mg od : ℕ) (bs : List ℕ) (k : ℕ) (w₀ w : List ℕ) (g : ℕ) (b : g < n) (r : Layout n m k ge go mo gm mg od w₀) (l : Listed n m ge go mo gm mg od bs k w₀)
-    (h : Puts (λ x. k - ofGroup x (edgesTo bs k)) 0 g w₀ w) where
-  pub rank-inside : (go + g + 1 < length w) × (g < length w)
-  rank-inside = (omega (arith, r .metas-at, r .group-lists-at, r .meta-lists-at, r .order-at, r .fits, h .size), omega (arith, r .edges-at, r .groups-at, r .metas-at, r .group-lists-at, r .meta-lists-at, r .order-at, r .fits, h .size))
+-- ---- where everything stands
 
-  pub rank-degree : (getD w (go + g) 0 ≤ getD w (go + g + 1) 0) × (getD w (go + g + 1) 0 - getD w (go + g) 0 ≤ k) × (getD w (go + g + 1) 0 - getD w (go + g) 0 ≡ ofGroup g (edgesTo bs k))
-  rank-degree =
-      let a : getD w (go + g) 0 ≡ gm + belows (groupAt bs) k g = h .rest (go + g) (λ p q. omega (arith, r .edges-at, r .groups-at)) ∙ l .byGroup .starts g (omega arith) in
-      let c : getD w (go + g + 1) 0 ≡ gm + belows (groupAt bs) k (g + 1) = h .rest (go + g + 1) (λ p q. omega (arith, r .edges-at, r .groups-at)) ∙ ap (λ (z : ℕ). getD w₀ z 0) (assoc go g) ∙ l .byGroup .starts (g + 1) (omega arith) in
-      let d : belows (groupAt bs) k (g + 1) ≡ belows (groupAt bs) k g + equals (groupAt bs) k g = belows-next (groupAt bs) k g in
-      (omega arith, omega (arith, belows-le (groupAt bs) k (g + 1)), omega (arith, equals-group bs k g))
-    where
-      assoc : (x y : ℕ) → x + y + 1 ≡ x + (y + 1)
-      assoc x y = omega arith
+module _ (areas : Areas) where
+  abbrev n : ℕ
+  n = areas .groups
 
-pub layout-kept : (n m k ge go mo gm mg od : ℕ) (w v : List ℕ) → length v ≡ length w → Layout n m k ge go mo gm mg od w → Layout n m k ge go mo gm mg od v
-layout-kept n m k ge go mo gm mg od w v l r = record {
-  edges-at = r .edges-at;
-  groups-at = r .groups-at;
-  metas-at = r .metas-at;
-  group-lists-at = r .group-lists-at;
-  meta-lists-at = r .meta-lists-at;
-  order-at = r .order-at;
-  fits = omega (arith, r .fits);
-  room = r .room;
-  some = r .some;
-  few = r .few;
-}
+  abbrev m : ℕ
+  m = areas .metas
+
+  abbrev ge : ℕ
+  ge = areas .ge
+
+  abbrev go : ℕ
+  go = areas .go
+
+  abbrev mo : ℕ
+  mo = areas .mo
+
+  abbrev gm : ℕ
+  gm = areas .gm
+
+  abbrev mg : ℕ
+  mg = areas .mg
+
+  abbrev od : ℕ
+  od = areas .od
+
+  pub record Layout (k : ℕ) (w : List ℕ) : Type 0 where
+    pub edges-at : ge ≡ n + m + n
+    pub groups-at : go ≡ ge + k + k + 1
+    pub metas-at : mo ≡ go + n + 1
+    pub group-lists-at : gm ≡ mo + m + 1
+    pub meta-lists-at : mg ≡ gm + k
+    pub order-at : od ≡ mg + k
+    pub fits : od + n ≤ length w
+    pub room : od + n ≤ 4294967295
+    pub some : 0 < k
+    pub few : k ≤ 1048576
+
+  -- the sums that the code makes are small
+  pub layout-small : (k : ℕ) (w : List ℕ) → Layout k w → (ge + k < 18446744073709551616) × (ge + k + 1 < 18446744073709551616)
+  layout-small k w r =
+      let s : ge + k + 1 ≤ od + n = omega (arith, r .groups-at, r .metas-at, r .group-lists-at, r .meta-lists-at, r .order-at) in
+      (omega (arith, r .room), omega (arith, r .room))
+
+  module _ (bs : List ℕ) (k : ℕ) (w : List ℕ) where
+    abbrev all : List Edge
+    all = edgesTo bs k
+
+    tables-from : Layout k w → InRange bs k n m → Sorted (groupAt bs) (metaAt bs) k go n gm w → Sorted (metaAt bs) (groupAt bs) k mo m mg w
+        → Order n (degree n all) (λ i. getD w (od + i) 0) → Tables areas all w
+    tables-from r i a b c = record {
+      bounds = edges-all bs k n m i;
+      byGroup = lists-sorted (groupAt bs) (metaAt bs) k go n gm (n + m + n) w (λ x. ofGroup x all) (λ x y. count (sameEdge (x, y)) all)
+          (equals-group bs k) (pairs-group bs k) (omega (arith, r .edges-at, r .groups-at)) (omega (arith, r .metas-at, r .group-lists-at))
+          (omega (arith, r .meta-lists-at, r .order-at, r .fits)) a;
+      byMeta = lists-sorted (metaAt bs) (groupAt bs) k mo m mg (n + m + n) w (λ x. ofMeta x all) (λ x y. count (sameEdge (y, x)) all)
+          (equals-meta bs k) (pairs-meta bs k) (omega (arith, r .edges-at, r .groups-at, r .metas-at)) (omega (arith, r .group-lists-at, r .meta-lists-at))
+          (omega (arith, r .order-at, r .fits)) b;
+      order = c;
+      order-above = omega (arith, r .edges-at, r .groups-at, r .metas-at, r .group-lists-at, r .meta-lists-at, r .order-at);
+      order-fits = r .fits;
+    }
+
+  -- ---- the order
+
+  module _ (bs : List ℕ) (k : ℕ) where
+    abbrev edges′ : List Edge
+    edges′ = edgesTo bs k
+
+    -- what the edges in w look like before the lists are made
+    pub record Gathered (w : List ℕ) : Type 0 where
+      pub groups : (i : ℕ) → i < k → from w ge i ≡ groupAt bs i
+      pub metas : (i : ℕ) → i < k → from w (ge + k) i ≡ metaAt bs i
+      pub zeros : (x : ℕ) → go ≤ x → x < od + n → getD w x 0 ≡ 0
+
+    -- the keys and the numbers of the groups, and room for the boundaries
+    pub record Ranked (w v : List ℕ) : Type 0 where
+      pub size : length v ≡ length w
+      pub keys : (g : ℕ) → g < n → getD v g 0 ≡ k - ofGroup g edges′
+      pub numbers : (g : ℕ) → g < n → getD v (n + m + g) 0 ≡ g
+      pub zeros : (x : ℕ) → x ≤ k → getD v (ge + x) 0 ≡ 0
+      pub rest : (x : ℕ) → go ≤ x → getD v x 0 ≡ getD w x 0
+
+    pub record Listed (w : List ℕ) : Type 0 where
+      pub byGroup : Sorted (groupAt bs) (metaAt bs) k go n gm w
+      pub byMeta : Sorted (metaAt bs) (groupAt bs) k mo m mg w
+
+    pub ranked-regions : (w v : List ℕ) → Layout k w → Ranked w v → Regions 0 (n + m) n ge (k + 1) od v
+    ranked-regions w v r h = record {
+      keys-before = omega (arith, r .edges-at);
+      vals-before = omega (arith, r .edges-at);
+      gap = omega (arith, r .groups-at, r .metas-at, r .group-lists-at, r .meta-lists-at, r .order-at, r .some);
+      fits = omega (arith, r .fits, h .size);
+      room = r .room;
+      keys = λ i b. rw (zero-add i) (omega (arith, h .keys i b));
+    }
+
+    module _ (w v u z : List ℕ) (r : Layout k w) (inp : InRange bs k n m) (l : Listed w) (h : Ranked w v)
+        (x : Indexed 0 (n + m) n ge (k + 1) od v u) (len : length u ≡ length v) (c : Puts (λ i. 0) 0 (n + m + n) u z) where
+      keep-at : (y : ℕ) → go ≤ y → y < od → getD z y 0 ≡ getD w y 0
+      keep-at y a b =
+          c .rest y (λ p q. omega (arith, r .edges-at, r .groups-at))
+          ∙ x .rest y (λ p q. omega (arith, r .groups-at, r .some)) (λ p q. omega arith)
+          ∙ h .rest y a
+
+      listed′ : Listed z
+      listed′ = record {
+        byGroup = sorted-kept (groupAt bs) (metaAt bs) k go n gm w z
+            (λ y a b. keep-at y a (omega (arith, r .metas-at, r .group-lists-at, r .meta-lists-at, r .order-at)))
+            (λ y a b. keep-at y (omega (arith, r .metas-at, r .group-lists-at)) (omega (arith, r .meta-lists-at, r .order-at))) (l .byGroup);
+        byMeta = sorted-kept (metaAt bs) (groupAt bs) k mo m mg w z
+            (λ y a b. keep-at y (omega (arith, r .metas-at)) (omega (arith, r .group-lists-at, r .meta-lists-at, r .order-at)))
+            (λ y a b. keep-at y (omega (arith, r .metas-at, r .group-lists-at, r .meta-lists-at)) (omega (arith, r .order-at))) (l .byMeta);
+      }
+
+      layout′ : Layout k z
+      layout′ = record {
+        edges-at = r .edges-at;
+        groups-at = r .groups-at;
+        metas-at = r .metas-at;
+        group-lists-at = r .group-lists-at;
+        meta-lists-at = r .meta-lists-at;
+        order-at = r .order-at;
+        fits = omega (arith, r .fits, c .size, h .size);
+        room = r .room;
+        some = r .some;
+        few = r .few;
+      }
+
+      small : (g : ℕ) → ofGroup g edges′ ≤ k
+      small g = omega (arith, count-le (λ e. eqb (group e) g) edges′, length-edges bs k)
+
+      order′ : Order n (degree n edges′) (λ i. getD z (od + i) 0)
+      order′ = sorted-order n k od (degree n edges′) z (λ g b. small g) (from v 0) (λ g b. ap (λ (y : ℕ). getD v y 0) (zero-add g) ∙ h .keys g b)
+          (λ g b. c .rest (spot (from v 0) n od g) (λ p q. omega (arith, spot-in (from v 0) n od g b .0, r .edges-at, r .groups-at, r .metas-at, r .group-lists-at, r .meta-lists-at, r .order-at))
+          ∙ x .spots g b ∙ h .numbers g b)
+
+      pub ordered-tables : Tables areas edges′ z
+      ordered-tables = tables-from bs k z layout′ inp (listed′ .byGroup) (listed′ .byMeta) order′
+
+      pub ordered-zeros : (y : ℕ) → y < n + m + n → getD z y 0 ≡ 0
+      ordered-zeros y b = ap (λ (t : ℕ). getD z t 0) (sym (zero-add y)) ∙ c .put y (omega arith)
+
+    -- ---- the two lists
+
+    module _ (w : List ℕ) (r : Layout k w) (inp : InRange bs k n m) (g : Gathered w) where
+      pub group-regions : Regions ge (ge + k) k go n gm w
+      group-regions = record {
+        keys-before = omega (arith, r .groups-at);
+        vals-before = omega (arith, r .groups-at);
+        gap = omega (arith, r .metas-at, r .group-lists-at);
+        fits = omega (arith, r .meta-lists-at, r .order-at, r .fits);
+        room = omega (arith, r .meta-lists-at, r .order-at, r .room);
+        keys = λ i b. rw (g .groups i b) (inp i b .0);
+      }
+
+      pub group-zeros : (x : ℕ) → x < n → getD w (go + x) 0 ≡ 0
+      group-zeros x b = g .zeros (go + x) (omega arith) (omega (arith, r .metas-at, r .group-lists-at, r .meta-lists-at, r .order-at))
+
+      module _ (v : List ℕ) (len : length v ≡ length w) (x : Indexed ge (ge + k) k go n gm w v) where
+        same-low : (y : ℕ) → y < go → getD v y 0 ≡ getD w y 0
+        same-low y b = x .rest y (λ p q. omega arith) (λ p q. omega (arith, r .metas-at, r .group-lists-at))
+
+        pub meta-regions : Regions (ge + k) ge k mo m mg v
+        meta-regions = record {
+          keys-before = omega (arith, r .groups-at, r .metas-at);
+          vals-before = omega (arith, r .groups-at, r .metas-at);
+          gap = omega (arith, r .group-lists-at, r .meta-lists-at);
+          fits = omega (arith, r .order-at, r .fits);
+          room = omega (arith, r .order-at, r .room);
+          keys = λ i b. rw (same-low (ge + k + i) (omega (arith, r .groups-at)), g .metas i b) (inp i b .1);
+        }
+
+        pub meta-zeros : (y : ℕ) → y < m → getD v (mo + y) 0 ≡ 0
+        meta-zeros y b =
+            x .rest (mo + y) (λ p q. omega (arith, r .metas-at)) (λ p q. omega (arith, r .group-lists-at))
+            ∙ g .zeros (mo + y) (omega (arith, r .metas-at)) (omega (arith, r .group-lists-at, r .meta-lists-at, r .order-at))
+
+        pub listed : (u : List ℕ) → Indexed (ge + k) ge k mo m mg v u → Listed u
+        listed u y = record {
+          byGroup = sorted-kept (groupAt bs) (metaAt bs) k go n gm v u
+              (λ z a b. y .rest z (λ p q. omega (arith, r .metas-at)) (λ p q. omega (arith, r .metas-at, r .group-lists-at, r .meta-lists-at)))
+              (λ z a b. y .rest z (λ p q. omega (arith, r .group-lists-at)) (λ p q. omega (arith, r .meta-lists-at)))
+              (sorted-indexed (groupAt bs) (metaAt bs) ge (ge + k) k go n gm w v (g .groups) (g .metas) x);
+          byMeta = sorted-indexed (metaAt bs) (groupAt bs) (ge + k) ge k mo m mg v u
+              (λ i b. same-low (ge + k + i) (omega (arith, r .groups-at)) ∙ g .metas i b)
+              (λ i b. same-low (ge + i) (omega (arith, r .groups-at)) ∙ g .groups i b) y;
+        }
+
+    -- ---- gathering and ranking
+
+    pub gathered : (w v u z : List ℕ) → Layout k w → InRange bs k n m → Puts (λ i. 0) 0 (od + n) w v → Puts (λ j. numberAt 4 bs (8 * j + 0)) ge (ge + k) v u
+        → Puts (metaAt bs) (ge + k) (ge + k + k) u z → Gathered z
+    gathered w v u z r i a b c = record {
+      groups = λ j d. c .rest (ge + j) (λ p q. omega arith) ∙ b .put j (omega arith) ∙ ap (numberAt 4 bs) (add-zero (8 * j));
+      metas = λ j d. c .put j (omega (arith));
+      zeros = λ x d e. c .rest x (λ p q. omega (arith, r .groups-at)) ∙ b .rest x (λ p q. omega (arith, r .groups-at)) ∙ ap (λ (t : ℕ). getD v t 0) (sym (zero-add x)) ∙ a .put x (omega arith);
+    }
+
+    pub ranked : (w v u z : List ℕ) → Layout k w → Puts (λ g. k - ofGroup g edges′) 0 n w v → Puts (λ i. i) (n + m) (n + m + n) v u
+        → Puts (λ i. 0) ge (ge + k + 1) u z → Ranked w z
+    ranked w v u z r a b c = record {
+      size = c .size ∙ b .size ∙ a .size;
+      keys = λ g d. c .rest g (λ p q. omega (arith, r .edges-at)) ∙ b .rest g (λ p q. omega arith) ∙ ap (λ (t : ℕ). getD v t 0) (sym (zero-add g)) ∙ a .put g (omega arith);
+      numbers = λ g d. c .rest (n + m + g) (λ p q. omega (arith, r .edges-at)) ∙ b .put g (omega arith);
+      zeros = λ x d. c .put x (omega arith);
+      rest = λ x d. c .rest x (λ p q. omega (arith, r .groups-at, r .some)) ∙ b .rest x (λ p q. omega (arith, r .edges-at, r .groups-at)) ∙ a .rest x (λ p q. omega (arith, r .edges-at, r .groups-at));
+    }
+
+  -- the key of group g
+  module _ (bs : List ℕ) (k : ℕ) (w₀ w : List ℕ) (g : ℕ) (b : g < n) (r : Layout k w₀) (l : Listed bs k w₀)
+      (h : Puts (λ x. k - ofGroup x (edgesTo bs k)) 0 g w₀ w) where
+    pub rank-inside : (go + g + 1 < length w) × (g < length w)
+    rank-inside = (omega (arith, r .metas-at, r .group-lists-at, r .meta-lists-at, r .order-at, r .fits, h .size), omega (arith, r .edges-at, r .groups-at, r .metas-at, r .group-lists-at, r .meta-lists-at, r .order-at, r .fits, h .size))
+
+    pub rank-degree : (getD w (go + g) 0 ≤ getD w (go + g + 1) 0) × (getD w (go + g + 1) 0 - getD w (go + g) 0 ≤ k) × (getD w (go + g + 1) 0 - getD w (go + g) 0 ≡ ofGroup g (edgesTo bs k))
+    rank-degree =
+        let a : getD w (go + g) 0 ≡ gm + belows (groupAt bs) k g = h .rest (go + g) (λ p q. omega (arith, r .edges-at, r .groups-at)) ∙ l .byGroup .starts g (omega arith) in
+        let c : getD w (go + g + 1) 0 ≡ gm + belows (groupAt bs) k (g + 1) = h .rest (go + g + 1) (λ p q. omega (arith, r .edges-at, r .groups-at)) ∙ ap (λ (z : ℕ). getD w₀ z 0) (assoc go g) ∙ l .byGroup .starts (g + 1) (omega arith) in
+        let d : belows (groupAt bs) k (g + 1) ≡ belows (groupAt bs) k g + equals (groupAt bs) k g = belows-next (groupAt bs) k g in
+        (omega arith, omega (arith, belows-le (groupAt bs) k (g + 1)), omega (arith, equals-group bs k g))
+      where
+        assoc : (x y : ℕ) → x + y + 1 ≡ x + (y + 1)
+        assoc x y = omega arith
+
+  pub layout-kept : (k : ℕ) (w v : List ℕ) → length v ≡ length w → Layout k w → Layout k v
+  layout-kept k w v l r = record {
+    edges-at = r .edges-at;
+    groups-at = r .groups-at;
+    metas-at = r .metas-at;
+    group-lists-at = r .group-lists-at;
+    meta-lists-at = r .meta-lists-at;
+    order-at = r .order-at;
+    fits = omega (arith, r .fits);
+    room = r .room;
+    some = r .some;
+    few = r .few;
+  }
 
 -- the places of the tables for n groups, m meta-peptides and k edges
-pub layout-of : (n m k : ℕ) (w : List ℕ) → 0 < k → k ≤ 1048576 → 4 * n + 2 * m + 4 * k + 3 ≤ length w → 4 * n + 2 * m + 4 * k + 3 ≤ 4294967295
-    → let ge = n + m + n in let go = ge + k + k + 1 in let mo = go + n + 1 in let gm = mo + m + 1 in let mg = gm + k in Layout n m k ge go mo gm mg (mg + k) w
+abbrev pub areasOf : ℕ → ℕ → ℕ → Areas
+areasOf n m k =
+    let ge = n + m + n in
+    let go = ge + k + k + 1 in
+    let mo = go + n + 1 in
+    let gm = mo + m + 1 in
+    let mg = gm + k in
+    record { groups = n; metas = m; ge = ge; go = go; mo = mo; gm = gm; mg = mg; od = mg + k }
+
+pub layout-of : (n m k : ℕ) (w : List ℕ) → 0 < k → k ≤ 1048576 → 4 * n + 2 * m + 4 * k + 3 ≤ length w → 4 * n + 2 * m + 4 * k + 3 ≤ 4294967295 → Layout (areasOf n m k) k w
 layout-of n m k w z f a b = record {
   edges-at = refl;
   groups-at = refl;

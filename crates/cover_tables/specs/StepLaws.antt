@@ -18,6 +18,7 @@ use Rattle.cover_spec.specs.CountLaws.{all-at}
 use Rattle.cover_spec.specs.TakeLaws.{taken, takes}
 use Rattle.cover_spec.specs.RunLaws.{after}
 use Rattle.cover_spec.specs.LevelLaws.{remaining, At, after-lean, found, passed-by, down, at-start, at-end}
+use Rattle.cover_tables.specs.declared.areas.Areas.{Areas}
 use Rattle.cover_index.specs.PlaceLaws.{among, Same, among-step, among-done, among-has}
 
 -- ---- counting
@@ -42,7 +43,22 @@ split u v x g i h l =
         go false j true k = rw (h (meta e), j, k, eqb-sym g (group e) ∙ k, eqb-sym x (meta e) ∙ j) (omega arith)
         go false j false k = rw (h (meta e), j, k, eqb-sym g (group e) ∙ k) (omega arith)
 
-module _ (n m go mo od : ℕ) (all : List Edge) where
+module _ (areas : Areas) (all : List Edge) where
+  abbrev n : ℕ
+  n = areas .groups
+
+  abbrev m : ℕ
+  m = areas .metas
+
+  abbrev go : ℕ
+  go = areas .go
+
+  abbrev mo : ℕ
+  mo = areas .mo
+
+  abbrev od : ℕ
+  od = areas .od
+
   -- whether meta-peptide y is covered
   abbrev pub covers : List ℕ → ℕ → Bool
   covers w y = eqb (getD w (n + y) 0) 1
@@ -53,7 +69,7 @@ module _ (n m go mo od : ℕ) (all : List Edge) where
 
   -- the tables can be worked on
   pub record Walk (w : List ℕ) : Type 0 where
-    pub tables : Tables n m go mo od all w
+    pub tables : Tables areas all w
     pub counts : Counts w
 
   -- w with meta-peptide x covered is v
@@ -71,7 +87,7 @@ module _ (n m go mo od : ℕ) (all : List Edge) where
   -- ---- one meta-peptide
 
   module _ (w : List ℕ) (a : Walk w) (x : ℕ) (b : x < m) where
-    r : Tables n m go mo od all w
+    r : Tables areas all w
     r = a .tables
 
     k : Counts w
@@ -138,7 +154,7 @@ module _ (n m go mo od : ℕ) (all : List Edge) where
 
       pub visited : Visits x w v
       visited = record {
-        walk = record { tables = tables-same n m go mo od all w v (len ∙ length-set w (n + x) 1) (λ y c. visit-rest y (omega arith)) r; counts = visit-counts };
+        walk = record { tables = tables-same areas all w v (len ∙ length-set w (n + x) 1) (λ y c. visit-rest y (omega arith)) r; counts = visit-counts };
         covered = visit-covers;
         rest = visit-rest;
       }
@@ -169,7 +185,7 @@ module _ (n m go mo od : ℕ) (all : List Edge) where
       pub rest : Same (n + m) w₀ w
 
   module _ (c : ℕ) (b : c < n) (w₀ : List ℕ) (a₀ : Walk w₀) where
-    r₀ : Tables n m go mo od all w₀
+    r₀ : Tables areas all w₀
     r₀ = a₀ .tables
 
     pub spread-lists : (go + c < length w₀) × (go + c + 1 < length w₀)
@@ -283,7 +299,7 @@ module _ (n m go mo od : ℕ) (all : List Edge) where
         (all-map (λ e i. ap (λ (z : ℕ). not (eqb z 1)) (sym (other (n + meta e) (λ q. omega (arith, i .1))))) all (a .tables .bounds)))
 
     pub mark-walk : Walk withMark
-    mark-walk = record { tables = tables-same n m go mo od all w withMark (length-set w (n + m + c) 1) (λ x d. other x (λ q. omega arith)) (a .tables); counts = counts′ }
+    mark-walk = record { tables = tables-same areas all w withMark (length-set w (n + m + c) 1) (λ x d. other x (λ q. omega arith)) (a .tables); counts = counts′ }
 
     pub takes-all : (v : List ℕ) → Reaches c withMark v → Takes c w v
     takes-all v h = record {
@@ -310,7 +326,7 @@ module _ (n m go mo od : ℕ) (all : List Edge) where
     pub here : At n all (place w) turns d i
 
   module _ (w : List ℕ) (d i : ℕ) (h : Levels d i w) (b : i < n) where
-    tb : Tables n m go mo od all w
+    tb : Tables areas all w
     tb = h .walk .tables
 
     pub place-inside : od + i < length w
@@ -360,5 +376,5 @@ module _ (n m go mo od : ℕ) (all : List Edge) where
       h .stands .marked g b
       ∙ at-end n all (place w) (h .walk .tables .order) (all-map (λ e j. j .0) all (h .walk .tables .bounds)) (h .turns) i (h .here) g
 
-  pub levels-start : (w : List ℕ) (top : ℕ) → Tables n m go mo od all w → Stands 0 w → ((g : ℕ) → g < n → ofGroup g all ≤ top) → Levels top 0 w
+  pub levels-start : (w : List ℕ) (top : ℕ) → Tables areas all w → Stands 0 w → ((g : ℕ) → g < n → ofGroup g all ≤ top) → Levels top 0 w
   levels-start w top r s h = record { walk = record { tables = r; counts = s .counts }; turns = 0; stands = s; here = at-start n all (place w) (r .order) top h }

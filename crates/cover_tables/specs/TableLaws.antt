@@ -12,6 +12,7 @@ use borrow.Author.Tests.{eqb-true, eqb-false, eq-eqb}
 use Rattle.lists.specs.Lists.{bit, count, All}
 use Rattle.cover_spec.specs.Cover.{Edge, group, meta, ofGroup, sameEdge}
 use Rattle.cover_spec.specs.LevelLaws.{Order, degree, remaining}
+use Rattle.cover_tables.specs.declared.areas.Areas.{Areas}
 use Rattle.cover_index.specs.PlaceLaws.{among, Same, among-same, among-step, among-done}
 
 -- ---- lowering the counts under n by the entries of w₀ from a up to e
@@ -111,27 +112,43 @@ lists-same s o n sz c w v l h r = record {
     next : (x : ℕ) → getD v (o + x + 1) 0 ≡ getD w (o + x + 1) 0
     next x = h (o + x + 1) (omega (arith, r .above))
 
-pub record Tables (n m go mo od : ℕ) (all : List Edge) (w : List ℕ) : Type 0 where
-  pub bounds : All (λ e. (group e < n) × (meta e < m)) all
-  pub byGroup : Lists (n + m + n) go n (λ x. ofGroup x all) (λ x y. count (sameEdge (x, y)) all) w
-  pub byMeta : Lists (n + m + n) mo m (λ x. count (λ e. eqb (meta e) x) all) (λ x y. count (sameEdge (y, x)) all) w
-  pub order : Order n (degree n all) (λ i. getD w (od + i) 0)
-  pub order-above : n + m + n ≤ od
-  pub order-fits : od + n ≤ length w
+module _ (areas : Areas) (all : List Edge) where
+  abbrev n : ℕ
+  n = areas .groups
 
-pub tables-same : (n m go mo od : ℕ) (all : List Edge) (w v : List ℕ) → length v ≡ length w → Same (n + m + n) w v → Tables n m go mo od all w → Tables n m go mo od all v
-tables-same n m go mo od all w v l h r = record {
-  bounds = r .bounds;
-  byGroup = lists-same (n + m + n) go n (λ x. ofGroup x all) (λ x y. count (sameEdge (x, y)) all) w v l h (r .byGroup);
-  byMeta = lists-same (n + m + n) mo m (λ x. count (λ e. eqb (meta e) x) all) (λ x y. count (sameEdge (y, x)) all) w v l h (r .byMeta);
-  order = record {
-    below = λ i b. rw (at i) (r .order .below i b);
-    holds = λ g b. let (i, j, q) = r .order .holds g b in (i, j, at i ∙ q);
-    falls = λ i j b k. rw (at i, at j) (r .order .falls i j b k);
-  };
-  order-above = r .order-above;
-  order-fits = omega (arith, r .order-fits);
-}
-  where
-    at : (i : ℕ) → getD v (od + i) 0 ≡ getD w (od + i) 0
-    at i = h (od + i) (omega (arith, r .order-above))
+  abbrev m : ℕ
+  m = areas .metas
+
+  abbrev go : ℕ
+  go = areas .go
+
+  abbrev mo : ℕ
+  mo = areas .mo
+
+  abbrev od : ℕ
+  od = areas .od
+
+  pub record Tables (w : List ℕ) : Type 0 where
+    pub bounds : All (λ e. (group e < n) × (meta e < m)) all
+    pub byGroup : Lists (n + m + n) go n (λ x. ofGroup x all) (λ x y. count (sameEdge (x, y)) all) w
+    pub byMeta : Lists (n + m + n) mo m (λ x. count (λ e. eqb (meta e) x) all) (λ x y. count (sameEdge (y, x)) all) w
+    pub order : Order n (degree n all) (λ i. getD w (od + i) 0)
+    pub order-above : n + m + n ≤ od
+    pub order-fits : od + n ≤ length w
+
+  pub tables-same : (w v : List ℕ) → length v ≡ length w → Same (n + m + n) w v → Tables w → Tables v
+  tables-same w v l h r = record {
+    bounds = r .bounds;
+    byGroup = lists-same (n + m + n) go n (λ x. ofGroup x all) (λ x y. count (sameEdge (x, y)) all) w v l h (r .byGroup);
+    byMeta = lists-same (n + m + n) mo m (λ x. count (λ e. eqb (meta e) x) all) (λ x y. count (sameEdge (y, x)) all) w v l h (r .byMeta);
+    order = record {
+      below = λ i b. rw (at i) (r .order .below i b);
+      holds = λ g b. let (i, j, q) = r .order .holds g b in (i, j, at i ∙ q);
+      falls = λ i j b k. rw (at i, at j) (r .order .falls i j b k);
+    };
+    order-above = r .order-above;
+    order-fits = omega (arith, r .order-fits);
+  }
+    where
+      at : (i : ℕ) → getD v (od + i) 0 ≡ getD w (od + i) 0
+      at i = h (od + i) (omega (arith, r .order-above))

@@ -1,5 +1,6 @@
 // A group is taken: it is marked, each of its meta-peptides that is not covered yet is covered, and their edges leave the counts.
 use cover_index::wide;
+use cover_tables::Areas;
 ghost use Prim.Native.Nat.{ℕ, _+_, _-_, _<_};
 ghost use mathlib.Core.Path.{_≡_};
 ghost use lib.ListN.{getD};
@@ -22,68 +23,38 @@ fn lower(w: &mut [u32], groups: usize, a: usize, e: usize)
 }
 
 // Covers meta-peptide x, if it is not covered yet.
-fn visit(
-    edges: &[u8],
-    n: usize,
-    w: &mut [u32],
-    groups: usize,
-    metas: usize,
-    go: usize,
-    mo: usize,
-    od: usize,
-    x: usize,
-)
-    requires { ⌜ Walk groups metas go mo od (edgesTo (now edges) n) (now w) × (x < metas) ⌝ }
-    ensures { λ _. ⌜ Visits groups metas go mo od (edgesTo (now (edges .entry)) n) x (now (w .entry)) (now (w .exit)) ⌝ }
+fn visit(edges: &[u8], n: usize, w: &mut [u32], areas: Areas, x: usize)
+    requires { ⌜ Walk areas (edgesTo (now edges) n) (now w) × (x < areas .metas) ⌝ }
+    ensures { λ _. ⌜ Visits areas (edgesTo (now (edges .entry)) n) x (now (w .entry)) (now (w .exit)) ⌝ }
 {
-    if w[groups + x] == 1 {
+    if w[areas.groups + x] == 1 {
         return;
     }
-    w[groups + x] = 1;
-    let a = wide(w[mo + x]);
-    let e = wide(w[mo + x + 1]);
-    lower(w, groups, a, e);
+    w[areas.groups + x] = 1;
+    let a = wide(w[areas.mo + x]);
+    let e = wide(w[areas.mo + x + 1]);
+    lower(w, areas.groups, a, e);
 }
 
 // Covers the meta-peptides of group c.
-fn reach(
-    edges: &[u8],
-    n: usize,
-    w: &mut [u32],
-    groups: usize,
-    metas: usize,
-    go: usize,
-    mo: usize,
-    od: usize,
-    c: usize,
-)
-    requires { ⌜ Walk groups metas go mo od (edgesTo (now edges) n) (now w) × (c < groups) ⌝ }
-    ensures { λ _. ⌜ Reaches groups metas go mo od (edgesTo (now (edges .entry)) n) c (now (w .entry)) (now (w .exit)) ⌝ }
+fn reach(edges: &[u8], n: usize, w: &mut [u32], areas: Areas, c: usize)
+    requires { ⌜ Walk areas (edgesTo (now edges) n) (now w) × (c < areas .groups) ⌝ }
+    ensures { λ _. ⌜ Reaches areas (edgesTo (now (edges .entry)) n) c (now (w .entry)) (now (w .exit)) ⌝ }
 {
-    let mut p = wide(w[go + c]);
-    let e = wide(w[go + c + 1]);
+    let mut p = wide(w[areas.go + c]);
+    let e = wide(w[areas.go + c + 1]);
     while p < e {
         let x = wide(w[p]);
-        visit(edges, n, w, groups, metas, go, mo, od, x);
+        visit(edges, n, w, areas, x);
         p += 1;
     }
 }
 
 // Takes group c: marks it and covers its meta-peptides.
-pub fn choose(
-    edges: &[u8],
-    n: usize,
-    w: &mut [u32],
-    groups: usize,
-    metas: usize,
-    go: usize,
-    mo: usize,
-    od: usize,
-    c: usize,
-)
-    requires { ⌜ Walk groups metas go mo od (edgesTo (now edges) n) (now w) × (c < groups) ⌝ }
-    ensures { λ _. ⌜ Takes groups metas go mo od (edgesTo (now (edges .entry)) n) c (now (w .entry)) (now (w .exit)) ⌝ }
+pub fn choose(edges: &[u8], n: usize, w: &mut [u32], areas: Areas, c: usize)
+    requires { ⌜ Walk areas (edgesTo (now edges) n) (now w) × (c < areas .groups) ⌝ }
+    ensures { λ _. ⌜ Takes areas (edgesTo (now (edges .entry)) n) c (now (w .entry)) (now (w .exit)) ⌝ }
 {
-    w[groups + metas + c] = 1;
-    reach(edges, n, w, groups, metas, go, mo, od, c);
+    w[areas.groups + areas.metas + c] = 1;
+    reach(edges, n, w, areas, c);
 }

@@ -1,6 +1,7 @@
 // The run over edges.
 use crate::walking::descend;
 use cover_levels::prepare;
+use cover_tables::Areas;
 ghost use Prim.Native.Nat.{ℕ, _+_, _*_, _<_, _≤_};
 ghost use mathlib.Core.Path.{_≡_};
 ghost use lib.Dec.{eqb};
@@ -20,6 +21,16 @@ pub(crate) fn run(edges: &[u8], n: usize, w: &mut [u32], groups: usize, metas: u
     let gm = mo + metas + 1;
     let mg = gm + n;
     let od = mg + n;
-    prepare(edges, n, w, groups, metas, ge, go, mo, gm, mg, od);
-    descend(edges, n, w, groups, metas, go, mo, od, n);
+    let areas = Areas {
+        groups: groups,
+        metas: metas,
+        ge: ge,
+        go: go,
+        mo: mo,
+        gm: gm,
+        mg: mg,
+        od: od,
+    };
+    prepare(edges, n, w, areas);
+    descend(edges, n, w, areas, n);
 }

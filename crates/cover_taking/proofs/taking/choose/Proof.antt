@@ -10,13 +10,13 @@ use Rattle.cover_taking.proofs.taking.choose.Statement.{statement}
 use Rattle.cover_taking.proofs.taking.choose.Tie as tie
 
 reach-requires : tie.Need-reach-requires
-reach-requires c κs = let s = c .before .before .before in (mark-walk (s .args .groups) (s .args .metas) (s .args .go) (s .args .mo) (s .args .od) (edgesTo (now (s .args .edges)) (s .args .n)) (s .args .c) (s .pre .1) (now (s .args .w)) (s .pre .0), s .pre .1)
+reach-requires c κs = let s = c .before .before .before .before in (mark-walk (s .args .areas) (edgesTo (now (s .args .edges)) (s .args .n)) (s .args .c) (s .pre .1) (now (s .args .w)) (s .pre .0), s .pre .1)
 
 same-length : tie.Need-same-length
-same-length c = c .before .before .reach .kept .1 .1 .0 ∙ length-set (now (c .before .before .before .before .before .before .args .w)) (c .before .before .before .before .before .before .args .groups + c .before .before .before .before .before .before .args .metas + c .before .before .before .before .before .before .args .c) 1
+same-length c = let a = c .before .before .before .before .before .before .before .args in c .before .before .reach .kept .1 .1 .0 ∙ length-set (now (a .w)) (a .areas .groups + a .areas .metas + a .c) 1
 
 returns : tie.Need-returns
-returns c = let s = c .before .before .before .before .before .before in takes-all (s .args .groups) (s .args .metas) (s .args .go) (s .args .mo) (s .args .od) (edgesTo (now (s .args .edges)) (s .args .n)) (s .args .c) (s .pre .1) (now (s .args .w)) (s .pre .0) (c .before .before .reach .last .1 .1 .0) (c .before .before .reach .ensures)
+returns c = let s = c .before .before .before .before .before .before .before in takes-all (s .args .areas) (edgesTo (now (s .args .edges)) (s .args .n)) (s .args .c) (s .pre .1) (now (s .args .w)) (s .pre .0) (c .before .before .reach .last .1 .1 .0) (c .before .before .reach .ensures)
 
 pub choose-spec : {M : Type 1} → statement M
 choose-spec =

@@ -48,7 +48,7 @@ same-length : tie.Need-same-length Inv-loop μ-loop
 same-length c = c .before .loop .inv .size
 
 returns : tie.Need-returns Inv-loop μ-loop
-returns c = (lowered-end (c .before .before .before .args .groups) (c .before .before .before .args .a) (c .before .before .before .args .e) (now (c .before .before .before .args .w)) (c .before .loop .w) (c .before .loop .p) (c .before .loop .inv) (omega arith), c .before .loop .inv .rest)
+returns c = let a = c .before .before .before .args in (lowered-end (a .groups) (a .a) (a .e) (now (a .w)) (c .before .loop .w) (c .before .loop .p) (c .before .loop .inv) (omega arith), c .before .loop .inv .rest)
 
 pub lower-spec : {M : Type 1} → statement M
 lower-spec =

@@ -11,10 +11,10 @@ use Rattle.cover_walk.proofs.walking.descend.Statement.{statement}
 use Rattle.cover_walk.proofs.walking.descend.Tie as tie
 
 abbrev Inv-loop : tie.InvT-loop
-Inv-loop bs k w₀ n m go mo od top d₀ w d = (length w ≡ length w₀) × Levels n m go mo od (edgesTo bs k) d 0 w
+Inv-loop bs k w₀ areas top d₀ w d = (length w ≡ length w₀) × Levels areas (edgesTo bs k) d 0 w
 
 abbrev μ-loop : tie.MeasureT-loop
-μ-loop bs k w₀ n m go mo od top d₀ w d = d
+μ-loop bs k w₀ areas top d₀ w d = d
 
 loop-holds : tie.Need-loop-holds Inv-loop μ-loop
 loop-holds c = (refl, c .before .before .pre)
@@ -29,7 +29,7 @@ same-length : tie.Need-same-length Inv-loop μ-loop
 same-length c = c .before .loop .inv .0
 
 returns : tie.Need-returns Inv-loop μ-loop
-returns c = let s = c .before .before .before .before in levels-end (s .args .groups) (s .args .metas) (s .args .go) (s .args .mo) (s .args .od) (edgesTo (now (s .args .edges)) (s .args .n)) (c .before .loop .w) 0 (subst (λ (x : ℕ). Levels (s .args .groups) (s .args .metas) (s .args .go) (s .args .mo) (s .args .od) (edgesTo (now (s .args .edges)) (s .args .n)) x 0 (c .before .loop .w)) (omega arith) (c .before .loop .inv .1))
+returns c = let s = c .before .before .before .before in levels-end (s .args .areas) (edgesTo (now (s .args .edges)) (s .args .n)) (c .before .loop .w) 0 (subst (λ (x : ℕ). Levels (s .args .areas) (edgesTo (now (s .args .edges)) (s .args .n)) x 0 (c .before .loop .w)) (omega arith) (c .before .loop .inv .1))
 
 pub descend-spec : {M : Type 1} → statement M
 descend-spec =

@@ -10,8 +10,8 @@ use Rattle.cover_edges.specs.Edges.{edgesTo}
 use Rattle.cover_walk.proofs.walking.step.Statement.{statement}
 use Rattle.cover_walk.proofs.walking.step.Tie as tie
 
-inside : (c : tie.After-wide) → c .wide .result < length (now (c .before .before .before .before .args .w))
-inside c = let s = c .before .before .before .before in rw (c .wide .ensures) (group-inside (s .args .groups) (s .args .metas) (s .args .go) (s .args .mo) (s .args .od) (edgesTo (now (s .args .edges)) (s .args .n)) (now (s .args .w)) (s .args .d) (s .args .i) (s .pre .0) (s .pre .1))
+inside : (c : tie.After-wide) → c .wide .result < length (now (c .before .before .before .before .before .args .w))
+inside c = let s = c .before .before .before .before .before in rw (c .wide .ensures) (group-inside (s .args .areas) (edgesTo (now (s .args .edges)) (s .args .n)) (now (s .args .w)) (s .args .d) (s .args .i) (s .pre .0) (s .pre .1))
 
 mul-wide-2 : tie.Need-mul-wide-2
 mul-wide-2 c = omega (arith, inside c)
@@ -20,13 +20,13 @@ slice-read-wide-2 : tie.Need-slice-read-wide-2
 slice-read-wide-2 c = inside (c .before)
 
 choose-requires : tie.Need-choose-requires
-choose-requires c κs = let s = c .before .before .before .before .before .before .before .before in (s .pre .0 .walk, rw (c .before .before .before .before .wide .ensures) (place-group (s .args .groups) (s .args .metas) (s .args .go) (s .args .mo) (s .args .od) (edgesTo (now (s .args .edges)) (s .args .n)) (now (s .args .w)) (s .args .d) (s .args .i) (s .pre .0) (s .pre .1)))
+choose-requires c κs = let s = c .before .before .before .before .before .before .before .before .before in (s .pre .0 .walk, rw (c .before .before .before .before .wide .ensures) (place-group (s .args .areas) (edgesTo (now (s .args .edges)) (s .args .n)) (now (s .args .w)) (s .args .d) (s .args .i) (s .pre .0) (s .pre .1)))
 
 returns : tie.Need-returns
-returns c = let s = c .before .before .before .before .before .before .before .before .before .before .before in levels-take (s .args .groups) (s .args .metas) (s .args .go) (s .args .mo) (s .args .od) (edgesTo (now (s .args .edges)) (s .args .n)) (now (s .args .w)) (s .args .d) (s .args .i) (s .pre .0) (s .pre .1) (s .pre .2) (ap (λ (x : ℕ). getD (now (s .args .w)) x 0) (sym (c .before .before .before .before .before .before .before .wide .ensures)) ∙ sym (c .before .before .before .before .before .wide2 .ensures) ∙ c .before .before .before .before .if1 .taken) (c .before .before .choose .last .1 .1 .0) (rw (← c .before .before .before .before .before .before .before .wide .ensures) (c .before .before .choose .ensures))
+returns c = let s = c .before .before .before .before .before .before .before .before .before .before .before .before in levels-take (s .args .areas) (edgesTo (now (s .args .edges)) (s .args .n)) (now (s .args .w)) (s .args .d) (s .args .i) (s .pre .0) (s .pre .1) (s .pre .2) (ap (λ (x : ℕ). getD (now (s .args .w)) x 0) (sym (c .before .before .before .before .before .before .before .wide .ensures)) ∙ sym (c .before .before .before .before .before .wide2 .ensures) ∙ c .before .before .before .before .if1 .taken) (c .before .before .choose .last .1 .1 .0) (rw (← c .before .before .before .before .before .before .before .wide .ensures) (c .before .before .choose .ensures))
 
 returns-2 : tie.Need-returns-2
-returns-2 c = let s = c .before .before .before .before .before .before .before in levels-pass (s .args .groups) (s .args .metas) (s .args .go) (s .args .mo) (s .args .od) (edgesTo (now (s .args .edges)) (s .args .n)) (now (s .args .w)) (s .args .d) (s .args .i) (s .pre .0) (s .pre .1) (λ q. c .if1 .left (c .before .wide2 .ensures ∙ ap (λ (x : ℕ). getD (now (s .args .w)) x 0) (c .before .before .before .wide .ensures) ∙ q))
+returns-2 c = let s = c .before .before .before .before .before .before .before .before in levels-pass (s .args .areas) (edgesTo (now (s .args .edges)) (s .args .n)) (now (s .args .w)) (s .args .d) (s .args .i) (s .pre .0) (s .pre .1) (λ q. c .if1 .left (c .before .wide2 .ensures ∙ ap (λ (x : ℕ). getD (now (s .args .w)) x 0) (c .before .before .before .wide .ensures) ∙ q))
 
 pub step-spec : {M : Type 1} → statement M
 step-spec =

@@ -10,10 +10,10 @@ use Rattle.cover_walk.proofs.walking.sweep.Statement.{statement}
 use Rattle.cover_walk.proofs.walking.sweep.Tie as tie
 
 abbrev Inv-loop : tie.InvT-loop
-Inv-loop bs k w₀ n m go mo od d i₀ w i = (length w ≡ length w₀) × (i ≤ n) × Levels n m go mo od (edgesTo bs k) d i w
+Inv-loop bs k w₀ areas d i₀ w i = (length w ≡ length w₀) × (i ≤ areas .groups) × Levels areas (edgesTo bs k) d i w
 
 abbrev μ-loop : tie.MeasureT-loop
-μ-loop bs k w₀ n m go mo od d i₀ w i = n - i
+μ-loop bs k w₀ areas d i₀ w i = areas .groups - i
 
 loop-holds : tie.Need-loop-holds Inv-loop μ-loop
 loop-holds c = (refl, omega arith, c .before .before .pre .0)
@@ -37,7 +37,7 @@ same-length : tie.Need-same-length Inv-loop μ-loop
 same-length c = c .before .before .before .loop .inv .0
 
 returns : tie.Need-returns Inv-loop μ-loop
-returns c = let s = c .before .before .before .before .before .before in levels-down (s .args .groups) (s .args .metas) (s .args .go) (s .args .mo) (s .args .od) (edgesTo (now (s .args .edges)) (s .args .n)) (c .before .before .before .loop .w) (s .args .d) (c .before .before .before .loop .i) (c .before .before .before .loop .inv .2) (s .pre .1) (c .before .more .ensures .1 (c .if1 .left))
+returns c = let s = c .before .before .before .before .before .before in levels-down (s .args .areas) (edgesTo (now (s .args .edges)) (s .args .n)) (c .before .before .before .loop .w) (s .args .d) (c .before .before .before .loop .i) (c .before .before .before .loop .inv .2) (s .pre .1) (c .before .more .ensures .1 (c .if1 .left))
 
 pub sweep-spec : {M : Type 1} → statement M
 sweep-spec =
