@@ -14,20 +14,7 @@ use Rattle.protein_groups_spec.specs.CountingLaws.{metasIn, groupsIn}
 use Rattle.protein_groups_spec.specs.LeaderLaws.{le, spread, total, total-keep}
 use Rattle.protein_groups_numbering.specs.SpreadLaws.{textAt}
 use Rattle.protein_groups_runs.specs.TakerLaws.{filled, Takers}
-use Rattle.protein_groups_runs.specs.ThingLaws.{Things, Ran, total-up, same-texts}
-
--- what it asks: boundaries from c on that never fall, of n numbers from l on
-pub record Bounded (w : List ℕ) (o s c m l a b n : ℕ) : Type 0 where
-  pub order : o + m ≤ s
-  pub ranks : s + m ≤ c
-  pub bounds : c + m + 1 ≤ l
-  pub lists : l + n ≤ a
-  pub keys : a + n ≤ b
-  pub fits : b + n ≤ length w
-  pub near : l < 4294967296
-  pub few : m < 4294967296
-  pub rises : (j : ℕ) → j < m → getD w (c + j) 0 ≤ getD w (c + (j + 1)) 0
-  pub ends : getD w (c + m) 0 ≤ n
+use Rattle.protein_groups_runs.specs.ThingLaws.{Tables, Things, Ran, total-up, same-texts}
 
 -- the stretches that are not empty, in the order of their texts
 abbrev pub takersBy : List ℕ → ℕ → ℕ → ℕ → List ℕ
@@ -41,7 +28,7 @@ pub record Distinct (w₀ w : List ℕ) (o c m l a b n k r : ℕ) : Type 0 where
   pub before : (j : ℕ) → j < o → getD w j 0 ≡ getD w₀ j 0
   pub after : (j : ℕ) → b + n ≤ j → getD w j 0 ≡ getD w₀ j 0
 
-module _ (w₀ w₁ : List ℕ) (o s c m l a b n t : ℕ) (l₁ : length w₁ ≡ length w₀) (g : Bounded w₀ o s c m l a b n) (k : Takers w₀ w₁ c m o t) where
+module _ (w₀ w₁ : List ℕ) (o s c m l a b n t : ℕ) (l₁ : length w₁ ≡ length w₀) (g : Tables w₀ o m s c m l a b n) (k : Takers w₀ w₁ c m o t) where
   from : (i : ℕ) → c ≤ i → getD w₁ i 0 ≡ getD w₀ i 0
   from i h = k .after i (omega (arith, g .order, g .ranks))
 
@@ -62,16 +49,18 @@ module _ (w₀ w₁ : List ℕ) (o s c m l a b n t : ℕ) (l₁ : length w₁ �
 
   pub things : Things w₁ o t s c m l a b n
   things = record {
-    order = omega (arith, g .order, k .few);
-    ranks = omega (arith, g .ranks, k .few);
-    bounds = g .bounds;
-    lists = g .lists;
-    keys = g .keys;
-    fits = omega (arith, g .fits);
-    near = g .near;
-    few = omega (arith, k .few, g .few);
-    rises = rises₁;
-    ends = ends₁;
+    tables = record {
+      order = omega (arith, g .order, k .few);
+      ranks = omega (arith, g .ranks, k .few);
+      bounds = g .bounds;
+      lists = g .lists;
+      keys = g .keys;
+      fits = omega (arith, g .fits);
+      near = g .near;
+      few = omega (arith, k .few, g .few);
+      rises = rises₁;
+      ends = ends₁;
+    };
     inside = rw (k .order) (under-keep m (filled w₀ c) 0 m (omega arith));
     most = rw (k .order) short;
   }

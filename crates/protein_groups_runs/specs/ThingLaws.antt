@@ -44,8 +44,9 @@ same-texts x y c l h e = λ i p. each p i
     each : (p : ℕ) → textAt x c l p ≡ textAt y c l p
     each p = rw at-base at (sym (text-is (l - c) c [] x p) ∙ ap (λ (z : List ℕ). textOf (Numbers (l - c)) [] z p) e ∙ text-is (l - c) c [] y p)
 
--- t things from o on, each below m; the m boundaries stand from c on, the n numbers of the texts from l on
-pub record Things (w : List ℕ) (o t s c m l a b n : ℕ) : Type 0 where
+-- tables of one slice, behind one another: places for t things from o on and for their ranks from s on, the boundaries of m stretches from
+-- c on, which never fall, their n numbers from l on, and places for n keys from a on and n values from b on
+pub record Tables (w : List ℕ) (o t s c m l a b n : ℕ) : Type 0 where
   pub order : o + t ≤ s
   pub ranks : s + t ≤ c
   pub bounds : c + m + 1 ≤ l
@@ -56,6 +57,10 @@ pub record Things (w : List ℕ) (o t s c m l a b n : ℕ) : Type 0 where
   pub few : t < 4294967296
   pub rises : (j : ℕ) → j < m → getD w (c + j) 0 ≤ getD w (c + (j + 1)) 0
   pub ends : getD w (c + m) 0 ≤ n
+
+-- t things from o on, each below m
+pub record Things (w : List ℕ) (o t s c m l a b n : ℕ) : Type 0 where
+  pub tables : Tables w o t s c m l a b n
   pub inside : Under m (slice o (o + t) w)
   pub most : total (textAt w c l) (slice o (o + t) w) ≤ n
 
@@ -78,13 +83,13 @@ module _ (w₀ w₂ : List ℕ) (o t s c m l a b n r : ℕ) (l₂ : length w₂ 
   text = textAt w₀ c l
 
   texts : textAt w₂ c l ≡ textAt w₀ c l
-  texts = same-texts w₂ w₀ c l (omega (arith, g .bounds)) (drop-same c w₂ w₀ l₂ (d .after))
+  texts = same-texts w₂ w₀ c l (omega (arith, g .tables .bounds)) (drop-same c w₂ w₀ l₂ (d .after))
 
   spread₂ : spreadBy (textAt w₂ c l) 0 (slice s (s + t) w₂) (slice o (o + t) w₂) ≡ spread (textAt w₀ c l) (sortedThings w₀ o t c l)
   spread₂ = rw (texts, d .ranks, d .order)
 
   long₂ : length (slice o (o + t) w₂) ≡ t
-  long₂ = length-slice o (o + t) w₂ (omega (arith, g .order, g .ranks, g .bounds, g .lists, g .keys, g .fits)) ∙ (let u : o + t - o ≡ t = omega arith in u)
+  long₂ = length-slice o (o + t) w₂ (omega (arith, g .tables .order, g .tables .ranks, g .tables .bounds, g .tables .lists, g .tables .keys, g .tables .fits)) ∙ (let u : o + t - o ≡ t = omega arith in u)
 
   inside₂ : (j : ℕ) → j < t → getD w₂ (o + j) 0 < m
   inside₂ j h =
@@ -94,31 +99,31 @@ module _ (w₀ w₂ : List ℕ) (o t s c m l a b n r : ℕ) (l₂ : length w₂ 
   bound₂ : (x : ℕ) → x < m → (getD w₂ (c + x) 0 ≤ getD w₂ (c + x + 1) 0) × (getD w₂ (c + x + 1) 0 ≤ n)
   bound₂ x h =
       let u : c + x + 1 ≡ c + (x + 1) = omega arith in
-      let e = g .rises x h in
-      let top : getD w₀ (c + (x + 1)) 0 ≤ n = (let v : (x + 1) + (m - (x + 1)) ≡ m = omega arith in let z = rw v at (total-up w₀ c l m (x + 1) (m - (x + 1)) (omega arith) (g .rises)) in omega (arith, g .ends)) in
+      let e = g .tables .rises x h in
+      let top : getD w₀ (c + (x + 1)) 0 ≤ n = (let v : (x + 1) + (m - (x + 1)) ≡ m = omega arith in let z = rw v at (total-up w₀ c l m (x + 1) (m - (x + 1)) (omega arith) (g .tables .rises)) in omega (arith, g .tables .ends)) in
       rw (u, d .after (c + x) (omega arith), d .after (c + (x + 1)) (omega arith)) (e, top)
 
   pub spreadable : Spreadable w₂ o s t c l a b n
   spreadable = record {
-    order = omega (arith, g .order, g .ranks, g .bounds, g .lists);
-    ranks = omega (arith, g .ranks, g .bounds, g .lists);
-    keys = g .keys;
-    fits = omega (arith, g .fits);
-    few = g .few;
-    bounds = λ j h. omega (arith, inside₂ j h, g .bounds, g .lists);
+    order = omega (arith, g .tables .order, g .tables .ranks, g .tables .bounds, g .tables .lists);
+    ranks = omega (arith, g .tables .ranks, g .tables .bounds, g .tables .lists);
+    keys = g .tables .keys;
+    fits = omega (arith, g .tables .fits);
+    few = g .tables .few;
+    bounds = λ j h. omega (arith, inside₂ j h, g .tables .bounds, g .tables .lists);
     rises = λ j h. bound₂ (getD w₂ (o + j) 0) (inside₂ j h) .0;
-    ends = λ j h. omega (arith, bound₂ (getD w₂ (o + j) 0) (inside₂ j h) .1, g .lists);
+    ends = λ j h. omega (arith, bound₂ (getD w₂ (o + j) 0) (inside₂ j h) .1, g .tables .lists);
     room = rw spread₂ (omega (arith, spread-most (textAt w₀ c l) 0 (runNumbers (le (textAt w₀ c l)) (sortedThings w₀ o t c l)) (sortedThings w₀ o t c l), total-sorted (textAt w₀ c l) (le (textAt w₀ c l)) (slice o (o + t) w₀), g .most));
   }
 
   pub ran : (w₃ : List ℕ) (q : ℕ) → length w₃ ≡ length w₂ → Spread w₂ w₃ o s t c l a b n q → Ran w₀ w₃ o t s c l a b n q r
   ran w₃ q l₃ p = record {
     few = p .few;
-    order = slice-same o (o + t) w₃ w₂ (omega (arith, g .order, g .ranks, g .bounds, g .lists, g .keys, g .fits)) (omega (arith, g .order, g .ranks, g .bounds, g .lists, g .keys, g .fits)) (λ i f h. p .before i (omega (arith, g .order, g .ranks, g .bounds, g .lists))) ∙ d .order;
-    ranks = slice-same s (s + t) w₃ w₂ (omega (arith, g .ranks, g .bounds, g .lists, g .keys, g .fits)) (omega (arith, g .ranks, g .bounds, g .lists, g .keys, g .fits)) (λ i f h. p .before i (omega (arith, g .ranks, g .bounds, g .lists))) ∙ d .ranks;
+    order = slice-same o (o + t) w₃ w₂ (omega (arith, g .tables .order, g .tables .ranks, g .tables .bounds, g .tables .lists, g .tables .keys, g .tables .fits)) (omega (arith, g .tables .order, g .tables .ranks, g .tables .bounds, g .tables .lists, g .tables .keys, g .tables .fits)) (λ i f h. p .before i (omega (arith, g .tables .order, g .tables .ranks, g .tables .bounds, g .tables .lists))) ∙ d .order;
+    ranks = slice-same s (s + t) w₃ w₂ (omega (arith, g .tables .ranks, g .tables .bounds, g .tables .lists, g .tables .keys, g .tables .fits)) (omega (arith, g .tables .ranks, g .tables .bounds, g .tables .lists, g .tables .keys, g .tables .fits)) (λ i f h. p .before i (omega (arith, g .tables .ranks, g .tables .bounds, g .tables .lists))) ∙ d .ranks;
     count = d .count;
     keys = p .keys ∙ ap metasIn spread₂;
     values = p .values ∙ ap groupsIn spread₂;
-    before = λ j h. p .before j (omega (arith, g .order, g .ranks, g .bounds, g .lists)) ∙ d .before j h;
-    after = λ j h. p .after j h ∙ d .after j (omega (arith, g .bounds, g .lists, g .keys));
+    before = λ j h. p .before j (omega (arith, g .tables .order, g .tables .ranks, g .tables .bounds, g .tables .lists)) ∙ d .before j h;
+    after = λ j h. p .after j h ∙ d .after j (omega (arith, g .tables .bounds, g .tables .lists, g .tables .keys));
   }

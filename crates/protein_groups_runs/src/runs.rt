@@ -6,8 +6,8 @@ ghost use Prim.Native.Nat.{_+_, _<_, _≤_};
 ghost use lib.ListN.{length};
 ghost use Rattle.protein_groups_runs.specs.TakerLaws.{Takers};
 ghost use Rattle.protein_groups_runs.specs.OrderingLaws.{Ordered};
-ghost use Rattle.protein_groups_runs.specs.ThingLaws.{Things, Ran};
-ghost use Rattle.protein_groups_runs.specs.MetaLaws.{Bounded, Distinct};
+ghost use Rattle.protein_groups_runs.specs.ThingLaws.{Tables, Things, Ran};
+ghost use Rattle.protein_groups_runs.specs.MetaLaws.{Distinct};
 
 // The numbers of the m stretches that are not empty, to w[o..]; answers how many.
 fn takers(w: &mut [u32], e: usize, m: u32, o: usize) -> usize
@@ -84,7 +84,7 @@ pub fn distinct_runs(
     b: usize,
     n: usize,
 ) -> Runs
-    requires { ⌜ Bounded (now w) o s c m l a b n ⌝ }
+    requires { ⌜ Tables (now w) o m s c m l a b n ⌝ }
     ensures { λ r. ⌜ Distinct (now (w .entry)) (now (w .exit)) o c m l a b n (r .entries) (r .count) ⌝ }
 {
     let t = takers(w, c, m, o);

@@ -19,7 +19,8 @@ use Rattle.protein_groups_spec.specs.WholeLaws.{peptidesOf, taking-by, metas-sp
 use Rattle.protein_groups_numbering.specs.SpreadLaws.{textAt}
 use Rattle.protein_groups_runs.specs.TakerLaws.{filled}
 use Rattle.protein_groups_tables.specs.EvidenceLaws.{Given, Evident, keysOf, orderOf, evidence-under}
-use Rattle.protein_groups_runs.specs.MetaLaws.{Bounded, Distinct, takersBy}
+use Rattle.protein_groups_runs.specs.ThingLaws.{Tables}
+use Rattle.protein_groups_runs.specs.MetaLaws.{Distinct, takersBy}
 
 -- what it asks: behind the found and their table work memory, and then the boundaries
 pub record Peptides (w : List ℕ) (k o s c m l a b n : ℕ) : Type 0 where
@@ -48,7 +49,7 @@ module _ (w₀ w₁ : List ℕ) (k o s c m l a b n r : ℕ) (l₁ : length w₁ 
   long-ks : length (keysOf w₀ a n) ≡ n
   long-ks = length-slice a (a + n) w₀ (omega (arith, g .given .laid .keys, g .given .laid .fits)) ∙ (let u : a + n - a ≡ n = omega arith in u)
 
-  pub bounded : Bounded w₁ o s c m l a b n
+  pub bounded : Tables w₁ o m s c m l a b n
   bounded = record {
     order = g .order;
     ranks = g .ranks;

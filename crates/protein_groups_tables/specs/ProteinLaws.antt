@@ -92,16 +92,18 @@ module _ (w₀ w₁ w₂ : List ℕ) (o s c f l a b t : ℕ) (l₁ : length w₁
 
   pub things : Things w₂ o f s c f l a b t
   things = record {
-    order = g .order;
-    ranks = g .ranks;
-    bounds = omega (arith, g .laid .counters);
-    lists = g .laid .values;
-    keys = g .laid .keys;
-    fits = omega (arith, g .laid .fits);
-    near = g .near;
-    few = g .few;
-    rises = rises₂;
-    ends = ends₂;
+    tables = record {
+      order = g .order;
+      ranks = g .ranks;
+      bounds = omega (arith, g .laid .counters);
+      lists = g .laid .values;
+      keys = g .laid .keys;
+      fits = omega (arith, g .laid .fits);
+      near = g .near;
+      few = g .few;
+      rises = rises₂;
+      ends = ends₂;
+    };
     inside = rw (p .row) (under-up f 0 f (omega arith));
     most = rw (p .row) short;
   }

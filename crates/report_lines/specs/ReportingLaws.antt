@@ -27,7 +27,7 @@ use Rattle.report_lines_select.specs.Laying.{Given}
 use Rattle.report_lines_write.specs.Laid.{lineIn, countIn}
 use Rattle.report_lines_write.specs.LineLaws.{Tag, line-is, count-is}
 use Rattle.report_lines_spec.specs.Line.{lineText, lineCount}
-use Rattle.report_lines_tests.specs.TestingLaws.{fair-names, even-names, Good, Fair, roomy, roomy-tested}
+use Rattle.report_lines_tests.specs.TestingLaws.{fair-sizes, fair-names, even-names, Good, Fair, roomy, roomy-tested}
 use Rattle.report_lines.specs.declared.reporting.Report.{Report}
 use Rattle.report_lines.specs.declared.reporting.Reported.{Reported}
 use Rattle.report_lines.specs.declared.reporting.Reported.the-variants.{Line, Refused as No}
@@ -53,11 +53,41 @@ pub record Table (names members marks w : List ℕ) (c : ℕ) : Type 0 where
   pub long : 3 * c + 18 ≤ length w
   pub zeros : (i : ℕ) → getD w i 0 ≡ 0
 
+-- fair lists with at most c names, members and marks
+pub record Fitting (names members marks list : List ℕ) (c : ℕ) : Type 0 where
+  pub fair : Fair names members marks list
+  pub few-names : nameCount names ≤ c
+  pub few-members : length members / 12 ≤ c
+  pub few-marks : length marks ≤ c
+
+module _ {names members marks list : List ℕ} (f : Fair names members marks list) where
+  pub fitting : (c : ℕ) → (leb (nameCount names) c && leb (length members / 12) c && leb (length marks) c) ≡ true → Fitting names members marks list c
+  fitting c e =
+      let x = both (leb (nameCount names) c && leb (length members / 12) c) (leb (length marks) c) e in
+      let y = both (leb (nameCount names) c) (leb (length members / 12) c) (x .0) in
+      record { fair = f; few-names = leb-true _ c (y .0); few-members = leb-true _ c (y .1); few-marks = leb-true _ c (x .1) }
+
+  -- all fair lists do with the largest c
+  pub fitting-most : Fitting names members marks list 131072
+  fitting-most = let s = fair-sizes f in record { fair = f; few-names = omega (arith, s .few-names); few-members = s .few-members; few-marks = s .few-marks }
+
 zeros-at : (n i : ℕ) → _≡_ {A = ℕ} (getD (replicate n 0) i 0) 0
 zeros-at n i = ⊎-elim (λ (h : i < n). getD-replicate n i 0 0 h) (λ (h : n ≤ i). List·getD-eq-default (replicate n 0) 0 {n = i} (omega (arith, length-replicate {A = ℕ} n 0))) (below? i n)
 
-pub new-table : (names members marks : List ℕ) (c n : ℕ) → nameCount names ≤ c → length members / 12 ≤ c → length marks ≤ c → c ≤ 131072 → 3 * c + 18 ≤ n → Table names members marks (replicate n 0) c
-new-table names members marks c n p q r h k = record { few-names = p; few-members = q; few-marks = r; most = h; long = omega (arith, length-replicate {A = ℕ} n 0); zeros = zeros-at n }
+-- a table of the call's own: n zeros are enough for lists that fit c
+pub own-table : {names members marks list : List ℕ} (c n : ℕ) → Fitting names members marks list c → c ≤ 131072 → 3 * c + 18 ≤ n
+    → Fair names members marks list × Table names members marks (replicate n 0) c
+own-table c n f h k = (
+  f .fair,
+  record {
+    few-names = f .few-names;
+    few-members = f .few-members;
+    few-marks = f .few-marks;
+    most = h;
+    long = omega (arith, length-replicate {A = ℕ} n 0);
+    zeros = zeros-at n;
+  },
+)
 
 -- the names are tested in it, and it is zero again
 pub names-told : (names members marks list w : List ℕ) (c : ℕ) → Fair names members marks list → Table names members marks w c → (r : Tested) (t : List ℕ)
@@ -100,13 +130,6 @@ line-outcome names members marks list decoy tag generated w c s few t old new by
     let text = line-is names (membersIn members) marks list decoy tag generated w c s few t in
     let count = count-is names (membersIn members) marks list decoy tag generated w c s few t in
     rw (e, p .0, p .1, p .2, text, count)
-
--- three numbers that are no more than n each
-pub fit-each : (a b c n : ℕ) → (leb a n && leb b n && leb c n) ≡ true → (a ≤ n) × (b ≤ n) × (c ≤ n)
-fit-each a b c n e =
-    let x = both (leb a n && leb b n) (leb c n) e in
-    let y = both (leb a n) (leb b n) (x .0) in
-    (leb-true a n (y .0), leb-true b n (y .1), leb-true c n (x .1))
 
 -- ---- what an answer tells of the tests
 

@@ -8,17 +8,16 @@ use report_lines_texts::Line;
 ghost use mathlib.Core.Path.{_≡_};
 ghost use mathlib.Core.Bool.{_&&_};
 ghost use mathlib.Core.List.{[], _∷_};
-ghost use Prim.Native.Nat.{_/_, _≤_};
+ghost use Prim.Native.Nat.{_/_};
 ghost use lib.Dec.{leb};
 ghost use lib.ListN.{length};
 ghost use Rattle.report_lines_tests.specs.Testing.{tested};
 ghost use Rattle.report_lines_tests.specs.TestingLaws.{Fair};
 ghost use Rattle.records.specs.Outcome.{outcome};
-ghost use Rattle.catalogue_spec.specs.Names.{nameCount};
 ghost use Rattle.report_lines_select.specs.Laying.{Given};
 ghost use Rattle.report_lines_write.specs.LineLaws.{Tag};
 ghost use Rattle.report_lines.specs.Reporting.{reportedOf, lineLined, lineOutcome};
-ghost use Rattle.report_lines.specs.ReportingLaws.{lineTold, Table, testsOf};
+ghost use Rattle.report_lines.specs.ReportingLaws.{lineTold, Table, Fitting, testsOf};
 
 // How many bytes the line has, and how many groups it counts.
 pub struct Report {
@@ -115,7 +114,7 @@ fn line_small(
     generated: bool,
     out: &mut [u8],
 ) -> Reported
-    requires { ⌜ Fair (now names) (now members) (now marks) (now list) × (nameCount (now names) ≤ 1024) × (length (now members) / 12 ≤ 1024) × (length (now marks) ≤ 1024) ⌝ }
+    requires { ⌜ Fitting (now names) (now members) (now marks) (now list) 1024 ⌝ }
     ensures { λ r. ⌜ outcome r (now (out .exit) ∷ []) ≡ lineTold (now (names .entry)) (now (members .entry)) (now (marks .entry)) (now (list .entry)) decoy (now (tag .entry)) generated (now (out .entry)) ⌝ }
 {
     let mut w = [0 as u32; 3090];
@@ -143,7 +142,7 @@ fn line_middle(
     generated: bool,
     out: &mut [u8],
 ) -> Reported
-    requires { ⌜ Fair (now names) (now members) (now marks) (now list) × (nameCount (now names) ≤ 16384) × (length (now members) / 12 ≤ 16384) × (length (now marks) ≤ 16384) ⌝ }
+    requires { ⌜ Fitting (now names) (now members) (now marks) (now list) 16384 ⌝ }
     ensures { λ r. ⌜ outcome r (now (out .exit) ∷ []) ≡ lineTold (now (names .entry)) (now (members .entry)) (now (marks .entry)) (now (list .entry)) decoy (now (tag .entry)) generated (now (out .entry)) ⌝ }
 {
     let mut w = [0 as u32; 49170];
@@ -171,7 +170,7 @@ fn line_wide(
     generated: bool,
     out: &mut [u8],
 ) -> Reported
-    requires { ⌜ Fair (now names) (now members) (now marks) (now list) × (nameCount (now names) ≤ 65536) × (length (now members) / 12 ≤ 65536) × (length (now marks) ≤ 65536) ⌝ }
+    requires { ⌜ Fitting (now names) (now members) (now marks) (now list) 65536 ⌝ }
     ensures { λ r. ⌜ outcome r (now (out .exit) ∷ []) ≡ lineTold (now (names .entry)) (now (members .entry)) (now (marks .entry)) (now (list .entry)) decoy (now (tag .entry)) generated (now (out .entry)) ⌝ }
 {
     let mut w = [0 as u32; 196626];
@@ -199,7 +198,7 @@ fn line_large(
     generated: bool,
     out: &mut [u8],
 ) -> Reported
-    requires { ⌜ Fair (now names) (now members) (now marks) (now list) ⌝ }
+    requires { ⌜ Fitting (now names) (now members) (now marks) (now list) 131072 ⌝ }
     ensures { λ r. ⌜ outcome r (now (out .exit) ∷ []) ≡ lineTold (now (names .entry)) (now (members .entry)) (now (marks .entry)) (now (list .entry)) decoy (now (tag .entry)) generated (now (out .entry)) ⌝ }
 {
     let mut w = [0 as u32; 393234];

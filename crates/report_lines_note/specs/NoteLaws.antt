@@ -15,7 +15,7 @@ use Rattle.lists.specs.Tests.{same?}
 use Rattle.lists.specs.Lists.{upFrom, keep, has}
 use Rattle.lists.specs.RowLaws.{up-snoc}
 use Rattle.protein_groups_members.specs.Members.{Member, memberAt}
-use Rattle.report_lines_spec.specs.Line.{ofGroup, holds, applies}
+use Rattle.report_lines_spec.specs.Line.{inGroup, holds, applies}
 use Rattle.report_lines_note.specs.Noting.{first, Listed, hits, Flagged}
 
 -- ---- one more at the end
@@ -84,7 +84,7 @@ ltb-or (x ∷ xs) (y ∷ ys) = rw (some (length (xs ++ y ∷ ys)), some (length 
 
 module _ (ms : List Member) (m : Member) (marks list : List ℕ) (decoy : Bool) where
   abbrev one : ℕ → List Member
-  one g = keep (holds list decoy) (ofGroup (m ∷ []) g)
+  one g = keep (holds list decoy) (inGroup (m ∷ []) g)
 
   one-is : (g : ℕ) → ltb 0 (length (one g)) ≡ (eqb (m .group) g && holds list decoy m)
   one-is g = go (eqb (m .group) g)
@@ -94,13 +94,13 @@ module _ (ms : List Member) (m : Member) (marks list : List ℕ) (decoy : Bool) 
       go false = refl
 
   applies-more : (g : ℕ) → applies (ms ++ (m ∷ [])) marks list decoy g
-      ≡ (eqb (getD marks g 0) 1 && cond (eqb (m .group) g && holds list decoy m) true (ltb 0 (length (keep (holds list decoy) (ofGroup ms g)))))
+      ≡ (eqb (getD marks g 0) 1 && cond (eqb (m .group) g && holds list decoy m) true (ltb 0 (length (keep (holds list decoy) (inGroup ms g)))))
   applies-more g =
       ap (λ (t : Bool). eqb (getD marks g 0) 1 && t)
       (ap (λ (l : List Member). ltb 0 (length (keep (holds list decoy) l))) (keep-more (λ (x : Member). eqb (x .group) g) ms (m ∷ []))
-      ∙ ap (λ (l : List Member). ltb 0 (length l)) (keep-more (holds list decoy) (ofGroup ms g) (ofGroup (m ∷ []) g))
-      ∙ ltb-or (keep (holds list decoy) (ofGroup ms g)) (one g)
-      ∙ ap (λ (t : Bool). cond t true (ltb 0 (length (keep (holds list decoy) (ofGroup ms g))))) (one-is g))
+      ∙ ap (λ (l : List Member). ltb 0 (length l)) (keep-more (holds list decoy) (inGroup ms g) (inGroup (m ∷ []) g))
+      ∙ ltb-or (keep (holds list decoy) (inGroup ms g)) (one g)
+      ∙ ap (λ (t : Bool). cond t true (ltb 0 (length (keep (holds list decoy) (inGroup ms g))))) (one-is g))
 
 pub flag-none : (marks list w : List ℕ) (decoy : Bool) (c m : ℕ) → ((g : ℕ) → g < m → getD w (c + g) 0 ≡ 0) → Flagged [] marks list decoy w w c m
 flag-none marks list w decoy c m z = record {
@@ -143,7 +143,7 @@ flag-more ms x marks list decoy w₀ w c m inside low fits notes r = record {
         rw (e, applies-more ms x marks list decoy (x .group), eq-eqb (x .group) (x .group) refl)
         (getD-set-same w (c + x .group) v 0 (omega arith)
         ∙ ap (λ (t : Bool). cond (eqb (x .decoy) (cond decoy 1 0) && t && eqb (getD marks (x .group) 0) 1) 1 (getD w (c + x .group) 0)) (ap (λ (y : ℕ). eqb y 1) (notes (x .protein) low) ∙ bit (has (x .protein) list))
-        ∙ pick (eqb (x .decoy) (cond decoy 1 0)) (has (x .protein) list) (eqb (getD marks (x .group) 0) 1) (ltb 0 (length (keep (holds list decoy) (ofGroup ms (x .group))))) (getD w (c + x .group) 0) (r .flags (x .group) inside))
+        ∙ pick (eqb (x .decoy) (cond decoy 1 0)) (has (x .protein) list) (eqb (getD marks (x .group) 0) 1) (ltb 0 (length (keep (holds list decoy) (inGroup ms (x .group))))) (getD w (c + x .group) 0) (r .flags (x .group) inside))
 
     other : (g : ℕ) → g < m → (g ≡ x .group → ⊥) → getD (set w (c + x .group) v) (c + g) 0 ≡ cond (applies (ms ++ (x ∷ [])) marks list decoy g) 1 0
     other g h e =

@@ -15,19 +15,19 @@ abbrev pub tagged : List ℕ → List ℕ → Bool → Member → List ℕ
 tagged names tag generated m = cond (generated && eqb (m .decoy) 1) tag [] ++ untilZero (nameOf names (m .protein))
 
 -- a group's members, in their order
-abbrev pub ofGroup : List Member → ℕ → List Member
-ofGroup ms g = keep (λ (m : Member). eqb (m .group) g) ms
+abbrev pub inGroup : List Member → ℕ → List Member
+inGroup ms g = keep (λ (m : Member). eqb (m .group) g) ms
 
 -- "names in a group, tag included, sorted and joined by `/`"
 abbrev pub groupText : List ℕ → List Member → List ℕ → Bool → ℕ → List ℕ
-groupText names ms tag generated g = join 47 (sorted lexLe (map (tagged names tag generated) (ofGroup ms g)))
+groupText names ms tag generated g = join 47 (sorted lexLe (map (tagged names tag generated) (inGroup ms g)))
 
 -- "the marked groups holding one of its proteins with that flag, each once"
 abbrev pub holds : List ℕ → Bool → Member → Bool
 holds list decoy m = eqb (m .decoy) (cond decoy 1 0) && has (m .protein) list
 
 abbrev pub applies : List Member → List ℕ → List ℕ → Bool → ℕ → Bool
-applies ms marks list decoy g = eqb (getD marks g 0) 1 && ltb 0 (length (keep (holds list decoy) (ofGroup ms g)))
+applies ms marks list decoy g = eqb (getD marks g 0) 1 && ltb 0 (length (keep (holds list decoy) (inGroup ms g)))
 
 abbrev pub applying : List Member → List ℕ → List ℕ → Bool → List ℕ
 applying ms marks list decoy = keep (applies ms marks list decoy) (upFrom 0 (length marks))

@@ -8,7 +8,7 @@ use native.Mathlib.Omega.{arith}
 use native.Mathlib.Numerals.{add-one}
 use lib.Dec.{ltb, eqb}
 use borrow.Author.Tests.{ltb-true, lt-ltb, le-ltb, eq-eqb, ne-eqb}
-use lib.ListN.{length, getD, take, drop, replicate, length-append, length-take, length-drop, length-map, length-replicate, getD-replicate, List·getD-append}
+use lib.ListN.{length, getD, take, drop, replicate, length-append, length-take, length-drop, length-map, getD-replicate, List·getD-append}
 use lib.Seq.{take-all, take-take, drop-at, getD-take, getD-drop, ext-getD, length-take-le, getD-append-add}
 use Rattle.lists.specs.Tests.{below?, both, truth?}
 use Rattle.lists.specs.Lists.{upFrom, keep}
@@ -23,7 +23,8 @@ use Rattle.sorting_texts.specs.Text.{entryText}
 use Rattle.sorting_spec.specs.PartLaws.{at-slice}
 use Rattle.sorting_texts.specs.EntryLaws.{Whole, until-padded}
 use Rattle.protein_groups_members.specs.Members.{Member}
-use Rattle.report_lines_spec.specs.Line.{tagged, ofGroup, groupText, holds, applies, applying, lineText, countOf, lineCount}
+use Rattle.report_lines_spec.specs.Line.{tagged, inGroup, groupText, holds, applies, applying, lineText, countOf, lineCount}
+use Rattle.report_lines_spec.specs.StretchLaws.{length-keys}
 use Rattle.report_lines_spec.specs.Stretches.{entry, tagKeys, byText, gatheredOf, stretchOf, Stretched}
 use Rattle.report_lines_write.specs.Laid.{boundIn, stretchIn, someIn, somes, textIn, lineIn, countIn, Laid}
 use Rattle.report_lines_write.specs.ListLaws.{flat-up}
@@ -38,9 +39,6 @@ pub record Tag (tag : List ℕ) : Type 0 where
 
 tag-whole : (tag : List ℕ) → Tag tag → Whole tag
 tag-whole tag t i h e = omega (arith, t .shown i h .0)
-
-length-keys : (tag : List ℕ) → length tag ≤ 16 → length (tagKeys tag) ≡ 16
-length-keys tag h = length-append tag (replicate (16 - length tag) 0) ∙ omega (arith, length-replicate {A = ℕ} (16 - length tag) 0)
 
 keys-small : (tag : List ℕ) → Tag tag → (i : ℕ) → i < 16 → getD (tagKeys tag) i 0 < 256
 keys-small tag t i h = ⊎-elim inside outside (below? i (length tag))
@@ -138,8 +136,8 @@ module _ (names : List ℕ) (ms : List Member) (marks list : List ℕ) (decoy : 
   evens-stretch : (g : ℕ) → Evens (st g)
   evens-stretch g = evens-sorted (byText names tag) (gatheredOf names ms marks list decoy tag generated g) (go (applies ms marks list decoy g))
     where
-      go : (b : Bool) → Evens (cond b (map (entry generated) (ofGroup ms g)) [])
-      go true = evens-entries generated (ofGroup ms g)
+      go : (b : Bool) → Evens (cond b (map (entry generated) (inGroup ms g)) [])
+      go true = evens-entries generated (inGroup ms g)
       go false = tt
 
   tag-there : (i : ℕ) → i < 16 → getD w (2 * c + i) 0 ≡ getD (tagKeys tag) i 0
@@ -180,14 +178,14 @@ module _ (names : List ℕ) (ms : List Member) (marks list : List ℕ) (decoy : 
 
       yes : applies ms marks list decoy g ≡ true → someIn w (2 * c + 16) g ≡ applies ms marks list decoy g
       yes a =
-          let m : 0 < length (keep (holds list decoy) (ofGroup ms g)) = ltb-true 0 _ (both (eqb (getD marks g 0) 1) (ltb 0 (length (keep (holds list decoy) (ofGroup ms g)))) a .1) in
-          let k : length (gatheredOf names ms marks list decoy tag generated g) ≡ length (ofGroup ms g) =
-          ap (λ (b : Bool). length (cond b (map (entry generated) (ofGroup ms g)) [])) a ∙ length-map (ofGroup ms g) (entry generated) in
-          lt-ltb (boundIn w (2 * c + 16) g) (boundIn w (2 * c + 16) (g + 1)) (omega (arith, adds g h, long, k, keep-length (holds list decoy) (ofGroup ms g))) ∙ sym a
+          let m : 0 < length (keep (holds list decoy) (inGroup ms g)) = ltb-true 0 _ (both (eqb (getD marks g 0) 1) (ltb 0 (length (keep (holds list decoy) (inGroup ms g)))) a .1) in
+          let k : length (gatheredOf names ms marks list decoy tag generated g) ≡ length (inGroup ms g) =
+          ap (λ (b : Bool). length (cond b (map (entry generated) (inGroup ms g)) [])) a ∙ length-map (inGroup ms g) (entry generated) in
+          lt-ltb (boundIn w (2 * c + 16) g) (boundIn w (2 * c + 16) (g + 1)) (omega (arith, adds g h, long, k, keep-length (holds list decoy) (inGroup ms g))) ∙ sym a
 
       none : applies ms marks list decoy g ≡ false → someIn w (2 * c + 16) g ≡ applies ms marks list decoy g
       none a =
-          let k : length (gatheredOf names ms marks list decoy tag generated g) ≡ 0 = ap (λ (b : Bool). length (cond b (map (entry generated) (ofGroup ms g)) [])) a in
+          let k : length (gatheredOf names ms marks list decoy tag generated g) ≡ 0 = ap (λ (b : Bool). length (cond b (map (entry generated) (inGroup ms g)) [])) a in
           le-ltb (boundIn w (2 * c + 16) g) (boundIn w (2 * c + 16) (g + 1)) (omega (arith, adds g h, long, k)) ∙ sym a
 
   somes-are : somes w (2 * c + 16) (length marks) ≡ applying ms marks list decoy
@@ -212,14 +210,14 @@ module _ (names : List ℕ) (ms : List Member) (marks list : List ℕ) (decoy : 
   text-is : (g : ℕ) → g < length marks → applies ms marks list decoy g ≡ true → textIn names w c g ≡ groupText names ms tag generated g
   text-is g h a =
       ap (λ (l : List ℕ). join 47 (map (entryText names (drop (2 * c) w)) l)) (stretch-is g h)
-      ∙ ap (λ (b : Bool). join 47 (map (entryText names (drop (2 * c) w)) (sorted (byText names tag) (cond b (map (entry generated) (ofGroup ms g)) [])))) a
-      ∙ ap (λ (u : List ℕ). join 47 (map (reads u) (sorted (byText names tag) (map (entry generated) (ofGroup ms g))))) tag-in
-      ∙ ap (λ (u : List ℕ). join 47 (map (reads u) (sorted (byText names tag) (map (entry generated) (ofGroup ms g))))) (sym tag-keys)
-      ∙ ap (join 47) (sym (sorted-map lexLe (entryText names (tagKeys tag)) (map (entry generated) (ofGroup ms g))))
-      ∙ ap (λ (u : List ℕ). join 47 (sorted lexLe (map (reads u) (map (entry generated) (ofGroup ms g))))) tag-keys
+      ∙ ap (λ (b : Bool). join 47 (map (entryText names (drop (2 * c) w)) (sorted (byText names tag) (cond b (map (entry generated) (inGroup ms g)) [])))) a
+      ∙ ap (λ (u : List ℕ). join 47 (map (reads u) (sorted (byText names tag) (map (entry generated) (inGroup ms g))))) tag-in
+      ∙ ap (λ (u : List ℕ). join 47 (map (reads u) (sorted (byText names tag) (map (entry generated) (inGroup ms g))))) (sym tag-keys)
+      ∙ ap (join 47) (sym (sorted-map lexLe (entryText names (tagKeys tag)) (map (entry generated) (inGroup ms g))))
+      ∙ ap (λ (u : List ℕ). join 47 (sorted lexLe (map (reads u) (map (entry generated) (inGroup ms g))))) tag-keys
       ∙ ap (λ (l : List (List ℕ)). join 47 (sorted lexLe l))
-      (map-map (reads tag) (entry generated) (ofGroup ms g)
-      ∙ map-alike (λ (m : Member). reads tag (entry generated m)) (tagged names tag generated) (ofGroup ms g) (λ m i. entry-reads names tag generated m))
+      (map-map (reads tag) (entry generated) (inGroup ms g)
+      ∙ map-alike (λ (m : Member). reads tag (entry generated m)) (tagged names tag generated) (inGroup ms g) (λ m i. entry-reads names tag generated m))
 
   -- THE LAWS
   pub line-is : lineIn names w c (length marks) ≡ lineText names ms marks list decoy tag generated

@@ -1,4 +1,5 @@
 -- What a reader has to believe: nothing; the files named Laws say what the functions leave in the lent slice, in the words of lists,
 -- and why.
+pub mod SumLaws
 pub mod PlacingLaws
 pub mod TallyLaws

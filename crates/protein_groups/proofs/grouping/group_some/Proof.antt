@@ -13,7 +13,9 @@ use Rattle.protein_groups.proofs.grouping.group_some.Statement.{stateme
 use Rattle.protein_groups.proofs.grouping.group_some.Tie as tie
 
 enough : (c : tie.After-keys-at) → keysAt (2 * c .before .before .before .before .before .before .args .proteins) (c .before .before .before .before .before .before .args .peptides) (length (c .before .before .before .before .before .before .args .pairs .now) / 8) + length (c .before .before .before .before .before .before .args .pairs .now) / 8 + length (c .before .before .before .before .before .before .args .pairs .now) / 8 ≤ length (c .before .before .before .before .before .before .args .work .now)
-enough c = let a = c .before .before .before .before .before .before .args in tables-fit (a .pairs .now) (a .flags .now) (a .peptides) (a .proteins) (length (a .work .now)) (c .before .before .before .before .before .before .pre .0) (c .before .before .before .before .before .before .pre .1)
+enough c =
+    let p = c .before .before .before .before .before .before .pre in
+    let a = c .before .before .before .before .before .before .args in tables-fit (a .pairs .now) (a .flags .now) (a .peptides) (a .proteins) (length (a .work .now)) (p .0) (p .1)
 
 -- the pairs stand in the work memory
 laid : (c : tie.After-set-up) → Laid (c .before .before .before .before .before .before .before .before .args .pairs .now) (c .before .before .before .before .before .before .before .before .args .flags .now) (keysAt (2 * c .before .before .before .before .before .before .before .before .args .proteins) (c .before .before .before .before .before .before .before .before .args .peptides) (length (c .before .before .before .before .before .before .before .before .args .pairs .now) / 8)) (length (c .before .before .before .before .before .before .before .before .args .pairs .now) / 8) (length (c .before .before .before .before .before .before .before .before .args .pairs .now) / 8) (replicate (length (c .before .before .before .before .before .before .before .before .args .work .now)) 0) (c .set-up .last .1 .1 .0)
@@ -58,10 +60,11 @@ group-in-requires c κs = placeable (c .before .before .before)
 
 hand-out-requires : tie.Need-hand-out-requires
 hand-out-requires c κs =
+    let k = c .before .before .before .before .before .before .before .before .before .before .before .keys-at in
     let r = c .before .before .before .before .before .before .before .before .before .before .before .before .before .before .before .before .before .pre .0 in
     let h = c .before .before .before .before .before .group-in .ensures .0 in
     let f = enough (c .before .before .before .before .before .before .before .before .before .before .before) in
-    (omega (arith, h .few-edges, r .few), rw (c .before .before .before .before .before .before .before .before .before .before .before .keys-at .ensures) (omega (arith, h .few-edges)), rw (c .before .before .before .before .before .before .before .before .before .before .before .keys-at .ensures) (omega (arith, h .few-edges)), omega (arith, h .few-members, r .proteins-max), omega (arith, h .few-members))
+    (omega (arith, h .few-edges, r .few), rw (k .ensures) (omega (arith, h .few-edges)), rw (k .ensures) (omega (arith, h .few-edges)), omega (arith, h .few-members, r .proteins-max), omega (arith, h .few-members))
 
 answer-requires : tie.Need-answer-requires
 answer-requires c κs =
@@ -71,13 +74,15 @@ answer-requires c κs =
 
 returns : tie.Need-returns
 returns c =
-    let a = c .before .before .before .before .before .before .before .before .before .before .before .before .before .before .before .before .before .before .before .before .before .before .before .before .before .args in
-    let p = placed (c .before .before .before .before .before .before .before .before .before .before .before .before .before) in
-    let g = c .before .before .before .before .before .before .before .before .before .before .before .before .before .group-in in
+    let k = c .before .before .before .before .before .before .before .before .before .before .before .before .before .before .before .before .before .before .before .keys-at in
+    let b = c .before .before .before .before .before .before .before .before .before .before .before .before .before in
+    let a = b .before .before .before .before .before .before .before .before .before .before .before .before .args in
+    let p = placed b in
+    let g = b .group-in in
     let o = c .before .before .before .before .before .before .before .hand-out in
-    left-made (a .pairs .now) (a .flags .now) (a .peptides) (a .proteins) (length (a .work .now)) (c .before .before .before .before .before .before .before .before .before .before .before .before .before .before .before .before .before .before .before .before .before .before .before .before .before .pre .0) (a .work .now) (a .edges .now) (a .members .now) (g .last .0) (o .last .0) (o .last .1 .1 .1 .1 .1 .1 .0) (o .last .1 .1 .1 .1 .1 .1 .1 .0)
-    (c .before .before .before .before .before .before .before .before .before .before .before .before .before .before .before .before .before .before .before .keys-at .result) (c .before .before .before .before .before .before .before .before .before .before .before .before .before .before .before .before .before .before .before .keys-at .result + length (a .pairs .now) / 8) (g .result .edges) (2 * a .proteins) (g .result .members) (g .result .groups) (g .result .metas) (c .answer .result)
-    (rw (c .before .before .before .before .before .before .before .before .before .before .before .before .before .before .before .before .before .before .before .keys-at .ensures) (p .edges-are)) (p .members-are) (p .groups-are) (p .metas-are) (o .ensures) (same (c .before .before .before .before .before .before .before .before .before .before .before .before .before)) (c .answer .ensures)
+    left-made (a .pairs .now) (a .flags .now) (a .peptides) (a .proteins) (length (a .work .now)) (b .before .before .before .before .before .before .before .before .before .before .before .before .pre .0) (a .work .now) (a .edges .now) (a .members .now) (g .last .0) (o .last .0) (o .last .1 .1 .1 .1 .1 .1 .0) (o .last .1 .1 .1 .1 .1 .1 .1 .0)
+    (k .result) (k .result + length (a .pairs .now) / 8) (g .result .edges) (2 * a .proteins) (g .result .members) (g .result .groups) (g .result .metas) (c .answer .result)
+    (rw (k .ensures) (p .edges-are)) (p .members-are) (p .groups-are) (p .metas-are) (o .ensures) (same b) (c .answer .ensures)
 
 pub group-some-spec : {M : Type 1} → statement M
 group-some-spec =

@@ -10,8 +10,9 @@ use Rattle.protein_groups_numbering.proofs.numbering.learn.Tie as tie
 
 add-w : tie.Need-add-w
 add-w c =
+    let w = c .before .before .before .wide in
     let a = c .before .before .before .before .before .args in let pre = c .before .before .before .before .before .pre in
-    let e : c .before .before .before .wide .result ≡ a .x = c .before .before .before .wide .ensures .0 in
+    let e : w .result ≡ a .x = w .ensures .0 in
     let z : getD (a .w .now) (a .t + a .x) 0 ≡ 0 = rw e at (c .before .if1 .taken) in
     omega (arith, room (a .w .now) (a .b) (a .t) (a .m) (a .found) (a .x) (pre .1) (pre .2) (pre .3) (pre .0) z)
 
@@ -20,15 +21,17 @@ slice-write-w-2 c = let a = c .before .before .before .before .before .args in o
 
 add-result : tie.Need-add-result
 add-result c =
+    let w = c .before .before .before .wide in
     let a = c .before .before .before .before .before .args in let pre = c .before .before .before .before .before .pre in
-    let e : c .before .before .before .wide .result ≡ a .x = c .before .before .before .wide .ensures .0 in
+    let e : w .result ≡ a .x = w .ensures .0 in
     let z : getD (a .w .now) (a .t + a .x) 0 ≡ 0 = rw e at (c .before .if1 .taken) in
     omega (arith, room (a .w .now) (a .b) (a .t) (a .m) (a .found) (a .x) (pre .1) (pre .2) (pre .3) (pre .0) z)
 
 returns : tie.Need-returns
 returns c =
+    let w = c .before .before .before .wide in
     let a = c .before .before .before .before .before .args in let pre = c .before .before .before .before .before .pre in
-    let e : c .before .before .before .wide .result ≡ a .x = c .before .before .before .wide .ensures .0 in
+    let e : w .result ≡ a .x = w .ensures .0 in
     let f : c .wide2 .result ≡ a .found = c .wide2 .ensures .0 in
     let z : getD (a .w .now) (a .t + a .x) 0 ≡ 0 = rw e at (c .before .if1 .taken) in
     rw (e, f) (learn-new (a .w .now) (a .b) (a .t) (a .m) (a .found) (a .x) (pre .1) (pre .2) (pre .3) (pre .0) z)

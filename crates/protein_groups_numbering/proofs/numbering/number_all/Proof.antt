@@ -46,17 +46,19 @@ mul-k c =
 
 slice-read-k : tie.Need-slice-read-k Inv-loop μ-loop
 slice-read-k c =
+    let le = c .before .before .before .before .learn in
     let a = c .before .before .before .before .before .before .before .before .before .before .args in let pre = c .before .before .before .before .before .before .before .before .before .before .pre in
     let l = c .before .before .before .before .before .before .before .before .loop in
     let e : c .before .wide .result ≡ getD (l .w) (a .l + l .i) 0 = c .before .wide .ensures .0 in
-    omega (arith, x-in (a .w .now) (l .w) (c .before .before .before .before .learn .last .0) (a .b) (a .t) (a .m) (a .l) (a .n) (l .i) (l .found) (c .before .before .before .before .learn .result) (l .inv .1) (c .before .before .before .before .learn .kept .0) (pre .0) (pre .1) (pre .2) (omega arith) (pre .5) (l .inv .2) (c .before .before .before .before .learn .ensures), c .before .before .before .before .learn .kept .0)
+    omega (arith, x-in (a .w .now) (l .w) (le .last .0) (a .b) (a .t) (a .m) (a .l) (a .n) (l .i) (l .found) (le .result) (l .inv .1) (le .kept .0) (pre .0) (pre .1) (pre .2) (omega arith) (pre .5) (l .inv .2) (le .ensures), le .kept .0)
 
 sub-k : tie.Need-sub-k Inv-loop μ-loop
 sub-k c =
+    let le = c .before .before .before .before .learn in
     let a = c .before .before .before .before .before .before .before .before .before .before .args in let pre = c .before .before .before .before .before .before .before .before .before .before .pre in
     let l = c .before .before .before .before .before .before .before .before .loop in
     let e : c .before .wide .result ≡ getD (l .w) (a .l + l .i) 0 = c .before .wide .ensures .0 in
-    rw e (omega (arith, number (a .w .now) (l .w) (c .before .before .before .before .learn .last .0) (a .b) (a .t) (a .m) (a .l) (a .n) (l .i) (l .found) (c .before .before .before .before .learn .result) (l .inv .1) (c .before .before .before .before .learn .kept .0) (pre .0) (pre .1) (pre .2) (omega arith) (pre .5) (l .inv .2) (c .before .before .before .before .learn .ensures)))
+    rw e (omega (arith, number (a .w .now) (l .w) (le .last .0) (a .b) (a .t) (a .m) (a .l) (a .n) (l .i) (l .found) (le .result) (l .inv .1) (le .kept .0) (pre .0) (pre .1) (pre .2) (omega arith) (pre .5) (l .inv .2) (le .ensures)))
 
 mul-w : tie.Need-mul-w Inv-loop μ-loop
 mul-w c = omega arith
@@ -72,10 +74,11 @@ loop-less c = omega arith
 
 loop-again : tie.Need-loop-again Inv-loop μ-loop
 loop-again c =
+    let le = c .before .before .before .before .learn in
     let a = c .before .before .before .before .before .before .before .before .before .before .args in let pre = c .before .before .before .before .before .before .before .before .before .before .pre in
     let l = c .before .before .before .before .before .before .before .before .loop in
     let e : c .before .wide .result ≡ getD (l .w) (a .l + l .i) 0 = c .before .wide .ensures .0 in
-    (omega arith, length-set (c .before .before .before .before .learn .last .0) _ _ ∙ c .before .before .before .before .learn .kept .0 ∙ l .inv .1, going-one (a .w .now) (l .w) (c .before .before .before .before .learn .last .0) (a .b) (a .t) (a .m) (a .l) (a .n) (l .i) (l .found) (c .before .before .before .before .learn .result) (l .inv .1) (c .before .before .before .before .learn .kept .0) (pre .0) (pre .1) (pre .2) (omega arith) (pre .5) (l .inv .2) (c .before .before .before .before .learn .ensures) _ (rw e (omega (arith, number (a .w .now) (l .w) (c .before .before .before .before .learn .last .0) (a .b) (a .t) (a .m) (a .l) (a .n) (l .i) (l .found) (c .before .before .before .before .learn .result) (l .inv .1) (c .before .before .before .before .learn .kept .0) (pre .0) (pre .1) (pre .2) (omega arith) (pre .5) (l .inv .2) (c .before .before .before .before .learn .ensures)))))
+    (omega arith, length-set (le .last .0) _ _ ∙ le .kept .0 ∙ l .inv .1, going-one (a .w .now) (l .w) (le .last .0) (a .b) (a .t) (a .m) (a .l) (a .n) (l .i) (l .found) (le .result) (l .inv .1) (le .kept .0) (pre .0) (pre .1) (pre .2) (omega arith) (pre .5) (l .inv .2) (le .ensures) _ (rw e (omega (arith, number (a .w .now) (l .w) (le .last .0) (a .b) (a .t) (a .m) (a .l) (a .n) (l .i) (l .found) (le .result) (l .inv .1) (le .kept .0) (pre .0) (pre .1) (pre .2) (omega arith) (pre .5) (l .inv .2) (le .ensures)))))
 
 same-length : tie.Need-same-length Inv-loop μ-loop
 same-length c = omega arith

@@ -124,20 +124,22 @@ mul-wide-3 c =
 
 slice-read-wide-3 : tie.Need-slice-read-wide-3 Inv-loop μ-loop
 slice-read-wide-3 c =
+    let w = c .before .before .before .wide in
     let s = c .before .before .before .before .before .before .before .before .before .before .args in let q = c .before .before .before .before .before .before .before .before .before .before .pre in
     let l = c .before .before .before .before .before .before .before .before .loop in
     let u : l .j < s .t = omega arith in
     let bd = q .bounds (l .j) u in
-    let ex : c .before .before .before .wide .result ≡ getD (s .w .now) (s .o + l .j) 0 = c .before .before .before .wide .ensures .0 ∙ read-x (s .w .now) (l .w) (s .o) (s .r) (s .t) (s .e) (s .f) (s .a) (s .b) (s .n) (l .j) (l .seen) (l .k) (l .inv .1) q (omega arith) (l .inv .2) in
+    let ex : w .result ≡ getD (s .w .now) (s .o + l .j) 0 = w .ensures .0 ∙ read-x (s .w .now) (l .w) (s .o) (s .r) (s .t) (s .e) (s .f) (s .a) (s .b) (s .n) (l .j) (l .seen) (l .k) (l .inv .1) q (omega arith) (l .inv .2) in
     omega (arith, q .order, q .ranks, q .keys, q .fits, l .inv .1)
 
 sub-len : tie.Need-sub-len Inv-loop μ-loop
 sub-len c =
+    let w = c .before .before .before .before .wide in
     let s = c .before .before .before .before .before .before .before .before .before .before .before .args in let q = c .before .before .before .before .before .before .before .before .before .before .before .pre in
     let l = c .before .before .before .before .before .before .before .before .before .loop in
     let u : l .j < s .t = omega arith in
     let bd = q .bounds (l .j) u in
-    let ex : c .before .before .before .before .wide .result ≡ getD (s .w .now) (s .o + l .j) 0 = c .before .before .before .before .wide .ensures .0 ∙ read-x (s .w .now) (l .w) (s .o) (s .r) (s .t) (s .e) (s .f) (s .a) (s .b) (s .n) (l .j) (l .seen) (l .k) (l .inv .1) q (omega arith) (l .inv .2) in
+    let ex : w .result ≡ getD (s .w .now) (s .o + l .j) 0 = w .ensures .0 ∙ read-x (s .w .now) (l .w) (s .o) (s .r) (s .t) (s .e) (s .f) (s .a) (s .b) (s .n) (l .j) (l .seen) (l .k) (l .inv .1) q (omega arith) (l .inv .2) in
     let el : c .before .before .wide2 .result ≡ getD (s .w .now) (s .e + getD (s .w .now) (s .o + l .j) 0) 0 = (rw ex at (c .before .before .wide2 .ensures .0)) ∙ read-lo (s .w .now) (l .w) (s .o) (s .r) (s .t) (s .e) (s .f) (s .a) (s .b) (s .n) (l .j) (l .seen) (l .k) (l .inv .1) q (omega arith) (l .inv .2) in
     let eh : c .wide3 .result ≡ getD (s .w .now) (s .e + getD (s .w .now) (s .o + l .j) 0 + 1) 0 = (rw ex at (c .wide3 .ensures .0)) ∙ read-hi (s .w .now) (l .w) (s .o) (s .r) (s .t) (s .e) (s .f) (s .a) (s .b) (s .n) (l .j) (l .seen) (l .k) (l .inv .1) q (omega arith) (l .inv .2) in
     let ri = q .rises (l .j) u in
@@ -146,12 +148,14 @@ sub-len c =
 
 add-copy-run : tie.Need-add-copy-run Inv-loop μ-loop
 add-copy-run c =
+    let w = c .before .before .before .before .before .wide in
+    let wi = c .before .before .before .wide2 in
     let s = c .before .before .before .before .before .before .before .before .before .before .before .before .args in let q = c .before .before .before .before .before .before .before .before .before .before .before .before .pre in
     let l = c .before .before .before .before .before .before .before .before .before .before .loop in
     let u : l .j < s .t = omega arith in
     let bd = q .bounds (l .j) u in
-    let ex : c .before .before .before .before .before .wide .result ≡ getD (s .w .now) (s .o + l .j) 0 = c .before .before .before .before .before .wide .ensures .0 ∙ read-x (s .w .now) (l .w) (s .o) (s .r) (s .t) (s .e) (s .f) (s .a) (s .b) (s .n) (l .j) (l .seen) (l .k) (l .inv .1) q (omega arith) (l .inv .2) in
-    let el : c .before .before .before .wide2 .result ≡ getD (s .w .now) (s .e + getD (s .w .now) (s .o + l .j) 0) 0 = (rw ex at (c .before .before .before .wide2 .ensures .0)) ∙ read-lo (s .w .now) (l .w) (s .o) (s .r) (s .t) (s .e) (s .f) (s .a) (s .b) (s .n) (l .j) (l .seen) (l .k) (l .inv .1) q (omega arith) (l .inv .2) in
+    let ex : w .result ≡ getD (s .w .now) (s .o + l .j) 0 = w .ensures .0 ∙ read-x (s .w .now) (l .w) (s .o) (s .r) (s .t) (s .e) (s .f) (s .a) (s .b) (s .n) (l .j) (l .seen) (l .k) (l .inv .1) q (omega arith) (l .inv .2) in
+    let el : wi .result ≡ getD (s .w .now) (s .e + getD (s .w .now) (s .o + l .j) 0) 0 = (rw ex at (wi .ensures .0)) ∙ read-lo (s .w .now) (l .w) (s .o) (s .r) (s .t) (s .e) (s .f) (s .a) (s .b) (s .n) (l .j) (l .seen) (l .k) (l .inv .1) q (omega arith) (l .inv .2) in
     let eh : c .before .wide3 .result ≡ getD (s .w .now) (s .e + getD (s .w .now) (s .o + l .j) 0 + 1) 0 = (rw ex at (c .before .wide3 .ensures .0)) ∙ read-hi (s .w .now) (l .w) (s .o) (s .r) (s .t) (s .e) (s .f) (s .a) (s .b) (s .n) (l .j) (l .seen) (l .k) (l .inv .1) q (omega arith) (l .inv .2) in
     let ri = q .rises (l .j) u in
     let en = q .ends (l .j) u in
@@ -161,12 +165,14 @@ add-copy-run c =
 
 add-copy-run-2 : tie.Need-add-copy-run-2 Inv-loop μ-loop
 add-copy-run-2 c =
+    let w = c .before .before .before .before .before .wide in
+    let wi = c .before .before .before .wide2 in
     let s = c .before .before .before .before .before .before .before .before .before .before .before .before .args in let q = c .before .before .before .before .before .before .before .before .before .before .before .before .pre in
     let l = c .before .before .before .before .before .before .before .before .before .before .loop in
     let u : l .j < s .t = omega arith in
     let bd = q .bounds (l .j) u in
-    let ex : c .before .before .before .before .before .wide .result ≡ getD (s .w .now) (s .o + l .j) 0 = c .before .before .before .before .before .wide .ensures .0 ∙ read-x (s .w .now) (l .w) (s .o) (s .r) (s .t) (s .e) (s .f) (s .a) (s .b) (s .n) (l .j) (l .seen) (l .k) (l .inv .1) q (omega arith) (l .inv .2) in
-    let el : c .before .before .before .wide2 .result ≡ getD (s .w .now) (s .e + getD (s .w .now) (s .o + l .j) 0) 0 = (rw ex at (c .before .before .before .wide2 .ensures .0)) ∙ read-lo (s .w .now) (l .w) (s .o) (s .r) (s .t) (s .e) (s .f) (s .a) (s .b) (s .n) (l .j) (l .seen) (l .k) (l .inv .1) q (omega arith) (l .inv .2) in
+    let ex : w .result ≡ getD (s .w .now) (s .o + l .j) 0 = w .ensures .0 ∙ read-x (s .w .now) (l .w) (s .o) (s .r) (s .t) (s .e) (s .f) (s .a) (s .b) (s .n) (l .j) (l .seen) (l .k) (l .inv .1) q (omega arith) (l .inv .2) in
+    let el : wi .result ≡ getD (s .w .now) (s .e + getD (s .w .now) (s .o + l .j) 0) 0 = (rw ex at (wi .ensures .0)) ∙ read-lo (s .w .now) (l .w) (s .o) (s .r) (s .t) (s .e) (s .f) (s .a) (s .b) (s .n) (l .j) (l .seen) (l .k) (l .inv .1) q (omega arith) (l .inv .2) in
     let eh : c .before .wide3 .result ≡ getD (s .w .now) (s .e + getD (s .w .now) (s .o + l .j) 0 + 1) 0 = (rw ex at (c .before .wide3 .ensures .0)) ∙ read-hi (s .w .now) (l .w) (s .o) (s .r) (s .t) (s .e) (s .f) (s .a) (s .b) (s .n) (l .j) (l .seen) (l .k) (l .inv .1) q (omega arith) (l .inv .2) in
     let ri = q .rises (l .j) u in
     let en = q .ends (l .j) u in
@@ -176,12 +182,14 @@ add-copy-run-2 c =
 
 add-copy-run-3 : tie.Need-add-copy-run-3 Inv-loop μ-loop
 add-copy-run-3 c =
+    let w = c .before .before .before .before .before .wide in
+    let wi = c .before .before .before .wide2 in
     let s = c .before .before .before .before .before .before .before .before .before .before .before .before .args in let q = c .before .before .before .before .before .before .before .before .before .before .before .before .pre in
     let l = c .before .before .before .before .before .before .before .before .before .before .loop in
     let u : l .j < s .t = omega arith in
     let bd = q .bounds (l .j) u in
-    let ex : c .before .before .before .before .before .wide .result ≡ getD (s .w .now) (s .o + l .j) 0 = c .before .before .before .before .before .wide .ensures .0 ∙ read-x (s .w .now) (l .w) (s .o) (s .r) (s .t) (s .e) (s .f) (s .a) (s .b) (s .n) (l .j) (l .seen) (l .k) (l .inv .1) q (omega arith) (l .inv .2) in
-    let el : c .before .before .before .wide2 .result ≡ getD (s .w .now) (s .e + getD (s .w .now) (s .o + l .j) 0) 0 = (rw ex at (c .before .before .before .wide2 .ensures .0)) ∙ read-lo (s .w .now) (l .w) (s .o) (s .r) (s .t) (s .e) (s .f) (s .a) (s .b) (s .n) (l .j) (l .seen) (l .k) (l .inv .1) q (omega arith) (l .inv .2) in
+    let ex : w .result ≡ getD (s .w .now) (s .o + l .j) 0 = w .ensures .0 ∙ read-x (s .w .now) (l .w) (s .o) (s .r) (s .t) (s .e) (s .f) (s .a) (s .b) (s .n) (l .j) (l .seen) (l .k) (l .inv .1) q (omega arith) (l .inv .2) in
+    let el : wi .result ≡ getD (s .w .now) (s .e + getD (s .w .now) (s .o + l .j) 0) 0 = (rw ex at (wi .ensures .0)) ∙ read-lo (s .w .now) (l .w) (s .o) (s .r) (s .t) (s .e) (s .f) (s .a) (s .b) (s .n) (l .j) (l .seen) (l .k) (l .inv .1) q (omega arith) (l .inv .2) in
     let eh : c .before .wide3 .result ≡ getD (s .w .now) (s .e + getD (s .w .now) (s .o + l .j) 0 + 1) 0 = (rw ex at (c .before .wide3 .ensures .0)) ∙ read-hi (s .w .now) (l .w) (s .o) (s .r) (s .t) (s .e) (s .f) (s .a) (s .b) (s .n) (l .j) (l .seen) (l .k) (l .inv .1) q (omega arith) (l .inv .2) in
     let ri = q .rises (l .j) u in
     let en = q .ends (l .j) u in
@@ -191,12 +199,14 @@ add-copy-run-3 c =
 
 copy-run-requires : tie.Need-copy-run-requires Inv-loop μ-loop
 copy-run-requires c κs =
+    let w = c .before .before .before .before .before .wide in
+    let wi = c .before .before .before .wide2 in
     let s = c .before .before .before .before .before .before .before .before .before .before .before .before .args in let q = c .before .before .before .before .before .before .before .before .before .before .before .before .pre in
     let l = c .before .before .before .before .before .before .before .before .before .before .loop in
     let u : l .j < s .t = omega arith in
     let bd = q .bounds (l .j) u in
-    let ex : c .before .before .before .before .before .wide .result ≡ getD (s .w .now) (s .o + l .j) 0 = c .before .before .before .before .before .wide .ensures .0 ∙ read-x (s .w .now) (l .w) (s .o) (s .r) (s .t) (s .e) (s .f) (s .a) (s .b) (s .n) (l .j) (l .seen) (l .k) (l .inv .1) q (omega arith) (l .inv .2) in
-    let el : c .before .before .before .wide2 .result ≡ getD (s .w .now) (s .e + getD (s .w .now) (s .o + l .j) 0) 0 = (rw ex at (c .before .before .before .wide2 .ensures .0)) ∙ read-lo (s .w .now) (l .w) (s .o) (s .r) (s .t) (s .e) (s .f) (s .a) (s .b) (s .n) (l .j) (l .seen) (l .k) (l .inv .1) q (omega arith) (l .inv .2) in
+    let ex : w .result ≡ getD (s .w .now) (s .o + l .j) 0 = w .ensures .0 ∙ read-x (s .w .now) (l .w) (s .o) (s .r) (s .t) (s .e) (s .f) (s .a) (s .b) (s .n) (l .j) (l .seen) (l .k) (l .inv .1) q (omega arith) (l .inv .2) in
+    let el : wi .result ≡ getD (s .w .now) (s .e + getD (s .w .now) (s .o + l .j) 0) 0 = (rw ex at (wi .ensures .0)) ∙ read-lo (s .w .now) (l .w) (s .o) (s .r) (s .t) (s .e) (s .f) (s .a) (s .b) (s .n) (l .j) (l .seen) (l .k) (l .inv .1) q (omega arith) (l .inv .2) in
     let eh : c .before .wide3 .result ≡ getD (s .w .now) (s .e + getD (s .w .now) (s .o + l .j) 0 + 1) 0 = (rw ex at (c .before .wide3 .ensures .0)) ∙ read-hi (s .w .now) (l .w) (s .o) (s .r) (s .t) (s .e) (s .f) (s .a) (s .b) (s .n) (l .j) (l .seen) (l .k) (l .inv .1) q (omega arith) (l .inv .2) in
     let ri = q .rises (l .j) u in
     let en = q .ends (l .j) u in
@@ -206,13 +216,16 @@ copy-run-requires c κs =
 
 add-k : tie.Need-add-k Inv-loop μ-loop
 add-k c =
+    let w = c .before .before .before .before .before .before .before .before .wide in
+    let wi = c .before .before .before .before .before .before .wide2 in
+    let wid = c .before .before .before .before .wide3 in
     let s = c .before .before .before .before .before .before .before .before .before .before .before .before .before .before .before .args in let q = c .before .before .before .before .before .before .before .before .before .before .before .before .before .before .before .pre in
     let l = c .before .before .before .before .before .before .before .before .before .before .before .before .before .loop in
     let u : l .j < s .t = omega arith in
     let bd = q .bounds (l .j) u in
-    let ex : c .before .before .before .before .before .before .before .before .wide .result ≡ getD (s .w .now) (s .o + l .j) 0 = c .before .before .before .before .before .before .before .before .wide .ensures .0 ∙ read-x (s .w .now) (l .w) (s .o) (s .r) (s .t) (s .e) (s .f) (s .a) (s .b) (s .n) (l .j) (l .seen) (l .k) (l .inv .1) q (omega arith) (l .inv .2) in
-    let el : c .before .before .before .before .before .before .wide2 .result ≡ getD (s .w .now) (s .e + getD (s .w .now) (s .o + l .j) 0) 0 = (rw ex at (c .before .before .before .before .before .before .wide2 .ensures .0)) ∙ read-lo (s .w .now) (l .w) (s .o) (s .r) (s .t) (s .e) (s .f) (s .a) (s .b) (s .n) (l .j) (l .seen) (l .k) (l .inv .1) q (omega arith) (l .inv .2) in
-    let eh : c .before .before .before .before .wide3 .result ≡ getD (s .w .now) (s .e + getD (s .w .now) (s .o + l .j) 0 + 1) 0 = (rw ex at (c .before .before .before .before .wide3 .ensures .0)) ∙ read-hi (s .w .now) (l .w) (s .o) (s .r) (s .t) (s .e) (s .f) (s .a) (s .b) (s .n) (l .j) (l .seen) (l .k) (l .inv .1) q (omega arith) (l .inv .2) in
+    let ex : w .result ≡ getD (s .w .now) (s .o + l .j) 0 = w .ensures .0 ∙ read-x (s .w .now) (l .w) (s .o) (s .r) (s .t) (s .e) (s .f) (s .a) (s .b) (s .n) (l .j) (l .seen) (l .k) (l .inv .1) q (omega arith) (l .inv .2) in
+    let el : wi .result ≡ getD (s .w .now) (s .e + getD (s .w .now) (s .o + l .j) 0) 0 = (rw ex at (wi .ensures .0)) ∙ read-lo (s .w .now) (l .w) (s .o) (s .r) (s .t) (s .e) (s .f) (s .a) (s .b) (s .n) (l .j) (l .seen) (l .k) (l .inv .1) q (omega arith) (l .inv .2) in
+    let eh : wid .result ≡ getD (s .w .now) (s .e + getD (s .w .now) (s .o + l .j) 0 + 1) 0 = (rw ex at (wid .ensures .0)) ∙ read-hi (s .w .now) (l .w) (s .o) (s .r) (s .t) (s .e) (s .f) (s .a) (s .b) (s .n) (l .j) (l .seen) (l .k) (l .inv .1) q (omega arith) (l .inv .2) in
     let ri = q .rises (l .j) u in
     let en = q .ends (l .j) u in
     let z : getD (s .w .now) (s .r + l .j) 0 ≡ l .seen = sym (read-g (s .w .now) (l .w) (s .o) (s .r) (s .t) (s .e) (s .f) (s .a) (s .b) (s .n) (l .j) (l .seen) (l .k) (l .inv .1) q (omega arith) (l .inv .2)) ∙ c .before .before .before .before .before .before .before .before .before .before .if1 .taken in
@@ -232,13 +245,16 @@ loop-less c = omega arith
 
 loop-again : tie.Need-loop-again Inv-loop μ-loop
 loop-again c =
+    let w = c .before .before .before .before .before .before .before .before .wide in
+    let wi = c .before .before .before .before .before .before .wide2 in
+    let wid = c .before .before .before .before .wide3 in
     let s = c .before .before .before .before .before .before .before .before .before .before .before .before .before .before .before .args in let q = c .before .before .before .before .before .before .before .before .before .before .before .before .before .before .before .pre in
     let l = c .before .before .before .before .before .before .before .before .before .before .before .before .before .loop in
     let u : l .j < s .t = omega arith in
     let bd = q .bounds (l .j) u in
-    let ex : c .before .before .before .before .before .before .before .before .wide .result ≡ getD (s .w .now) (s .o + l .j) 0 = c .before .before .before .before .before .before .before .before .wide .ensures .0 ∙ read-x (s .w .now) (l .w) (s .o) (s .r) (s .t) (s .e) (s .f) (s .a) (s .b) (s .n) (l .j) (l .seen) (l .k) (l .inv .1) q (omega arith) (l .inv .2) in
-    let el : c .before .before .before .before .before .before .wide2 .result ≡ getD (s .w .now) (s .e + getD (s .w .now) (s .o + l .j) 0) 0 = (rw ex at (c .before .before .before .before .before .before .wide2 .ensures .0)) ∙ read-lo (s .w .now) (l .w) (s .o) (s .r) (s .t) (s .e) (s .f) (s .a) (s .b) (s .n) (l .j) (l .seen) (l .k) (l .inv .1) q (omega arith) (l .inv .2) in
-    let eh : c .before .before .before .before .wide3 .result ≡ getD (s .w .now) (s .e + getD (s .w .now) (s .o + l .j) 0 + 1) 0 = (rw ex at (c .before .before .before .before .wide3 .ensures .0)) ∙ read-hi (s .w .now) (l .w) (s .o) (s .r) (s .t) (s .e) (s .f) (s .a) (s .b) (s .n) (l .j) (l .seen) (l .k) (l .inv .1) q (omega arith) (l .inv .2) in
+    let ex : w .result ≡ getD (s .w .now) (s .o + l .j) 0 = w .ensures .0 ∙ read-x (s .w .now) (l .w) (s .o) (s .r) (s .t) (s .e) (s .f) (s .a) (s .b) (s .n) (l .j) (l .seen) (l .k) (l .inv .1) q (omega arith) (l .inv .2) in
+    let el : wi .result ≡ getD (s .w .now) (s .e + getD (s .w .now) (s .o + l .j) 0) 0 = (rw ex at (wi .ensures .0)) ∙ read-lo (s .w .now) (l .w) (s .o) (s .r) (s .t) (s .e) (s .f) (s .a) (s .b) (s .n) (l .j) (l .seen) (l .k) (l .inv .1) q (omega arith) (l .inv .2) in
+    let eh : wid .result ≡ getD (s .w .now) (s .e + getD (s .w .now) (s .o + l .j) 0 + 1) 0 = (rw ex at (wid .ensures .0)) ∙ read-hi (s .w .now) (l .w) (s .o) (s .r) (s .t) (s .e) (s .f) (s .a) (s .b) (s .n) (l .j) (l .seen) (l .k) (l .inv .1) q (omega arith) (l .inv .2) in
     let ri = q .rises (l .j) u in
     let en = q .ends (l .j) u in
     let z : getD (s .w .now) (s .r + l .j) 0 ≡ l .seen = sym (read-g (s .w .now) (l .w) (s .o) (s .r) (s .t) (s .e) (s .f) (s .a) (s .b) (s .n) (l .j) (l .seen) (l .k) (l .inv .1) q (omega arith) (l .inv .2)) ∙ c .before .before .before .before .before .before .before .before .before .before .if1 .taken in

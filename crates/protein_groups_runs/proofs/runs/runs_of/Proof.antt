@@ -12,7 +12,7 @@ spread-runs-requires c κs =
     let a = c .before .before .before .before .before .before .args in
     let g = c .before .before .before .before .before .before .pre in
     let d = c .before .before .before .order-runs in
-    let e : a .c + (a .l - a .c) ≡ a .l = omega (arith, g .bounds) in
+    let e : a .c + (a .l - a .c) ≡ a .l = omega (arith, g .tables .bounds) in
     spreadable (a .w .now) (d .last .0) (a .o) (a .t) (a .s) (a .c) (a .m) (a .l) (a .a) (a .b) (a .n) (d .result) (d .kept .0) g (rw e at (d .ensures))
 
 returns : tie.Need-returns
@@ -21,7 +21,7 @@ returns c =
     let g = c .before .before .before .before .before .before .before .before .before .pre in
     let d = c .before .before .before .before .before .before .order-runs in
     let s = c .before .before .spread-runs in
-    let e : a .c + (a .l - a .c) ≡ a .l = omega (arith, g .bounds) in
+    let e : a .c + (a .l - a .c) ≡ a .l = omega (arith, g .tables .bounds) in
     ran (a .w .now) (d .last .0) (a .o) (a .t) (a .s) (a .c) (a .m) (a .l) (a .a) (a .b) (a .n) (d .result) (d .kept .0) g (rw e at (d .ensures)) (s .last .0) (s .result) (s .kept .0) (s .ensures)
 
 pub runs-of-spec : {M : Type 1} → statement M

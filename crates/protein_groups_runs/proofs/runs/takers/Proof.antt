@@ -71,34 +71,38 @@ slice-read-if1-2 c =
 
 add-w : tie.Need-add-w Inv-loop μ-loop
 add-w c =
+    let w = c .before .before .before .wide in
     let s = c .before .before .before .before .before .before .before .args in let pre = c .before .before .before .before .before .before .before .pre in
     let l = c .before .before .before .before .before .loop in
     let p = l .inv .2 in
-    let ex : c .before .before .before .wide .result ≡ l .i = c .before .before .before .wide .ensures .0 in
+    let ex : w .result ≡ l .i = w .ensures .0 in
     omega (arith, p .few)
 
 mul-w : tie.Need-mul-w Inv-loop μ-loop
 mul-w c =
+    let w = c .before .before .before .wide in
     let s = c .before .before .before .before .before .before .before .args in let pre = c .before .before .before .before .before .before .before .pre in
     let l = c .before .before .before .before .before .loop in
     let p = l .inv .2 in
-    let ex : c .before .before .before .wide .result ≡ l .i = c .before .before .before .wide .ensures .0 in
+    let ex : w .result ≡ l .i = w .ensures .0 in
     omega (arith, p .few)
 
 slice-write-w : tie.Need-slice-write-w Inv-loop μ-loop
 slice-write-w c =
+    let w = c .before .before .before .wide in
     let s = c .before .before .before .before .before .before .before .args in let pre = c .before .before .before .before .before .before .before .pre in
     let l = c .before .before .before .before .before .loop in
     let p = l .inv .2 in
-    let ex : c .before .before .before .wide .result ≡ l .i = c .before .before .before .wide .ensures .0 in
+    let ex : w .result ≡ l .i = w .ensures .0 in
     omega (arith, p .few)
 
 add-k : tie.Need-add-k Inv-loop μ-loop
 add-k c =
+    let w = c .before .before .before .wide in
     let s = c .before .before .before .before .before .before .before .args in let pre = c .before .before .before .before .before .before .before .pre in
     let l = c .before .before .before .before .before .loop in
     let p = l .inv .2 in
-    let ex : c .before .before .before .wide .result ≡ l .i = c .before .before .before .wide .ensures .0 in
+    let ex : w .result ≡ l .i = w .ensures .0 in
     omega (arith, p .few)
 
 loop-less : tie.Need-loop-less Inv-loop μ-loop
@@ -106,10 +110,11 @@ loop-less c = omega arith
 
 loop-again : tie.Need-loop-again Inv-loop μ-loop
 loop-again c =
+    let w = c .before .before .before .wide in
     let s = c .before .before .before .before .before .before .before .args in let pre = c .before .before .before .before .before .before .before .pre in
     let l = c .before .before .before .before .before .loop in
     let p = l .inv .2 in
-    let ex : c .before .before .before .wide .result ≡ l .i = c .before .before .before .wide .ensures .0 in
+    let ex : w .result ≡ l .i = w .ensures .0 in
     let a : getD (l .w) (s .e + l .i) 0 ≡ getD (s .w .now) (s .e + l .i) 0 = p .after (s .e + l .i) (omega arith) in
     let u : s .e + l .i + 1 ≡ s .e + (l .i + 1) = omega arith in
     let b : getD (l .w) (s .e + l .i + 1) 0 ≡ getD (s .w .now) (s .e + (l .i + 1)) 0 = rw u (p .after (s .e + (l .i + 1)) (omega arith)) in
@@ -121,10 +126,11 @@ loop-less-2 c = omega arith
 
 loop-again-2 : tie.Need-loop-again-2 Inv-loop μ-loop
 loop-again-2 c =
+    let w = c .before .before .before .wide in
     let s = c .before .before .before .before .before .before .before .args in let pre = c .before .before .before .before .before .before .before .pre in
     let l = c .before .before .before .before .before .loop in
     let p = l .inv .2 in
-    let ex : c .before .before .before .wide .result ≡ l .i = c .before .before .before .wide .ensures .0 in
+    let ex : w .result ≡ l .i = w .ensures .0 in
     let a : getD (l .w) (s .e + l .i) 0 ≡ getD (s .w .now) (s .e + l .i) 0 = p .after (s .e + l .i) (omega arith) in
     let u : s .e + l .i + 1 ≡ s .e + (l .i + 1) = omega arith in
     let b : getD (l .w) (s .e + l .i + 1) 0 ≡ getD (s .w .now) (s .e + (l .i + 1)) 0 = rw u (p .after (s .e + (l .i + 1)) (omega arith)) in

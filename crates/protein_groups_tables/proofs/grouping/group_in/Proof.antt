@@ -22,9 +22,10 @@ by-peptides-requires c κs =
 
 by-proteins-requires : tie.Need-by-proteins-requires
 by-proteins-requires c κs =
+    let w = c .before .before .before .before .before .wide in
     let a = c .before .before .before .before .before .before .before .args in
-    let z = c .before .before .before .before .before .wide .result in
-    let e = c .before .before .before .before .before .wide .ensures .0 in
+    let z = w .result in
+    let e = w .ensures .0 in
     let o = 4 * a .k + 2 in
     let s = o + z in
     let d = s + z in
@@ -36,9 +37,11 @@ by-proteins-requires c κs =
 
 returns : tie.Need-returns
 returns c =
+    let g = c .before .before .before .before .before .before .before .before .before .before .before .pre in
+    let w = c .before .before .before .before .before .before .before .before .before .wide in
     let a = c .before .before .before .before .before .before .before .before .before .before .before .args in
-    let z = c .before .before .before .before .before .before .before .before .before .wide .result in
-    let e = c .before .before .before .before .before .before .before .before .before .wide .ensures .0 in
+    let z = w .result in
+    let e = w .ensures .0 in
     let o = 4 * a .k + 2 in
     let s = o + z in
     let d = s + z in
@@ -48,8 +51,8 @@ returns c =
     let p = c .before .before .before .before .before .before .before .by-peptides in
     let q = c .before .before .before .by-proteins in
     rw (c .wide2 .ensures .0) (
-      within (a .w .now) (a .k) (a .m) (a .n) o s d l x y (c .before .before .before .before .before .before .before .before .before .before .before .pre) refl (omega arith) (omega arith) (omega arith) refl refl (p .last .0) (p .result .found) (p .result .entries) (p .result .metas) (p .kept .0) (p .ensures) (q .last .0) (q .result .entries) (q .result .count) (q .kept .0) (q .ensures),
-      placed (a .w .now) (a .k) (a .m) (a .n) o s d l x y (c .before .before .before .before .before .before .before .before .before .before .before .pre) refl (omega arith) (omega arith) (omega arith) refl refl (p .last .0) (p .result .found) (p .result .entries) (p .result .metas) (p .kept .0) (p .ensures) (q .last .0) (q .result .entries) (q .result .count) (q .kept .0) (q .ensures),
+      within (a .w .now) (a .k) (a .m) (a .n) o s d l x y (g) refl (omega arith) (omega arith) (omega arith) refl refl (p .last .0) (p .result .found) (p .result .entries) (p .result .metas) (p .kept .0) (p .ensures) (q .last .0) (q .result .entries) (q .result .count) (q .kept .0) (q .ensures),
+      placed (a .w .now) (a .k) (a .m) (a .n) o s d l x y (g) refl (omega arith) (omega arith) (omega arith) refl refl (p .last .0) (p .result .found) (p .result .entries) (p .result .metas) (p .kept .0) (p .ensures) (q .last .0) (q .result .entries) (q .result .count) (q .kept .0) (q .ensures),
     )
 
 pub group-in-spec : {M : Type 1} → statement M

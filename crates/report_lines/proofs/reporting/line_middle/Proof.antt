@@ -1,15 +1,12 @@
 -- `line_middle` meets its contract. Assumes nothing.
 use native.Mathlib.Omega.{arith}
-use Rattle.report_lines.specs.ReportingLaws.{new-table}
+use Rattle.report_lines.specs.ReportingLaws.{own-table}
 use borrow.Author.Needs.{needs}
 use Rattle.report_lines.proofs.reporting.line_middle.Statement.{statement}
 use Rattle.report_lines.proofs.reporting.line_middle.Tie as tie
 
 line-over-requires : tie.Need-line-over-requires
-line-over-requires c κs =
-    let a = c .before .before .before .before .before .before .before .before .args in
-    let p = c .before .before .before .before .before .before .before .before .pre in
-    (p .0, new-table (a .names .now) (a .members .now) (a .marks .now) 16384 49170 (p .1) (p .2) (p .3) (omega arith) (omega arith))
+line-over-requires c κs = own-table 16384 49170 (c .before .before .before .before .before .before .before .before .pre) (omega arith) (omega arith)
 
 pub line-middle-spec : {M : Type 1} → statement M
 line-middle-spec =

@@ -33,12 +33,13 @@ note-group-requires c κs = (omega arith, omega (arith, group-in (c .before)), o
 
 loop-again : tie.Need-loop-again Inv-loop μ-loop
 loop-again c =
-    let a = c .before .before .before .before .before .before .before .before .before .args in
-    let l = c .before .before .before .before .before .loop in
+    let b = c .before .before .before .before in
+    let a = b .before .before .before .before .before .args in
+    let l = b .before .loop in
     let call = c .before .before .note-group in (
       omega arith,
       call .kept .1 .1 .1 .1 .0 ∙ l .inv .1,
-      λ list h. flag-turn (a .members .now) (l .i) (a .marks .now) list (a .decoy) (a .w .now) (l .w) _ (a .c) (a .m) (group-in (c .before .before .before .before)) (protein-in (c .before .before .before .before)) (omega arith) h (call .ensures) (l .inv .2 list h),
+      λ list h. flag-turn (a .members .now) (l .i) (a .marks .now) list (a .decoy) (a .w .now) (l .w) _ (a .c) (a .m) (group-in (b)) (protein-in (b)) (omega arith) h (call .ensures) (l .inv .2 list h),
     )
 
 same-length : tie.Need-same-length Inv-loop μ-loop

@@ -19,17 +19,19 @@ returns c =
 
 write-text-requires : tie.Need-write-text-requires
 write-text-requires c κs =
+    let p = c .before .before .before .before .before .before .before .before .pre in
     let a = c .before .before .before .before .before .before .before .before .args in
-    (c .before .before .tag-length .ensures, c .before .before .before .before .before .before .before .before .pre .0, omega arith, omega (arith, line-length (joinedText (a .names .now) (a .keys .now)) (a .starts .now) (some-starts (joinedText (a .names .now) (a .keys .now)) (a .starts .now) (c .before .before .before .if1 .left)), c .before .before .before .before .before .before .before .before .pre .1))
+    (c .before .before .tag-length .ensures, p .0, omega arith, omega (arith, line-length (joinedText (a .names .now) (a .keys .now)) (a .starts .now) (some-starts (joinedText (a .names .now) (a .keys .now)) (a .starts .now) (c .before .before .before .if1 .left)), p .1))
 
 write-rest-requires : tie.Need-write-rest-requires
 write-rest-requires c κs =
+    let p = c .before .before .before .before .before .before .before .before .before .before .before .before .pre in
     let a = c .before .before .before .before .before .before .before .before .before .before .before .before .args in
     let t = c .before .before .before .write-text in (
       c .before .before .before .before .before .before .tag-length .ensures,
-      c .before .before .before .before .before .before .before .before .before .before .before .before .pre .0,
+      p .0,
       put-le (a .out .now) 0 0 (joinedText (a .names .now) (a .keys .now) (getD (a .starts .now) 0 0)) (t .last .1 .1 .1 .1 .0) (t .result .at) (t .result .semis) (omega arith) (t .ensures),
-      omega (arith, t .ensures .counts, line-length (joinedText (a .names .now) (a .keys .now)) (a .starts .now) (some-starts (joinedText (a .names .now) (a .keys .now)) (a .starts .now) (c .before .before .before .before .before .before .before .if1 .left)), c .before .before .before .before .before .before .before .before .before .before .before .before .pre .1),
+      omega (arith, t .ensures .counts, line-length (joinedText (a .names .now) (a .keys .now)) (a .starts .now) (some-starts (joinedText (a .names .now) (a .keys .now)) (a .starts .now) (c .before .before .before .before .before .before .before .if1 .left)), p .1),
     )
 
 cast-bytes : tie.Need-cast-bytes

@@ -22,10 +22,11 @@ loop-holds c =
 
 write-next-requires : tie.Need-write-next-requires Inv-loop μ-loop
 write-next-requires c κs =
+    let p = c .before .before .before .before .before .before .before .before .pre in
     let a = c .before .before .before .before .before .before .before .before .args in
     let l = c .before .before .before .loop in
-    let f = coming-fits (a .out .now) (a .at) (a .semis) (afterFrom (joinedText (a .names .now) (a .keys .now)) (a .starts .now) 1) (l .out) (l .k) (l .s) (afterFrom (joinedText (a .names .now) (a .keys .now)) (a .starts .now) (l .i)) (c .before .before .before .before .before .before .before .before .pre .2) (c .before .before .before .before .before .before .before .before .pre .3) (l .inv .1) in
-    (c .before .before .before .before .before .before .before .before .pre .0, c .before .before .before .before .before .before .before .before .pre .1, l .inv .0, omega (arith, f .0, after-length (joinedText (a .names .now) (a .keys .now)) (a .starts .now) (l .i) (c .before .before .loop-test .taken)))
+    let f = coming-fits (a .out .now) (a .at) (a .semis) (afterFrom (joinedText (a .names .now) (a .keys .now)) (a .starts .now) 1) (l .out) (l .k) (l .s) (afterFrom (joinedText (a .names .now) (a .keys .now)) (a .starts .now) (l .i)) (p .2) (p .3) (l .inv .1) in
+    (p .0, p .1, l .inv .0, omega (arith, f .0, after-length (joinedText (a .names .now) (a .keys .now)) (a .starts .now) (l .i) (c .before .before .loop-test .taken)))
 
 loop-again : tie.Need-loop-again Inv-loop μ-loop
 loop-again c =

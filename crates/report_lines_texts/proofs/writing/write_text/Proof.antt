@@ -47,31 +47,37 @@ byte-of-requires c κs =
 
 add-k : tie.Need-add-k Inv-loop μ-loop
 add-k c =
+    let p = c .before .before .before .before .before .before .before .before .before .before .before .pre in
+    let w = c .before .before .before .before .before .before .walk in
     let a = c .before .before .before .before .before .before .before .before .before .before .before .args in
     let l = c .before .before .before .before .before .before .before .loop in
-    let t = c .before .before .before .before .before .before .walk .result in
-    omega (arith, writing-fits (a .names .now) (a .keys .now) (a .x) (a .out .now) (a .at) (a .semis) (l .out) (l .entry) (l .i) (l .k) (l .s) (l .inv) (t .number) (t .at) (t .i) (c .before .before .before .before .before .before .walk .ensures) (c .before .before .before .before .before .if1 .left) (c .before .before .before .before .before .before .before .before .before .before .before .pre .2) (c .before .before .before .before .before .before .before .before .before .before .before .pre .3) .0)
+    let t = w .result in
+    omega (arith, writing-fits (a .names .now) (a .keys .now) (a .x) (a .out .now) (a .at) (a .semis) (l .out) (l .entry) (l .i) (l .k) (l .s) (l .inv) (t .number) (t .at) (t .i) (w .ensures) (c .before .before .before .before .before .if1 .left) (p .2) (p .3) .0)
 
 add-s : tie.Need-add-s Inv-loop μ-loop
 add-s c =
+    let p = c .before .before .before .before .before .before .before .before .before .before .before .before .pre in
+    let w = c .before .before .before .before .before .before .before .walk in
     let a = c .before .before .before .before .before .before .before .before .before .before .before .before .args in
     let l = c .before .before .before .before .before .before .before .before .loop in
-    let t = c .before .before .before .before .before .before .before .walk .result in
-    omega (arith, c .semi-of .ensures, writing-fits (a .names .now) (a .keys .now) (a .x) (a .out .now) (a .at) (a .semis) (l .out) (l .entry) (l .i) (l .k) (l .s) (l .inv) (t .number) (t .at) (t .i) (c .before .before .before .before .before .before .before .walk .ensures) (c .before .before .before .before .before .before .if1 .left) (c .before .before .before .before .before .before .before .before .before .before .before .before .pre .2) (c .before .before .before .before .before .before .before .before .before .before .before .before .pre .3) .1)
+    let t = w .result in
+    omega (arith, c .semi-of .ensures, writing-fits (a .names .now) (a .keys .now) (a .x) (a .out .now) (a .at) (a .semis) (l .out) (l .entry) (l .i) (l .k) (l .s) (l .inv) (t .number) (t .at) (t .i) (w .ensures) (c .before .before .before .before .before .before .if1 .left) (p .2) (p .3) .1)
 
 loop-less : tie.Need-loop-less Inv-loop μ-loop
 loop-less c =
+    let w = c .before .before .before .before .before .before .before .walk in
     let a = c .before .before .before .before .before .before .before .before .before .before .before .before .args in
     let l = c .before .before .before .before .before .before .before .before .loop in
-    let t = c .before .before .before .before .before .before .before .walk .result in
-    writing-less (a .names .now) (a .keys .now) (a .x) (a .out .now) (a .at) (a .semis) (l .out) (l .entry) (l .i) (l .k) (l .s) (l .inv) (t .number) (t .at) (t .i) (c .before .before .before .before .before .before .before .walk .ensures) (c .before .before .before .before .before .before .if1 .left)
+    let t = w .result in
+    writing-less (a .names .now) (a .keys .now) (a .x) (a .out .now) (a .at) (a .semis) (l .out) (l .entry) (l .i) (l .k) (l .s) (l .inv) (t .number) (t .at) (t .i) (w .ensures) (c .before .before .before .before .before .before .if1 .left)
 
 loop-again : tie.Need-loop-again Inv-loop μ-loop
 loop-again c =
+    let w = c .before .before .before .before .before .before .before .walk in
     let a = c .before .before .before .before .before .before .before .before .before .before .before .before .args in
     let l = c .before .before .before .before .before .before .before .before .loop in
-    let t = c .before .before .before .before .before .before .before .walk .result in
-    rw (c .before .before .before .put-byte .ensures, c .before .before .before .before .before .byte-of .ensures, c .semi-of .ensures) (writing-on (a .names .now) (a .keys .now) (a .x) (a .out .now) (a .at) (a .semis) (l .out) (l .entry) (l .i) (l .k) (l .s) (l .inv) (t .number) (t .at) (t .i) (c .before .before .before .before .before .before .before .walk .ensures) (c .before .before .before .before .before .before .if1 .left))
+    let t = w .result in
+    rw (c .before .before .before .put-byte .ensures, c .before .before .before .before .before .byte-of .ensures, c .semi-of .ensures) (writing-on (a .names .now) (a .keys .now) (a .x) (a .out .now) (a .at) (a .semis) (l .out) (l .entry) (l .i) (l .k) (l .s) (l .inv) (t .number) (t .at) (t .i) (w .ensures) (c .before .before .before .before .before .before .if1 .left))
 
 pub write-text-spec : {M : Type 1} → statement M
 write-text-spec =

@@ -24,8 +24,10 @@ copy-requires-2 c κs =
 
 returns : tie.Need-returns
 returns c =
+    let m = c .before .before .before .before .before .before .before .before .before .before .mark-lasts in
+    let co = c .before .before .before .before .before .before .copy in
     let a = c .before .before .before .before .before .before .before .before .before .before .before .before .before .before .args in
-    ready (a .w .now) (a .c) (a .groups) (c .before .before .before .before .before .before .before .before .before .before .before .before .before .before .pre) (c .before .before .before .before .before .before .before .before .before .before .mark-lasts .last .0) (c .before .before .before .before .before .before .before .before .before .before .mark-lasts .result) (c .before .before .before .before .before .before .before .before .before .before .mark-lasts .ensures) (c .before .before .before .before .before .before .copy .last .0) (c .before .before .before .before .before .before .copy .ensures) (c .before .before .copy2 .last .0) (c .before .before .copy2 .ensures)
+    ready (a .w .now) (a .c) (a .groups) (c .before .before .before .before .before .before .before .before .before .before .before .before .before .before .pre) (m .last .0) (m .result) (m .ensures) (co .last .0) (co .ensures) (c .before .before .copy2 .last .0) (c .before .before .copy2 .ensures)
 
 pub arrange-spec : {M : Type 1} → statement M
 arrange-spec =

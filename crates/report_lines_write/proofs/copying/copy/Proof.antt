@@ -41,9 +41,10 @@ loop-less c = omega arith
 
 loop-again : tie.Need-loop-again Inv-loop μ-loop
 loop-again c =
+    let p = c .before .before .before .pre in
     let a = c .before .before .before .args in
     let q = c .before .before .loop in
-    (omega arith, copied-more (a .w .now) (a .from) (a .to) (q .i) (a .n) (q .w) (c .before .loop-test .taken) (c .before .before .before .pre .1) (c .before .before .before .pre .2) (q .inv .1))
+    (omega arith, copied-more (a .w .now) (a .from) (a .to) (q .i) (a .n) (q .w) (c .before .loop-test .taken) (p .1) (p .2) (q .inv .1))
 
 same-length : tie.Need-same-length Inv-loop μ-loop
 same-length c = c .before .loop .inv .1 .as-long

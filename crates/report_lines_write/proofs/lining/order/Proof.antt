@@ -10,11 +10,12 @@ use Rattle.report_lines_write.proofs.lining.order.Tie as tie
 
 returns : tie.Need-returns
 returns c =
+    let p = c .before .before .before .before .before .before .before .before .before .before .pre in
     let a = c .before .before .before .before .before .before .before .before .before .before .args in
     let r = c .before .before .before .before .before .before .arrange in
-    let f = sort-fits (a .names .now) (a .w .now) (a .c) (a .groups) (c .before .before .before .before .before .before .before .before .before .before .pre) (r .last .0) (r .result) (r .ensures) in
+    let f = sort-fits (a .names .now) (a .w .now) (a .c) (a .groups) (p) (r .last .0) (r .result) (r .ensures) in
     let e : c .before .before .sort .last .1 .1 .0 ≡ arranged Joined (a .names .now) 0 (r .result) (a .c) (2 * a .c) (r .last .0) = rw f at (c .before .before .sort .ensures .1) in
-    rw e (ordered (a .names .now) (a .w .now) (a .c) (a .groups) (c .before .before .before .before .before .before .before .before .before .before .pre) (r .last .0) (r .result) (r .ensures))
+    rw e (ordered (a .names .now) (a .w .now) (a .c) (a .groups) (p) (r .last .0) (r .result) (r .ensures))
 
 pub order-spec : {M : Type 1} → statement M
 order-spec =

@@ -23,10 +23,11 @@ loop-holds c = (omega arith, marked-none (c .before .args .w .now) (c .before .a
 
 mark-one-requires : tie.Need-mark-one-requires Inv-loop μ-loop
 mark-one-requires c κs =
+    let p = c .before .before .before .before .pre in
     let a = c .before .before .before .before .args in
     let q = c .before .before .loop in
-    let f = mark-fits (a .w .now) (a .c) (a .groups) (c .before .before .before .before .pre) (q .g) (c .before .loop-test .taken) (q .w) (q .count) (q .inv .1) in
-    (f .0, f .1, f .2, mark-small (a .w .now) (a .c) (a .groups) (c .before .before .before .before .pre) (q .g) (c .before .loop-test .taken) (q .w) (q .count) (q .inv .1) (λ i. omega (arith, c .before .before .before .slice-known .given i)))
+    let f = mark-fits (a .w .now) (a .c) (a .groups) (p) (q .g) (c .before .loop-test .taken) (q .w) (q .count) (q .inv .1) in
+    (f .0, f .1, f .2, mark-small (a .w .now) (a .c) (a .groups) (p) (q .g) (c .before .loop-test .taken) (q .w) (q .count) (q .inv .1) (λ i. omega (arith, c .before .before .before .slice-known .given i)))
 
 add-g : tie.Need-add-g Inv-loop μ-loop
 add-g c = omega arith
