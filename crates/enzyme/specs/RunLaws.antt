@@ -98,10 +98,10 @@ module _ (run : Run) where
     new = recordOf (length (run .s)) (run .terms .protein) r
 
     -- the offer, with its two tests as they come out
-    kept : (w b : Bool) → wanted (run .s) (run .terms .minimum) (run .terms .maximum) (st .ks) r ≡ w → ltb count (room (run .old)) ≡ b
+    onward : (w b : Bool) → wanted (run .s) (run .terms .minimum) (run .terms .maximum) (st .ks) r ≡ w → ltb count (room (run .old)) ≡ b
         → (out′ : List ℕ) (count′ : ℕ) → after (Kept count′) out′ ≡ decided w b count out new → State run rest out′ count′
     unfolding new
-    kept true true e f out′ count′ g =
+    onward true true e f out′ count′ g =
         let p : Kept count′ ≡ Kept (count + 1) = ap (λ (x : After). x .step) g in
         let q : out′ ≡ sets out (16 * count) new = ap (λ (x : After). x .bytes) g in
         let c : count′ ≡ count + 1 = cc in
@@ -121,11 +121,11 @@ module _ (run : Run) where
           inside = inside-append (length (run .s)) (st .ks) (r ∷ []) (st .inside) (h, k, tt);
           ahead = rw e at (st .ahead);
         }
-    kept true false e f out′ count′ g =
+    onward true false e f out′ count′ g =
         let p : Kept count′ ≡ Full = ap (λ (x : After). x .step) g in
         let z : _≡_ {A = ℕ} 0 1 = cc in
         absurd (omega arith)
-    kept false b e f out′ count′ g =
+    onward false b e f out′ count′ g =
         let p : Kept count′ ≡ Kept count = ap (λ (x : After). x .step) g in
         let q : out′ ≡ out = ap (λ (x : After). x .bytes) g in
         let c : count′ ≡ count = cc in
@@ -154,7 +154,7 @@ module _ (run : Run) where
         → ((o : List ℕ) (n : ℕ) → State run rest o n → ended (offers (run .s) (run .terms) rest n o) ≡ counted 16 1048576 (run .old) (recs run (run .all)))
         → ended (andThen (after x o) (offers (run .s) (run .terms) rest)) ≡ counted 16 1048576 (run .old) (recs run (run .all))
     unfolding new offered
-    stepped (Kept n) o f ih = ih o n (kept _ _ refl refl o n (rw (st .ranges, same-length (r ∷ rest) out count st) at f))
+    stepped (Kept n) o f ih = ih o n (onward _ _ refl refl o n (rw (st .ranges, same-length (r ∷ rest) out count st) at f))
     stepped Full o f ih = full _ _ refl refl o (rw (st .ranges, same-length (r ∷ rest) out count st) at f)
 
   -- a run from any state ends as the definition says
