@@ -9,7 +9,7 @@ use Rattle.records.specs.Outcome.{Outcome, outcome, unlessRefused, only}
 use Rattle.cover_spec.specs.Cover.{coverList}
 use Rattle.cover_spec.specs.Marks.{handed}
 use Rattle.cover_edges.specs.Edges.{edgesOf}
-use Rattle.cover_tests.specs.Refusals.{coverTested}
+use Rattle.cover_tests.specs.Testing.{coverTested}
 
 -- the marks of the edges' cover
 abbrev pub coverMarks : List ℕ → ℕ → List ℕ

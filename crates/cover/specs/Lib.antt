@@ -1,4 +1,4 @@
--- What a reader has to believe: Covering and Updating, and below them Refusals of cover_tests, Cover, Update and Marks of cover_spec and
+-- What a reader has to believe: Covering and Updating, and below them Testing of cover_tests, Cover, Update and Marks of cover_spec and
 -- Edges of cover_edges. Theorems says what the cover and the update achieve.
 pub mod Covering
 pub mod Updating

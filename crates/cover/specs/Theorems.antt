@@ -9,7 +9,7 @@ use lib.ListN.{length, getD, List·getD-eq-default}
 use lib.Dec.{eqb}
 use lib.Seq.{ext-getD}
 use borrow.Author.Tests.{eqb-true, ltb-true}
-use Rattle.cover_tests.specs.Refusals.{coverTested, updateTested}
+use Rattle.cover_tests.specs.Testing.{coverTested, updateTested}
 use Rattle.cover_tests.specs.ReadyLaws.{ready, UpdateReady, update-ready}
 use Rattle.lists.specs.Tests.{below?, both}
 use Rattle.lists.specs.Lists.{bit, count, keep, All}

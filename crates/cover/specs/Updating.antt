@@ -9,7 +9,7 @@ use Rattle.records.specs.Outcome.{Outcome, outcome, unlessRefused, only}
 use Rattle.cover_spec.specs.Marks.{handed}
 use Rattle.cover_spec.specs.Update.{updateList}
 use Rattle.cover_edges.specs.Edges.{edgesOf}
-use Rattle.cover_tests.specs.Refusals.{updateTested}
+use Rattle.cover_tests.specs.Testing.{updateTested}
 
 -- groups of touched parts get the mark of the new edges' cover, every other group keeps the mark given
 abbrev pub updateMarks : List ℕ → List ℕ → ℕ → List ℕ → List ℕ

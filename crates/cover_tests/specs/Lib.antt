@@ -1,3 +1,3 @@
--- What a reader has to believe: Refusals, which the contracts of `cover` and `update` cite. ReadyLaws says what a call that passes may count on.
-pub mod Refusals
+-- What a reader has to believe: Testing, which the contracts of `cover` and `update` cite. ReadyLaws says what a call that passes may count on.
+pub mod Testing
 pub mod ReadyLaws

@@ -16,7 +16,7 @@ use Rattle.cover_edges.specs.Edges.{firstBadEdge, firstBadMark}
 use Rattle.cover_edges.specs.RangeLaws.{InRange, in-range, all-bits}
 use Rattle.records.specs.declared.refusal.Tested.{Tested}
 use Rattle.records.specs.Tested.{andThen, fieldTested}
-use Rattle.cover_tests.specs.Refusals.{tooLarge, edgesTested, coverTested, eitherTooLarge, lengthsWrong, updateTested}
+use Rattle.cover_tests.specs.Testing.{tooLarge, edgesTested, coverTested, eitherTooLarge, lengthsWrong, updateTested}
 
 pub record Ready (bs : List ℕ) (groups metas words : ℕ) : Type 0 where
   pub groups-max : groups ≤ 131072

@@ -6,7 +6,7 @@ use records::field_tested;
 ghost use mathlib.Core.Path.{_≡_};
 ghost use Prim.Native.Nat.{_/_, _≤_};
 ghost use lib.ListN.{length};
-ghost use Rattle.cover_tests.specs.Refusals.{tooLarge, edgesTested, coverTested};
+ghost use Rattle.cover_tests.specs.Testing.{tooLarge, edgesTested, coverTested};
 ghost use Rattle.cover_spec.specs.Marks.{workNeeded};
 
 pub(crate) fn too_large(n: usize, groups: usize, metas: usize) -> bool

@@ -9,7 +9,7 @@ use records::field_tested;
 ghost use mathlib.Core.Path.{_≡_};
 ghost use Prim.Native.Nat.{_/_, _≤_};
 ghost use lib.ListN.{length};
-ghost use Rattle.cover_tests.specs.Refusals.{eitherTooLarge, lengthsWrong, contentsTested, updateTested};
+ghost use Rattle.cover_tests.specs.Testing.{eitherTooLarge, lengthsWrong, contentsTested, updateTested};
 
 fn either_too_large(on: usize, nn: usize, groups: usize, metas: usize) -> bool
     ensures { λ r. ⌜ r ≡ eitherTooLarge on nn groups metas ⌝ }

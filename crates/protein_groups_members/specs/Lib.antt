@@ -1,3 +1,3 @@
--- What a reader has to believe: Numbers, Members.
+-- What a reader has to believe: Members.
 pub mod Members
 pub mod MemberLaws

@@ -7,7 +7,7 @@ use lib.Dec.{ltb}
 use borrow.Author.Tests.{lt-ltb, le-ltb, eq-eqb, ne-eqb}
 use native.Mathlib.Omega.{arith}
 use borrow.Author.Needs.{needs}
-use Rattle.cover_tests.specs.Refusals.{tooLarge}
+use Rattle.cover_tests.specs.Testing.{tooLarge}
 use Rattle.cover_tests.specs.ReadyLaws.{Small, small}
 use Rattle.cover_spec.specs.Marks.{workNeeded}
 use Rattle.cover_tests.proofs.tests.cover_tested.Statement.{statement}

@@ -1,7 +1,7 @@
 -- `contents` meets its contract: the first list that refuses. Assumes nothing.
 use mathlib.Core.Path.{_≡_, sym, _∙_}
 use borrow.Author.Needs.{needs}
-use Rattle.cover_tests.specs.Refusals.{edgesTested}
+use Rattle.cover_tests.specs.Testing.{edgesTested}
 use Rattle.records.specs.declared.refusal.Tested.the-variants.{Passed}
 use Rattle.cover_tests.proofs.update_tests.contents.Statement.{statement}
 use Rattle.cover_tests.proofs.update_tests.contents.Tie as tie

@@ -7,7 +7,7 @@ use lib.ListN.{length}
 use lib.Dec.{ltb}
 use borrow.Author.Tests.{lt-ltb, le-ltb}
 use Rattle.cover_tests.specs.ReadyLaws.{Small, both-small}
-use Rattle.cover_tests.specs.Refusals.{eitherTooLarge, lengthsWrong}
+use Rattle.cover_tests.specs.Testing.{eitherTooLarge, lengthsWrong}
 use Rattle.cover_spec.specs.Marks.{workNeeded}
 use borrow.Author.Needs.{needs}
 use Rattle.cover_tests.proofs.update_tests.update_tested.Statement.{statement}
