@@ -44,7 +44,7 @@ whole : List Case
 whole = record { got = (p10 .groups ∷ []) ∷ inGroup 0 ∷ inGroup 1 ∷ inGroup 2 ∷ inCover ∷ []; want = (3 ∷ []) ∷ (11 ∷ []) ∷ (10 ∷ []) ∷ (12 ∷ []) ∷ (10 ∷ []) ∷ [] } ∷ []
 
 whole-holds : Hold whole
-unfolding flatten keepEdges markForced coverMarked stays pass passes greatest mark choose turn turns cover listed coverList proteins metas groupsOf grouping whole
+unfolding flatten markForced coverMarked stays pass passes greatest mark choose turn turns cover listed coverList proteins metas groupsOf grouping whole
 whole-holds = refl
 
 -- a name of these bytes
