@@ -11,7 +11,7 @@ use lib.Pow.{pow-pos, pow-lt, pow-add, shr-shr, field, mod-mod-pow}
 use lib.Bits.{bitOr, bitAnd, or-shr, or-mod, and-shr, and-mod}
 use borrow.Author.Tests.{eqb-true, eqb-false}
 use Rattle.lists.specs.Tests.{below?}
-use Rattle.letters.specs.Letters.{bit}
+use Rattle.letters.specs.Letters.{bitSet}
 
 -- bit k of m as a digit
 abbrev pub digit : ℕ → ℕ → ℕ
@@ -52,8 +52,8 @@ pow-other k j h = ⊎-elim (pow-below k j) above (below? j k)
 or-digit : (m n k : ℕ) → digit (bitOr m n) k ≡ bitOr (digit m k) (digit n k)
 or-digit m n k = ap (λ (x : ℕ). x % 2) (or-shr m n k) ∙ or-mod (m / 2 ^ k) (n / 2 ^ k) 1
 
-pub bit-insert : (m k j : ℕ) → bit (bitOr m (2 ^ k)) j ≡ (eqb j k || bit m j)
-unfolding bit
+pub bit-insert : (m k j : ℕ) → bitSet (bitOr m (2 ^ k)) j ≡ (eqb j k || bitSet m j)
+unfolding bitSet
 bit-insert m k j = go (eqb j k) refl (digit-ways m j)
   where
     go : (b : Bool) → eqb j k ≡ b → (digit m j ≡ 0) ⊎ (digit m j ≡ 1) → eqb (digit (bitOr m (2 ^ k)) j) 1 ≡ (b || eqb (digit m j) 1)
@@ -67,8 +67,8 @@ bit-insert m k j = go (eqb j k) refl (digit-ways m j)
 and-digit : (m n k : ℕ) → digit (bitAnd m n) k ≡ bitAnd (digit m k) (digit n k)
 and-digit m n k = ap (λ (x : ℕ). x % 2) (and-shr m n k) ∙ and-mod (m / 2 ^ k) (n / 2 ^ k) 1
 
-pub bit-shared : (m n k : ℕ) → bit (bitAnd m n) k ≡ (bit m k && bit n k)
-unfolding bit
+pub bit-shared : (m n k : ℕ) → bitSet (bitAnd m n) k ≡ (bitSet m k && bitSet n k)
+unfolding bitSet
 bit-shared m n k = go (digit-ways m k) (digit-ways n k)
   where
     go : (digit m k ≡ 0) ⊎ (digit m k ≡ 1) → (digit n k ≡ 0) ⊎ (digit n k ≡ 1) → eqb (digit (bitAnd m n) k) 1 ≡ (eqb (digit m k) 1 && eqb (digit n k) 1)
@@ -80,8 +80,8 @@ bit-shared m n k = go (digit-ways m k) (digit-ways n k)
 -- ---- the low bits
 
 -- the low w bits of a number are its own
-pub bit-low : (w m k : ℕ) → k < w → bit (m % 2 ^ w) k ≡ bit m k
-unfolding bit
+pub bit-low : (w m k : ℕ) → k < w → bitSet (m % 2 ^ w) k ≡ bitSet m k
+unfolding bitSet
 bit-low w m k h =
     let j : ℕ = w - suc k in
     let e : w ≡ (j + 1) + k = omega arith in
@@ -101,8 +101,8 @@ same-digits (suc w) m n hm hn h =
     step : (x j : ℕ) → digit (x / 2) j ≡ digit x (suc j)
     step x j = ap (λ (y : ℕ). y % 2) (shr-shr x 1 j ∙ ap (λ (y : ℕ). x / 2 ^ y) (omega arith))
 
-bit-digit : (m n k : ℕ) → bit m k ≡ bit n k → digit m k ≡ digit n k
-unfolding bit
+bit-digit : (m n k : ℕ) → bitSet m k ≡ bitSet n k → digit m k ≡ digit n k
+unfolding bitSet
 bit-digit m n k e = go (digit-ways m k) (digit-ways n k)
   where
     apart : eqb 0 1 ≡ eqb 1 1 → ⊥
@@ -115,5 +115,5 @@ bit-digit m n k e = go (digit-ways m k) (digit-ways n k)
     go (inr x) (inl y) = absurd (apart (sym (ap (λ (z : ℕ). eqb z 1) y) ∙ sym e ∙ ap (λ (z : ℕ). eqb z 1) x))
 
 -- a number of w bits is known by its bits
-pub same-bits : (w m n : ℕ) → m < 2 ^ w → n < 2 ^ w → ((k : ℕ) → k < w → bit m k ≡ bit n k) → m ≡ n
+pub same-bits : (w m n : ℕ) → m < 2 ^ w → n < 2 ^ w → ((k : ℕ) → k < w → bitSet m k ≡ bitSet n k) → m ≡ n
 same-bits w m n hm hn h = same-digits w m n hm hn (λ k g. bit-digit m n k (h k g))

@@ -13,7 +13,7 @@ use Rattle.lists.specs.Tests.{below?, both, truth?}
 use Rattle.records.specs.Search.{seek}
 use Rattle.records.specs.SearchLaws.{seek-to, seek-passes, seek-before}
 use Rattle.letters.specs.declared.letter_set.LetterSet.{LetterSet}
-use Rattle.letters.specs.Letters.{isLetter, bit, has, inserted, empty, all, proper, subset}
+use Rattle.letters.specs.Letters.{isLetter, bitSet, has, inserted, empty, all, proper, subset}
 use Rattle.letters.specs.BitLaws.{bit-insert, bit-shared, bit-low, same-bits}
 
 -- ---- letters
@@ -34,13 +34,13 @@ letter-within b h k = rw (le-leb 65 b h, le-leb b 90 k)
 
 -- no byte is in the empty set
 pub has-empty : (b : ℕ) → has empty b ≡ false
-unfolding has bit
+unfolding has bitSet
 has-empty b = simp zero-div (and-false (isLetter b))
 
 -- a member is a letter
 pub has-letter : (s : LetterSet) (b : ℕ) → has s b ≡ true → isLetter b ≡ true
 unfolding has
-has-letter s b e = both (isLetter b) (bit (s .mask) (b - 65)) e .0
+has-letter s b e = both (isLetter b) (bitSet (s .mask) (b - 65)) e .0
 
 -- a byte that is no letter is in no set
 pub has-other : (s : LetterSet) (b : ℕ) → isLetter b ≡ false → has s b ≡ false
@@ -65,8 +65,8 @@ has-insert s a b = go (isLetter a) refl (isLetter b) refl
     apart : isLetter a ≡ true → isLetter b ≡ false → eqb b a ≡ false
     apart p q = ne-eqb b a (λ (h : b ≡ a). true≢false (sym p ∙ ap isLetter (sym h) ∙ q))
 
-    go : (x : Bool) → isLetter a ≡ x → (t : Bool) → isLetter b ≡ t → (t && bit (cond x (bitOr m (2 ^ (a - 65))) m) (b - 65)) ≡ ((x && eqb b a) || (t && bit m (b - 65)))
-    go true p true q = bit-insert m (a - 65) (b - 65) ∙ ap (λ (x : Bool). x || bit m (b - 65)) (same p q)
+    go : (x : Bool) → isLetter a ≡ x → (t : Bool) → isLetter b ≡ t → (t && bitSet (cond x (bitOr m (2 ^ (a - 65))) m) (b - 65)) ≡ ((x && eqb b a) || (t && bitSet m (b - 65)))
+    go true p true q = bit-insert m (a - 65) (b - 65) ∙ ap (λ (x : Bool). x || bitSet m (b - 65)) (same p q)
     go true p false q = simp (apart p q)
     go false p true q = refl
     go false p false q = refl
@@ -89,7 +89,7 @@ unfolding proper
 all-proper = refl
 
 -- a letter's bit
-bit-of : (s : LetterSet) (k : ℕ) → k < 26 → has s (65 + k) ≡ bit (s .mask) k
+bit-of : (s : LetterSet) (k : ℕ) → k < 26 → has s (65 + k) ≡ bitSet (s .mask) k
 unfolding has
 bit-of s k h = rw (letter-within (65 + k) (omega arith) (omega arith), back k)
   where
@@ -103,8 +103,8 @@ set-by-members s t hs ht h =
     let e : s .mask ≡ t .mask = same-bits 26 (s .mask) (t .mask) (ltb-true _ _ hs) (ltb-true _ _ ht) (λ k g. sym (bit-of s k g) ∙ h (65 + k) ∙ bit-of t k g) in
     λ i. record { mask = e i }
 
-all-bits : seek (λ (k : ℕ). not (bit 67108863 k)) 0 26 ≡ 26
-unfolding seek bit
+all-bits : seek (λ (k : ℕ). not (bitSet 67108863 k)) 0 26 ≡ 26
+unfolding seek bitSet
 all-bits = refl
 
 -- each letter is in the set of all
@@ -112,7 +112,7 @@ pub has-all : (b : ℕ) → has all b ≡ isLetter b
 has-all b = ⊎-elim (inside) (λ (e : isLetter b ≡ false). has-other all b e ∙ sym e) (truth? (isLetter b))
   where
     at : (k : ℕ) → k < 26 → has all (65 + k) ≡ true
-    at k h = bit-of all k h ∙ not-false (bit 67108863 k) (seek-before (λ (j : ℕ). not (bit 67108863 j)) 0 26 k (omega arith) (omega (arith, all-bits)))
+    at k h = bit-of all k h ∙ not-false (bitSet 67108863 k) (seek-before (λ (j : ℕ). not (bitSet 67108863 j)) 0 26 k (omega arith) (omega (arith, all-bits)))
 
     inside : isLetter b ≡ true → has all b ≡ isLetter b
     inside e =
@@ -155,20 +155,20 @@ module _ (s t : LetterSet) where
       let k : ℕ = b - 65 in
       let g : k < 26 = omega (arith, letter-from b l, letter-to b l) in
       let f : 65 + k ≡ b = omega (arith, letter-from b l) in
-      let p : bit (s .mask) k ≡ true = sym (bit-of s k g) ∙ ap (has s) f ∙ h in
-      let q : bit (bitAnd (s .mask) (t .mask)) k ≡ true = sym (bit-low 26 (bitAnd (s .mask) (t .mask)) k g) ∙ ap (λ (x : ℕ). bit x k) e ∙ bit-low 26 (s .mask) k g ∙ p in
-      let r : bit (t .mask) k ≡ true = both (bit (s .mask) k) (bit (t .mask) k) (sym (bit-shared (s .mask) (t .mask) k) ∙ q) .1 in
+      let p : bitSet (s .mask) k ≡ true = sym (bit-of s k g) ∙ ap (has s) f ∙ h in
+      let q : bitSet (bitAnd (s .mask) (t .mask)) k ≡ true = sym (bit-low 26 (bitAnd (s .mask) (t .mask)) k g) ∙ ap (λ (x : ℕ). bitSet x k) e ∙ bit-low 26 (s .mask) k g ∙ p in
+      let r : bitSet (t .mask) k ≡ true = both (bitSet (s .mask) k) (bitSet (t .mask) k) (sym (bit-shared (s .mask) (t .mask) k) ∙ q) .1 in
       ap (has t) (sym f) ∙ bit-of t k g ∙ r
 
   has-shared : subset s t ≡ true → bitAnd (s .mask) (t .mask) % 2 ^ 26 ≡ s .mask % 2 ^ 26
   has-shared e = same-bits 26 (bitAnd (s .mask) (t .mask) % 2 ^ 26) (s .mask % 2 ^ 26) (mod-lt (bitAnd (s .mask) (t .mask)) (pow-pos 26)) (mod-lt (s .mask) (pow-pos 26)) at
     where
-      go : (k : ℕ) → k < 26 → (x : Bool) → bit (s .mask) k ≡ x → (x && bit (t .mask) k) ≡ x
+      go : (k : ℕ) → k < 26 → (x : Bool) → bitSet (s .mask) k ≡ x → (x && bitSet (t .mask) k) ≡ x
       go k g true p = sym (bit-of t k g) ∙ subset-has s t e (65 + k) (bit-of s k g ∙ p)
       go k g false p = refl
 
-      at : (k : ℕ) → k < 26 → bit (bitAnd (s .mask) (t .mask) % 2 ^ 26) k ≡ bit (s .mask % 2 ^ 26) k
-      at k g = bit-low 26 (bitAnd (s .mask) (t .mask)) k g ∙ bit-shared (s .mask) (t .mask) k ∙ go k g (bit (s .mask) k) refl ∙ sym (bit-low 26 (s .mask) k g)
+      at : (k : ℕ) → k < 26 → bitSet (bitAnd (s .mask) (t .mask) % 2 ^ 26) k ≡ bitSet (s .mask % 2 ^ 26) k
+      at k g = bit-low 26 (bitAnd (s .mask) (t .mask)) k g ∙ bit-shared (s .mask) (t .mask) k ∙ go k g (bitSet (s .mask) k) refl ∙ sym (bit-low 26 (s .mask) k g)
 
   pub subset-bits : eqb (bitAnd (s .mask) (t .mask) % 2 ^ 26) (s .mask % 2 ^ 26) ≡ subset s t
   subset-bits = go (eqb (bitAnd (s .mask) (t .mask) % 2 ^ 26) (s .mask % 2 ^ 26)) refl (subset s t) refl

@@ -14,13 +14,13 @@ unfoldable pub isLetter : ℕ → Bool
 isLetter b = leb 65 b && leb b 90
 
 -- whether bit k of a number is set
-unfoldable pub bit : ℕ → ℕ → Bool
-bit m k = eqb (m / 2 ^ k % 2) 1
+unfoldable pub bitSet : ℕ → ℕ → Bool
+bitSet m k = eqb (m / 2 ^ k % 2) 1
 
 -- whether a byte is a letter of the set: no byte but a letter is
 unfoldable pub has : LetterSet → ℕ → Bool
-unfolding isLetter bit
-has s b = isLetter b && bit (s .mask) (b - 65)
+unfolding isLetter bitSet
+has s b = isLetter b && bitSet (s .mask) (b - 65)
 
 -- the set with a letter; any other byte changes nothing
 unfoldable pub inserted : LetterSet → ℕ → LetterSet

@@ -9,7 +9,7 @@ use lib.Dec.{eqb}
 use lib.ListN.{length, getD}
 use borrow.Author.Tests.{eqb-true, eq-eqb}
 use Rattle.lists.specs.Tests.{below?, clash}
-use Rattle.lists.specs.Lists.{In, Different, keep, bit, count, has, times}
+use Rattle.lists.specs.Lists.{In, Different, keep, bit, count, occurs, times}
 use Rattle.lists.specs.KeepLaws.{count-times}
 
 module _ {A : Type 0} (x : A) where
@@ -68,6 +68,17 @@ module _ {A : Type 0} (d : A) where
   getD-in x (y ∷ ys) (inl e) = (0, omega arith, sym e)
   getD-in x (y ∷ ys) (inr k) = let (i, l, e) = getD-in x ys k in (suc i, omega arith, e)
 
+-- the place of what a map makes
+pub getD-mapped : (f : ℕ → ℕ) (l : List ℕ) (i : ℕ) → i < length l → getD (map f l) i 0 ≡ f (getD l i 0)
+getD-mapped f [] i h = absurd (omega arith)
+getD-mapped f (x ∷ xs) zero h = refl
+getD-mapped f (x ∷ xs) (suc i) h = getD-mapped f xs i (omega arith)
+
+-- a list without places
+pub no-places : {A : Type 0} (l : List A) → length l ≡ 0 → l ≡ []
+no-places [] h = refl
+no-places (x ∷ xs) h = absurd (omega arith)
+
 pub is-in : {A : Type 0} {x y : A} {k l : List A} → x ≡ y → k ≡ l → In x k → In y l
 is-in {A} {y = y} {k} p q h = subst (λ (m : List A). In y m) q (subst (λ (z : A). In z k) p h)
 
@@ -79,20 +90,20 @@ pub some-in : {A : Type 0} (l : List A) → 0 < length l → (x : A) × In x l
 some-in [] h = absurd (omega arith)
 some-in (y ∷ ys) h = (y, inl refl)
 
-pub has-in : (k : ℕ) (l : List ℕ) → has k l ≡ true → In k l
-has-in k [] h = clash h refl
-has-in k (x ∷ xs) h = go (eqb x k) refl h (has-in k xs)
+pub occurs-in : (k : ℕ) (l : List ℕ) → occurs k l ≡ true → In k l
+occurs-in k [] h = clash h refl
+occurs-in k (x ∷ xs) h = go (eqb x k) refl h (occurs-in k xs)
   where
-    go : (t : Bool) → eqb x k ≡ t → cond t true (has k xs) ≡ true → (has k xs ≡ true → In k xs) → (k ≡ x) ⊎ In k xs
+    go : (t : Bool) → eqb x k ≡ t → cond t true (occurs k xs) ≡ true → (occurs k xs ≡ true → In k xs) → (k ≡ x) ⊎ In k xs
     go true e h r = inl (sym (eqb-true x k e))
     go false e h r = inr (r h)
 
-pub in-has : (k : ℕ) (l : List ℕ) → In k l → has k l ≡ true
-in-has k [] h = absurd h
-in-has k (x ∷ xs) (inl e) = rw (eq-eqb x k (sym e))
-in-has k (x ∷ xs) (inr i) = go (eqb x k) (in-has k xs i)
+pub in-occurs : (k : ℕ) (l : List ℕ) → In k l → occurs k l ≡ true
+in-occurs k [] h = absurd h
+in-occurs k (x ∷ xs) (inl e) = rw (eq-eqb x k (sym e))
+in-occurs k (x ∷ xs) (inr i) = go (eqb x k) (in-occurs k xs i)
   where
-    go : (t : Bool) → has k xs ≡ true → cond t true (has k xs) ≡ true
+    go : (t : Bool) → occurs k xs ≡ true → cond t true (occurs k xs) ≡ true
     go true r = refl
     go false r = r
 

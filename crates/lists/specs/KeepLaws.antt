@@ -1,6 +1,6 @@
 -- Laws of lists: what holds of all of a list, how many pass a test, which are kept. Assumes nothing.
-use mathlib.Core.Bool.{Bool, true, false, _&&_, _||_, cond, or-false, true≢false}
-use mathlib.Core.List.{List, [], _∷_, _++_, map, foldl}
+use mathlib.Core.Bool.{Bool, true, false, _&&_, _||_, cond, or-false, and-true, true≢false}
+use mathlib.Core.List.{List, [], _∷_, _++_, map}
 use Prim.Native.Nat.{ℕ, suc, _+_, _≤_, _<_}
 use lib.Dec.{ltb, eqb}
 use lib.ListN.{length}
@@ -49,13 +49,9 @@ module _ {A : Type 0} where
   pub length-keep : (q : A → Bool) (l : List A) → length (keep q l) ≡ count q l
   length-keep q l = length-count (keep q l) ∙ count-keep (λ e. true) q l ∙ count-ext (λ e. q e && true) q l (all-true l)
     where
-      and-t : (b : Bool) → (b && true) ≡ b
-      and-t true = refl
-      and-t false = refl
-
       all-true : (k : List A) → All (λ e. (q e && true) ≡ q e) k
       all-true [] = tt
-      all-true (e ∷ k) = (and-t (q e), all-true k)
+      all-true (e ∷ k) = (and-true (q e), all-true k)
 
   pub keep-all : (q : A → Bool) (l : List A) → length (keep q l) ≡ length l → All (λ e. q e ≡ true) l
   keep-all q [] h = tt
@@ -160,18 +156,16 @@ module _ {A : Type 0} where
 
 -- one test
 module _ {A : Type 0} (p : A → Bool) where
-  pub keep-snoc : (xs : List A) (x : A) → keep p (xs ++ (x ∷ [])) ≡ keep p xs ++ cond (p x) (x ∷ []) []
-  keep-snoc [] x = go (p x)
+  pub keep-append : (xs ys : List A) → keep p (xs ++ ys) ≡ keep p xs ++ keep p ys
+  keep-append [] ys = refl
+  keep-append (x ∷ xs) ys = go (p x) (keep-append xs ys)
     where
-      go : (t : Bool) → cond t (x ∷ []) [] ≡ [] ++ cond t (x ∷ []) []
-      go true = refl
-      go false = refl
-  keep-snoc (y ∷ ys) x = go (p y) (keep-snoc ys x)
-    where
-      go : (t : Bool) → keep p (ys ++ (x ∷ [])) ≡ keep p ys ++ cond (p x) (x ∷ []) []
-          → cond t (y ∷ keep p (ys ++ (x ∷ []))) (keep p (ys ++ (x ∷ []))) ≡ cond t (y ∷ keep p ys) (keep p ys) ++ cond (p x) (x ∷ []) []
-      go true r = ap (λ (l : List A). y ∷ l) r
+      go : (t : Bool) → keep p (xs ++ ys) ≡ keep p xs ++ keep p ys → cond t (x ∷ keep p (xs ++ ys)) (keep p (xs ++ ys)) ≡ cond t (x ∷ keep p xs) (keep p xs) ++ keep p ys
+      go true r = ap (λ (l : List A). x ∷ l) r
       go false r = r
+
+  pub keep-snoc : (xs : List A) (x : A) → keep p (xs ++ (x ∷ [])) ≡ keep p xs ++ cond (p x) (x ∷ []) []
+  keep-snoc xs x = keep-append xs (x ∷ [])
 
   pub keep-length : (xs : List A) → length (keep p xs) ≤ length xs
   keep-length [] = omega arith
@@ -196,11 +190,6 @@ count-times c (x ∷ xs) = go (eqb x c) (count-times c xs)
     go : (t : Bool) → count (λ x. eqb x c) xs ≡ times c xs → bit t + count (λ x. eqb x c) xs ≡ cond t (suc (times c xs)) (times c xs)
     go true r = omega arith
     go false r = omega arith
-
--- what is gathered along a list
-pub foldl-append : {A B : Type 0} (f : A → B → A) (z : A) (xs ys : List B) → foldl f z (xs ++ ys) ≡ foldl f (foldl f z xs) ys
-foldl-append f z [] ys = refl
-foldl-append f z (x ∷ xs) ys = foldl-append f (f z x) xs ys
 
 -- what holds of all that f makes
 pub map-all : {A B : Type 0} (P : B → Type 0) (f : A → B) → ((x : A) → P (f x)) → (xs : List A) → All P (map f xs)

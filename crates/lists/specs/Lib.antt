@@ -8,3 +8,4 @@ pub mod RowLaws
 pub mod KeyLaws
 pub mod FirstLaws
 pub mod ReverseLaws
+pub mod FrameLaws

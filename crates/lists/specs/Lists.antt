@@ -31,9 +31,9 @@ same (x ∷ xs) [] = false
 same (x ∷ xs) (y ∷ ys) = eqb x y && same xs ys
 
 -- whether k stands in a list, and how often
-abbrev pub has : ℕ → List ℕ → Bool
-has k [] = false
-has k (x ∷ xs) = cond (eqb x k) true (has k xs)
+abbrev pub occurs : ℕ → List ℕ → Bool
+occurs k [] = false
+occurs k (x ∷ xs) = cond (eqb x k) true (occurs k xs)
 
 abbrev pub times : ℕ → List ℕ → ℕ
 times k [] = 0

@@ -1,7 +1,7 @@
 -- Two ways of a test, and tests joined. Assumes nothing.
 use Prim.Native.Nat.{ℕ, _≤_, _<_}
 use mathlib.Core.Path.{_≡_, refl, sym, _∙_}
-use mathlib.Core.Bool.{Bool, true, false, not, _&&_, _||_, true≢false, false≢true}
+use mathlib.Core.Bool.{Bool, true, false, not, _&&_, _||_, true≢false, false≢true, cond}
 use mathlib.Core.Logic.{_⊎_, inl, inr}
 use lib.Dec.{ltb, eqb}
 use borrow.Author.Tests.{ltb-true, ltb-false, eqb-true, eqb-false, eq-eqb, ne-eqb}
@@ -38,10 +38,10 @@ neither false b e = (refl, e)
 pub clash : {B : Type 0} {t : Bool} → t ≡ true → t ≡ false → B
 clash p q = absurd (true≢false (sym p ∙ q))
 
-pub within : (s a : Bool) → (a ≡ true → s ≡ true) → a ≡ (s && a)
-within true a h = refl
-within false true h = sym (h refl)
-within false false h = refl
+pub and-within : (s a : Bool) → (a ≡ true → s ≡ true) → a ≡ (s && a)
+and-within true a h = refl
+and-within false true h = sym (h refl)
+and-within false false h = refl
 
 pub guard : (s a b c : Bool) → (a ≡ true → (s ≡ true) × (b ≡ c)) → (a && b) ≡ (s && (a && c))
 guard s true b c h = rw (h refl .0, h refl .1)
@@ -52,10 +52,6 @@ pub inside : (s a b c : Bool) → (s ≡ true → a ≡ c) → (a && (s && b)) �
 inside true a b c h = rw (h refl)
 inside false true b c h = refl
 inside false false b c h = refl
-
-pub not-is : (a : Bool) → not a ≡ true → a ≡ false
-not-is true h = sym h
-not-is false h = refl
 
 pub or-left : (a b : Bool) → a ≡ true → (a || b) ≡ true
 or-left true b h = refl
@@ -81,3 +77,8 @@ pub and-not-or : (w a b : Bool) → (w && not a) ≡ false → (w && not (a || b
 and-not-or true true b e = refl
 and-not-or true false b e = let f : true ≡ false = e in cc
 and-not-or false a b e = refl
+
+-- a test kept as 1 or 0
+pub flag-is-one : (t : Bool) → eqb (cond t 1 0) 1 ≡ t
+flag-is-one true = refl
+flag-is-one false = refl

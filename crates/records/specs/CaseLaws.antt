@@ -2,15 +2,15 @@
 use Prim.Native.Nat.{ℕ}
 use mathlib.Core.Path.{refl, sym, ap, _∙_}
 use mathlib.Core.List.{List, [], _∷_, _++_, map, map-append}
-use Rattle.records.specs.Cases.{Case, given, said, Hold}
+use Rattle.records.specs.Cases.{Case, gotOf, wantOf, Hold}
 
 -- two lists of cases that hold are one
 pub joined : (cs ds : List Case) → Hold cs → Hold ds → Hold (cs ++ ds)
 joined cs ds p q =
-    map-append given cs ds
-    ∙ ap (λ (x : List (List (List ℕ))). x ++ map given ds) p
-    ∙ ap (λ (x : List (List (List ℕ))). map said cs ++ x) q
-    ∙ sym (map-append said cs ds)
+    map-append gotOf cs ds
+    ∙ ap (λ (x : List (List (List ℕ))). x ++ map gotOf ds) p
+    ∙ ap (λ (x : List (List (List ℕ))). map wantOf cs ++ x) q
+    ∙ sym (map-append wantOf cs ds)
 
 -- a table of cases that hold, and tables as one
 pub record Table : Type 0 where

@@ -11,26 +11,26 @@ pub record Case : Type 0 where
   pub got : List (List ℕ)
   pub want : List (List ℕ)
 
-abbrev pub given : Case → List (List ℕ)
-given c = c .got
+abbrev pub gotOf : Case → List (List ℕ)
+gotOf c = c .got
 
-abbrev pub said : Case → List (List ℕ)
-said c = c .want
+abbrev pub wantOf : Case → List (List ℕ)
+wantOf c = c .want
 
 abbrev pub Hold : List Case → Type 0
-Hold cs = map given cs ≡ map said cs
+Hold cs = map gotOf cs ≡ map wantOf cs
 
 -- ---- what a call leaves, in numbers: the answer's, refusal 0 being none, and then each lent slice
 
 abbrev pub answered : ℕ → List ℕ
 answered n = 0 ∷ 0 ∷ n ∷ []
 
-abbrev pub refused : ℕ → ℕ → List ℕ
-refused number place = number ∷ place ∷ []
+abbrev pub refusedAs : ℕ → ℕ → List ℕ
+refusedAs number place = number ∷ place ∷ []
 
 abbrev pub numbers : Counted → List ℕ
 numbers (Count n) = answered n
-numbers (Refused why) = refused (numberOf why) (placeOf why)
+numbers (Refused why) = refusedAs (numberOf why) (placeOf why)
 
 abbrev pub told : Outcome Counted → List (List ℕ)
 told o = numbers (o .answer) ∷ o .lent

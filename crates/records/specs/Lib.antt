@@ -12,5 +12,6 @@ pub mod RoomLaws
 pub mod StoreLaws
 pub mod Search
 pub mod SearchLaws
+pub mod SeekingLaws
 pub mod Cases
 pub mod CaseLaws

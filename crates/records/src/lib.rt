@@ -9,6 +9,7 @@ pub use number::put_byte;
 pub use number::put_bytes;
 pub use number::put_u32;
 pub use number::u32_at;
+pub use number::wide;
 pub use refusal::Counted;
 pub use refusal::Refusal;
 pub use refusal::Tested;

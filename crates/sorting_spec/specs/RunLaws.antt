@@ -1,16 +1,13 @@
 -- Laws of runs. Assumes nothing.
 use mathlib.Core.Path.{_≡_, refl, sym, ap, _∙_}
-use mathlib.Core.Bool.{Bool, true, false, cond, _&&_}
+use mathlib.Core.Bool.{Bool, true, false, cond}
 use mathlib.Core.Logic.{inl, inr}
 use mathlib.Core.List.{List, [], _∷_}
 use Prim.Native.Nat.{ℕ, suc, _+_, _-_, _≤_, _<_}
 use native.Mathlib.Numerals.{add-one}
 use native.Mathlib.Omega.{arith}
-use borrow.Author.Tests.{leb-true}
-use lib.Dec.{leb}
 use lib.ListN.{length, getD, take, drop}
 use lib.Seq.{slice, slice-cons, slice-empty, length-slice, length-take-le, take-take, take-add, drop-drop, drop-at}
-use Rattle.lists.specs.Tests.{both}
 use Rattle.lists.specs.Lists.{In}
 use Rattle.sorting_spec.specs.Runs.{equalsAfter, runLength, joined, runsOf, next, numbersFrom, runNumbers}
 
@@ -101,17 +98,18 @@ run-none le w i p = rw (slice-empty i w) (omega arith)
 pub run-empty : (le : ℕ → ℕ → Bool) (w : List ℕ) (i : ℕ) → i + runLength le (slice i i w) ≡ i
 run-empty le w i = rw (slice-empty i w) (omega arith)
 
-pub standing : (lo hi e n : ℕ) → (leb lo hi && leb hi n && leb e n) ≡ true → (lo ≤ hi) × (hi ≤ n) × (e ≤ n)
-standing lo hi e n h =
-    let a = both (leb lo hi && leb hi n) (leb e n) h in
-    let b = both (leb lo hi) (leb hi n) (a .0) in
-    (leb-true _ _ (b .0), leb-true _ _ (b .1), leb-true _ _ (a .1))
-
 -- ---- numbers of runs
 
 -- how many runs there are where p is of run g
 abbrev pub countFrom : (ℕ → ℕ → Bool) → ℕ → ℕ → List ℕ → ℕ
 countFrom le g p xs = g + length (runsOf le (p ∷ xs))
+
+pub count-on : (le : ℕ → ℕ → Bool) (g p x : ℕ) (xs : List ℕ) → countFrom le g p (x ∷ xs) ≡ countFrom le (next le g p x) x xs
+count-on le g p x xs = rw (run-behind le x xs) (go (le x p) (take (equalsAfter le x xs) xs) (runsOf le (drop (equalsAfter le x xs) xs)))
+  where
+    go : (t : Bool) (ys : List ℕ) (rs : List (List ℕ)) → g + length (cond t ((p ∷ x ∷ ys) ∷ rs) ((p ∷ []) ∷ (x ∷ ys) ∷ rs)) ≡ cond t g (g + 1) + suc (length rs)
+    go true ys rs = omega arith
+    go false ys rs = omega arith
 
 pub next-le : (le : ℕ → ℕ → Bool) (g p x : ℕ) → next le g p x ≤ g + 1
 next-le le g p x = go (le x p)
