@@ -10,7 +10,7 @@ use lib.Dec.{eqb}
 use lib.Seq.{ext-getD}
 use borrow.Author.Tests.{eqb-true, ltb-true}
 use Rattle.cover_tests.specs.Testing.{coverTested, updateTested}
-use Rattle.cover_tests.specs.ReadyLaws.{ready, UpdateReady, update-ready}
+use Rattle.cover_tests.specs.ReadyLaws.{cover-ready, UpdateReady, update-ready}
 use Rattle.lists.specs.Tests.{below?, both}
 use Rattle.lists.specs.Lists.{bit, count, keep, All}
 use Rattle.lists.specs.KeepLaws.{count-keep, every, keep-same}
@@ -19,7 +19,7 @@ use Rattle.cover_spec.specs.Cover.{Edge, group, meta, ofMeta, cover, coverList,
 use Rattle.cover_spec.specs.Update.{touched}
 use Rattle.cover_spec.specs.CountLaws.{all-at, count-determined, find}
 use Rattle.cover_spec.specs.ConnectedLaws.{_∈_}
-use Rattle.cover_spec.specs.ChoiceLaws.{Under}
+use Rattle.cover_spec.specs.ChoiceLaws.{GroupsUnder}
 use Rattle.cover_spec.specs.ListedLaws.{getD-listed, bit-is, length-cover}
 use Rattle.cover_spec.specs.LocalityLaws.{cover-local}
 use Rattle.cover_spec.specs.UpdateLaws.{update-list}
@@ -35,8 +35,8 @@ use Rattle.cover.specs.UpdatingLaws.{mark-of}
 -- covered one."
 
 module _ (bs : List ℕ) (groups metas words : ℕ) (p : coverTested bs groups metas words ≡ Passed) where
-  under : Under groups (edgesOf bs)
-  under = edges-under bs (length bs / 8) groups metas (ready bs groups metas words p .inside)
+  under : GroupsUnder groups (edgesOf bs)
+  under = edges-under bs (length bs / 8) groups metas (cover-ready bs groups metas words p .inside)
 
   mark-at : (g : ℕ) → g < groups → getD (coverMarks bs groups) g 0 ≡ bit (cover groups (edgesOf bs) g)
   unfolding coverList

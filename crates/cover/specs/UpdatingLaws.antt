@@ -24,13 +24,13 @@ use Rattle.cover_spec.specs.ListedLaws.{length-listed, getD-listed, length-cove
 use Rattle.cover_spec.specs.Marks.{handed}
 use Rattle.cover_spec.specs.Update.{touched, update, updateList}
 use Rattle.cover_edges.specs.Edges.{edgesOf}
-use Rattle.cover_touched.specs.Touching.{Sized, Mixed}
+use Rattle.cover_touched.specs.Touching.{UpdateSized, Mixed}
 use Rattle.cover_tests.specs.ReadyLaws.{UpdateReady}
 use Rattle.cover.specs.Covering.{coverMarks}
 use Rattle.cover.specs.Updating.{updateMarks}
 
-pub sized : {old new given : List ℕ} {groups metas words : ℕ} → UpdateReady old new groups metas given words → 1 ≤ groups → Sized old (length old / 8) new (length new / 8) groups metas words
-sized {old} {new} {given} {groups} {metas} {words} r h = record {
+pub update-sized : {old new given : List ℕ} {groups metas words : ℕ} → UpdateReady old new groups metas given words → 1 ≤ groups → UpdateSized old (length old / 8) new (length new / 8) groups metas words
+update-sized {old} {new} {given} {groups} {metas} {words} r h = record {
   old-few = r .old-few;
   new-few = r .of-new .few;
   groups-max = r .of-new .groups-max;
@@ -90,7 +90,7 @@ module _ (old new : List ℕ) (groups metas : ℕ) (given : List ℕ) (words : �
       let is : marks₂ ≡ sets marks 0 (updateMarks old new groups given) =
       as-sets (updateMarks old new groups given) marks marks₂ (lm₂ ∙ lm)
       (λ i h l. mix .here i (omega (arith, updated)) ∙ ap (λ (v : ℕ). cond (touched (edgesOf old) (edgesOf new) i) v (getD given i 0)) (ap (λ (t : List ℕ). getD t i 0) was ∙ cover-at i (omega (arith, updated)) l) ∙ sym (mark-of i (omega (arith, updated))))
-      (λ i h. mix .rest i (omega (arith, updated)) ∙ ap (λ (t : List ℕ). getD t i 0) was ∙ getD-sets-other (coverMarks new groups) marks 0 i (inr (omega (arith, made, updated)))) in
+      (λ i h. mix .rest i (inr (omega (arith, updated))) ∙ ap (λ (t : List ℕ). getD t i 0) was ∙ getD-sets-other (coverMarks new groups) marks 0 i (inr (omega (arith, made, updated)))) in
       let said : r ≡ cond (fits 1 131072 marks (singly (updateMarks old new groups given))) (Count (length (updateMarks old new groups given))) (No Room) =
       ap (λ (o : Outcome Counted). o .answer) e ∙ rw (fits-text 131072 (coverMarks new groups) marks few, fits-text 131072 (updateMarks old new groups given) marks few′, made, updated) in
       rw (said, z, lw, is ∙ stored-text 131072 (updateMarks old new groups given) marks few′)

@@ -9,7 +9,7 @@ use records::clear;
 ghost use mathlib.Core.Path.{_≡_};
 ghost use mathlib.Core.List.{[], _∷_};
 ghost use lib.ListN.{length};
-ghost use Rattle.cover_tests.specs.ReadyLaws.{Ready};
+ghost use Rattle.cover_tests.specs.ReadyLaws.{CoverReady};
 ghost use Rattle.records.specs.Outcome.{outcome};
 ghost use Rattle.cover_spec.specs.Marks.{handed};
 ghost use Rattle.cover.specs.Covering.{coverMarks, coverOutcome};
@@ -22,7 +22,7 @@ pub(crate) fn cover_passed(
     work: &mut [u32],
     marks: &mut [u8],
 ) -> Counted
-    requires { ⌜ Ready (now edges) groups metas (length (now work)) ⌝ }
+    requires { ⌜ CoverReady (now edges) groups metas (length (now work)) ⌝ }
     ensures { λ r. ⌜ outcome r (now (work .exit) ∷ now (marks .exit) ∷ []) ≡ handed (now (work .entry)) (now (marks .entry)) (coverMarks (now (edges .entry)) groups) ⌝ }
 {
     let n = edges.len() / 8;

@@ -1,24 +1,13 @@
 // The marks of the cover, as many as there is room for.
 use cover_walk::cover_into;
+use records::put_bytes;
 ghost use mathlib.Core.Path.{_≡_};
-ghost use mathlib.Core.List.{_++_};
 ghost use Prim.Native.Nat.{_≤_, _<_};
-ghost use lib.ListN.{length, take, drop, replicate};
+ghost use lib.ListN.{length, replicate};
+ghost use lib.Seq.{sets};
 ghost use Rattle.cover_spec.specs.Cover.{coverList};
 ghost use Rattle.cover_edges.specs.Edges.{edgesTo};
-ghost use Rattle.cover_walk.specs.Tables.{Fit};
-
-// The first marks, as many as fit.
-fn copy(from: &[u8], to: &mut [u8])
-    requires { ⌜ length (now to) ≤ length (now from) ⌝ }
-    ensures { λ _. ⌜ now (to .exit) ≡ take (length (now (to .entry))) (now (from .entry)) ⌝ }
-{
-    let mut i = 0;
-    while i < to.len() {
-        to[i] = from[i];
-        i += 1;
-    }
-}
+ghost use Rattle.cover_walk.specs.Tables.{RunFits};
 
 // Room for the marks of all groups: 128 KiB of stack.
 fn all_marks() -> [u8; 131072]
@@ -37,13 +26,13 @@ fn cover_in(
     marks: &mut [u8],
     work: &mut [u32],
 )
-    requires { ⌜ Fit (now edges) n groups metas groups (length (now work)) ⌝ }
+    requires { ⌜ RunFits (now edges) n groups metas groups (length (now work)) ⌝ }
     requires { ⌜ (length (now marks) < groups) × (groups ≤ length (now all)) ⌝ }
-    ensures { λ _. ⌜ now (marks .exit) ≡ take (length (now (marks .entry))) (coverList groups (edgesTo (now (edges .entry)) n)) ⌝ }
+    ensures { λ _. ⌜ now (marks .exit) ≡ sets (now (marks .entry)) 0 (coverList groups (edgesTo (now (edges .entry)) n)) ⌝ }
     ensures { λ _. ⌜ now (work .exit) ≡ replicate (length (now (work .entry))) 0 ⌝ }
 {
     cover_into(edges, n, groups, metas, &mut all[0..groups], work);
-    copy(&all[0..groups], marks);
+    put_bytes(marks, 0, &all[0..groups]);
 }
 
 // With less room than groups.
@@ -55,9 +44,9 @@ pub(crate) fn cover_short(
     marks: &mut [u8],
     work: &mut [u32],
 )
-    requires { ⌜ Fit (now edges) n groups metas groups (length (now work)) ⌝ }
+    requires { ⌜ RunFits (now edges) n groups metas groups (length (now work)) ⌝ }
     requires { ⌜ length (now marks) < groups ⌝ }
-    ensures { λ _. ⌜ now (marks .exit) ≡ take (length (now (marks .entry))) (coverList groups (edgesTo (now (edges .entry)) n)) ⌝ }
+    ensures { λ _. ⌜ now (marks .exit) ≡ sets (now (marks .entry)) 0 (coverList groups (edgesTo (now (edges .entry)) n)) ⌝ }
     ensures { λ _. ⌜ now (work .exit) ≡ replicate (length (now (work .entry))) 0 ⌝ }
 {
     let mut all = all_marks();
@@ -73,9 +62,9 @@ pub(crate) fn cover_all(
     marks: &mut [u8],
     work: &mut [u32],
 )
-    requires { ⌜ Fit (now edges) n groups metas groups (length (now work)) ⌝ }
+    requires { ⌜ RunFits (now edges) n groups metas groups (length (now work)) ⌝ }
     requires { ⌜ groups ≤ length (now marks) ⌝ }
-    ensures { λ _. ⌜ now (marks .exit) ≡ coverList groups (edgesTo (now (edges .entry)) n) ++ drop groups (now (marks .entry)) ⌝ }
+    ensures { λ _. ⌜ now (marks .exit) ≡ sets (now (marks .entry)) 0 (coverList groups (edgesTo (now (edges .entry)) n)) ⌝ }
     ensures { λ _. ⌜ now (work .exit) ≡ replicate (length (now (work .entry))) 0 ⌝ }
 {
     cover_into(edges, n, groups, metas, &mut marks[0..groups], work);

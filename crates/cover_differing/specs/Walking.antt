@@ -1,17 +1,20 @@
--- The edges of one group, old and new, counted meta-peptide by meta-peptide in the table that stands at 0. The records of a group are
--- linked: heads from hd on, nexts from nx on.
-use Prim.Native.Nat.{ℕ, _+_, _-_, _≤_, _<_}
+-- The edges of one group, old and new, counted meta-peptide by meta-peptide in the table that stands at 0.
+use Prim.Native.Nat.{ℕ, zero, suc, _+_, _-_, _≤_, _<_}
 use mathlib.Core.Path.{_≡_}
-use mathlib.Core.Bool.{Bool, true, false, _&&_}
+use mathlib.Core.Bool.{Bool, true, false, not, _&&_, _||_}
 use mathlib.Core.List.{List, _++_}
 use lib.ListN.{length, getD}
 use lib.Dec.{eqb}
 use Rattle.lists.specs.Lists.{count, some}
+use Rattle.lists.specs.FrameLaws.{Framed}
 use Rattle.cover_spec.specs.Cover.{Edge, group, sameEdge}
 use Rattle.cover_spec.specs.Update.{differs}
 use Rattle.cover_edges.specs.Chains.{Chains}
 use Rattle.cover_edges.specs.Edges.{edgesTo}
 use Rattle.cover_edges.specs.RangeLaws.{InRange}
+use Rattle.cover_differing.specs.declared.links.Links.{Links}
+use Rattle.cover_differing.specs.declared.passing.Pass.{Pass}
+use Rattle.cover_differing.specs.declared.passing.Pass.the-variants.{Up, Off, Clear}
 
 -- some edge of the group stands a different number of times in the two lists
 unfoldable pub differing : List Edge → List Edge → ℕ → Bool
@@ -21,55 +24,56 @@ differing old new g = some (λ e. eqb (group e) g && differs old new e) (old ++ 
 unfoldable pub ofPair : ℕ → ℕ → List ℕ → ℕ → ℕ
 ofPair g m bs i = count (sameEdge (g, m)) (edgesTo bs i)
 
-pub record Walkable (bs : List ℕ) (n groups metas : ℕ) (w : List ℕ) (hd nx : ℕ) : Type 0 where
-  pub few : n ≤ 1048576
-  pub inside : InRange bs n groups metas
-  pub above : metas ≤ hd
-  pub order : hd + groups ≤ nx
-  pub room : nx + n ≤ length w
-  pub chains : Chains w bs 0 n groups hd nx
+-- ---- a pass: what a record makes of the count of its meta-peptide, and whether the count is one to tell of
+abbrev pub changed : Pass → ℕ → ℕ
+changed Up v = v + 1
+changed Off v = v - 1
+changed Clear v = 0
 
--- nothing but the table has changed
-abbrev pub Beside : List ℕ → List ℕ → ℕ → Type 0
-Beside w w′ metas = (i : ℕ) → metas ≤ i → getD w′ i 0 ≡ getD w i 0
+abbrev pub telling : Pass → ℕ → Bool
+telling Up v = false
+telling Off v = eqb v 0
+telling Clear v = not (eqb v 0)
 
--- the table counts the records of group g
-pub record Tallied (w w′ bs : List ℕ) (n metas g : ℕ) : Type 0 where
-  pub counts : (m : ℕ) → m < metas → getD w′ m 0 ≡ ofPair g m bs n
-  pub rest : Beside w w′ metas
+-- the same of k records, one after the other
+abbrev pub changedBy : Pass → ℕ → ℕ → ℕ
+changedBy p zero v = v
+changedBy p (suc k) v = changedBy p k (changed p v)
 
--- the records of group g are taken off the counts, down to 0; whether some count was too small
-pub record Taken (w w′ bs : List ℕ) (n metas g : ℕ) (lack : Bool) : Type 0 where
-  pub counts : (m : ℕ) → m < metas → getD w′ m 0 ≡ getD w m 0 - ofPair g m bs n
-  pub less : lack ≡ true → (m : ℕ) × (m < metas) × (getD w m 0 < ofPair g m bs n)
-  pub enough : lack ≡ false → (m : ℕ) → m < metas → ofPair g m bs n ≤ getD w m 0
-  pub rest : Beside w w′ metas
+abbrev pub tellingBy : Pass → ℕ → ℕ → Bool
+tellingBy p zero v = false
+tellingBy p (suc k) v = telling p v || tellingBy p k (changed p v)
 
--- the table is zeros again; whether it was not
-pub record Swept (w w′ : List ℕ) (metas : ℕ) (left : Bool) : Type 0 where
-  pub clean : (m : ℕ) → m < metas → getD w′ m 0 ≡ 0
-  pub more : left ≡ true → (m : ℕ) × (m < metas) × (0 < getD w m 0)
-  pub none : left ≡ false → (m : ℕ) → m < metas → getD w m 0 ≡ 0
-  pub rest : Beside w w′ metas
+-- the records can be walked
+pub record Walkable (t : Links) (bs w : List ℕ) : Type 0 where
+  pub few : t .records ≤ 1048576
+  pub inside : InRange bs (t .records) (t .groups) (t .metas)
+  pub above : t .metas ≤ t .heads
+  pub order : t .heads + t .groups ≤ t .nexts
+  pub room : t .nexts + t .records ≤ length w
+  pub chains : Chains w bs 0 (t .records) (t .groups) (t .heads) (t .nexts)
+
+-- a pass along the records of group g is done, and told whether some count was one to tell of
+pub record Gone (p : Pass) (t : Links) (bs : List ℕ) (g : ℕ) (w w′ : List ℕ) (told : Bool) : Type 0 where
+  pub counts : (m : ℕ) → m < t .metas → getD w′ m 0 ≡ changedBy p (ofPair g m bs (t .records)) (getD w m 0)
+  pub one : told ≡ true → (m : ℕ) × (m < t .metas) × (tellingBy p (ofPair g m bs (t .records)) (getD w m 0) ≡ true)
+  pub none : told ≡ false → (m : ℕ) → m < t .metas → tellingBy p (ofPair g m bs (t .records)) (getD w m 0) ≡ false
+  pub rest : Framed 0 (t .metas) w w′
 
 -- ---- the layout: from 0 on a count for each meta-peptide, from `metas` on the nodes, then the heads of the groups' old records, of
 -- their new records, the nexts of the old records and of the new ones
-abbrev pub atOld : ℕ → ℕ → ℕ
-atOld groups metas = metas + (1 + groups + metas)
+abbrev pub linksOld : ℕ → ℕ → ℕ → Links
+linksOld groups metas on =
+    record { groups = groups; metas = metas; records = on; heads = metas + (1 + groups + metas); nexts = metas + (1 + groups + metas) + groups + groups }
 
-abbrev pub atNew : ℕ → ℕ → ℕ
-atNew groups metas = metas + (1 + groups + metas) + groups
-
-abbrev pub nextOld : ℕ → ℕ → ℕ
-nextOld groups metas = metas + (1 + groups + metas) + groups + groups
-
-abbrev pub nextNew : ℕ → ℕ → ℕ → ℕ
-nextNew groups metas on = metas + (1 + groups + metas) + groups + groups + on
+abbrev pub linksNew : ℕ → ℕ → ℕ → ℕ → Links
+linksNew groups metas on nn =
+    record { groups = groups; metas = metas; records = nn; heads = metas + (1 + groups + metas) + groups; nexts = metas + (1 + groups + metas) + groups + groups + on }
 
 -- the groups' records are linked, and nothing is counted
-pub record Linked (old : List ℕ) (on : ℕ) (new : List ℕ) (nn groups metas : ℕ) (w : List ℕ) : Type 0 where
+pub record GroupsLinked (old : List ℕ) (on : ℕ) (new : List ℕ) (nn groups metas : ℕ) (w : List ℕ) : Type 0 where
   pub groups-max : groups ≤ 131072
   pub metas-max : metas ≤ 262144
-  pub by-old : Walkable old on groups metas w (atOld groups metas) (nextOld groups metas)
-  pub by-new : Walkable new nn groups metas w (atNew groups metas) (nextNew groups metas on)
+  pub by-old : Walkable (linksOld groups metas on) old w
+  pub by-new : Walkable (linksNew groups metas on nn) new w
   pub clean : (m : ℕ) → m < metas → getD w m 0 ≡ 0

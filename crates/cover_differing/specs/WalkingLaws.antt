@@ -1,25 +1,29 @@
--- Laws of the walks along a group's records. Assumes nothing.
+-- Laws of the passes along a group's records. Assumes nothing.
 use Prim.Native.Nat.{ℕ, zero, suc, _+_, _-_, _*_, _≤_, _<_}
 use native.Mathlib.Omega.{arith}
 use native.Mathlib.Nat.{add-zero}
 use mathlib.Core.Path.{_≡_, refl, sym, ap, _∙_}
-use mathlib.Core.Bool.{Bool, true, false, cond, not, _||_, true≢false, false≢true}
-use mathlib.Core.Logic.{⊎-elim}
+use mathlib.Core.Bool.{Bool, true, false, cond, _||_, true≢false, false≢true}
+use mathlib.Core.Logic.{inr, ⊎-elim}
 use mathlib.Core.List.{List, [], _∷_}
 use lib.ListN.{length, getD, set, length-set}
 use lib.Seq.{getD-set-same, getD-set-other}
 use lib.Dec.{eqb}
-use borrow.Author.Tests.{eqb-true, eqb-false, eq-eqb, ne-eqb}
-use Rattle.cover_differing.specs.Walking.{ofPair, Walkable, Beside, Tallied, Taken, Swept}
-use Rattle.lists.specs.Tests.{same?, below?, truth?, neither, eqb-sym}
+use borrow.Author.Tests.{eqb-false, eq-eqb, ne-eqb}
+use Rattle.lists.specs.Tests.{same?, truth?, neither, eqb-sym}
 use Rattle.lists.specs.Lists.{bit, count}
-use Rattle.cover_spec.specs.Cover.{sameEdge}
-use Rattle.lists.specs.KeepLaws.{count-append, count-le, none}
+use Rattle.lists.specs.FrameLaws.{Framed, framed-none, framed-then, framed-set}
+use Rattle.lists.specs.KeepLaws.{count-append, count-le}
 use Rattle.records.specs.Le.{numberAt}
-use Rattle.cover_edges.specs.Chains.{lastOf}
+use Rattle.cover_spec.specs.Cover.{sameEdge}
+use Rattle.cover_edges.specs.Chains.{lastWith}
 use Rattle.cover_edges.specs.ChainLaws.{last-le, last-hit}
 use Rattle.cover_edges.specs.Edges.{edgeAt, edgesTo}
 use Rattle.cover_edges.specs.EdgeLaws.{length-edges}
+use Rattle.cover_differing.specs.declared.links.Links.{Links}
+use Rattle.cover_differing.specs.declared.passing.Pass.{Pass}
+use Rattle.cover_differing.specs.declared.passing.Pass.the-variants.{Up, Off, Clear}
+use Rattle.cover_differing.specs.Walking.{ofPair, changed, telling, changedBy, tellingBy, Walkable, Gone}
 
 -- ---- how often an edge stands among the first records
 
@@ -36,12 +40,12 @@ unfolding ofPair edgesTo
 pair-more g m bs i = omega (arith, count-append (sameEdge (g, m)) (edgesTo bs i) (edgeAt bs i ∷ []))
 
 -- the records after the last of group g do not count
-pair-skip : (g m : ℕ) (bs : List ℕ) (i : ℕ) → ofPair g m bs i ≡ ofPair g m bs (lastOf bs 0 g i)
-unfolding lastOf
+pair-skip : (g m : ℕ) (bs : List ℕ) (i : ℕ) → ofPair g m bs i ≡ ofPair g m bs (lastWith bs 0 g i)
+unfolding lastWith
 pair-skip g m bs zero = refl
 pair-skip g m bs (suc i) = go (eqb (numberAt 4 bs (8 * i + 0)) g) refl (pair-skip g m bs i)
   where
-    go : (b : Bool) → eqb (numberAt 4 bs (8 * i + 0)) g ≡ b → ofPair g m bs i ≡ ofPair g m bs (lastOf bs 0 g i) → ofPair g m bs (suc i) ≡ ofPair g m bs (cond b (suc i) (lastOf bs 0 g i))
+    go : (b : Bool) → eqb (numberAt 4 bs (8 * i + 0)) g ≡ b → ofPair g m bs i ≡ ofPair g m bs (lastWith bs 0 g i) → ofPair g m bs (suc i) ≡ ofPair g m bs (cond b (suc i) (lastWith bs 0 g i))
     go true e ih = refl
     go false e ih =
         let u : eqb g (numberAt 4 bs (8 * i)) ≡ false = eqb-sym g (numberAt 4 bs (8 * i)) ∙ (rw add-zero at e) in
@@ -55,198 +59,153 @@ pair-hit g m bs (suc i) p e =
     let u : eqb g (numberAt 4 bs (8 * i)) ≡ true = eq-eqb g (numberAt 4 bs (8 * i)) (sym (rw add-zero at e′)) in
     rw z (pair-more g m bs i ∙ rw u (omega arith))
 
--- ---- a walk: h is one more than the next record
+-- ---- a pass on its way: h is one more than the next record
 
-pub record Walk (w₀ w bs : List ℕ) (n metas g h : ℕ) : Type 0 where
+changed-le : (p : Pass) (v : ℕ) → changed p v ≤ v + 1
+changed-le Up v = omega arith
+changed-le Off v = omega arith
+changed-le Clear v = omega arith
+
+-- what the records before h still do gives the whole
+pub record OnTheWay (p : Pass) (t : Links) (bs : List ℕ) (g : ℕ) (w₀ w : List ℕ) (told : Bool) (h : ℕ) : Type 0 where
   pub long : length w ≡ length w₀
-  pub within : h ≤ n
+  pub within : h ≤ t .records
   pub hit : 0 < h → numberAt 4 bs (8 * (h - 1) + 0) ≡ g
-  pub fewer : (m : ℕ) → ofPair g m bs h ≤ ofPair g m bs n
-  pub rest : Beside w₀ w metas
+  pub small : (m : ℕ) → m < t .metas → getD w m 0 + ofPair g m bs h ≤ 2097152
+  pub counts : (m : ℕ) → m < t .metas → changedBy p (ofPair g m bs h) (getD w m 0) ≡ changedBy p (ofPair g m bs (t .records)) (getD w₀ m 0)
+  pub one : told ≡ true → (m : ℕ) × (m < t .metas) × (tellingBy p (ofPair g m bs (t .records)) (getD w₀ m 0) ≡ true)
+  pub none : told ≡ false → (m : ℕ) → m < t .metas → tellingBy p (ofPair g m bs h) (getD w m 0) ≡ tellingBy p (ofPair g m bs (t .records)) (getD w₀ m 0)
+  pub rest : Framed 0 (t .metas) w₀ w
 
--- the records before h are still to be counted; to be taken off; to be swept
-abbrev pub Counting : List ℕ → ℕ → ℕ → ℕ → List ℕ → ℕ → Type 0
-Counting bs n metas g w h = (m : ℕ) → m < metas → getD w m 0 + ofPair g m bs h ≡ ofPair g m bs n
+pub pass-start : {p : Pass} {t : Links} {bs : List ℕ} {g h : ℕ} {w₀ : List ℕ} → Walkable t bs w₀ → g < t .groups → ((m : ℕ) → m < t .metas → getD w₀ m 0 ≤ 1048576) → h ≡ getD w₀ (t .heads + g) 0 → OnTheWay p t bs g w₀ w₀ false h
+pass-start {p} {t} {bs} {g} {h} {w₀} a lg few e =
+    let e′ : h ≡ lastWith bs 0 g (t .records) = e ∙ a .chains .heads g lg in
+    let all : (m : ℕ) → ofPair g m bs h ≡ ofPair g m bs (t .records) = λ m. ap (ofPair g m bs) e′ ∙ sym (pair-skip g m bs (t .records)) in
+    record {
+      long = refl;
+      within = omega (arith, last-le bs 0 g (t .records));
+      hit = λ l. rw e′ (last-hit bs 0 g (t .records) (omega arith));
+      small = λ m l. omega (arith, few m l, all m, pair-le g m bs (t .records), a .few);
+      counts = λ m l. ap (λ (k : ℕ). changedBy p k (getD w₀ m 0)) (all m);
+      one = λ z. absurd (false≢true z);
+      none = λ z m l. ap (λ (k : ℕ). tellingBy p k (getD w₀ m 0)) (all m);
+      rest = framed-none 0 (t .metas) w₀;
+    }
 
-pub record Taking (w₀ bs : List ℕ) (n metas g : ℕ) (w : List ℕ) (h : ℕ) (lack : Bool) : Type 0 where
-  pub counts : (m : ℕ) → m < metas → getD w m 0 ≡ getD w₀ m 0 - (ofPair g m bs n - ofPair g m bs h)
-  pub less : lack ≡ true → (m : ℕ) × (m < metas) × (getD w₀ m 0 < ofPair g m bs n)
-  pub enough : lack ≡ false → (m : ℕ) → m < metas → ofPair g m bs n - ofPair g m bs h ≤ getD w₀ m 0
+module _ {p : Pass} {t : Links} {bs : List ℕ} {g : ℕ} {w₀ w : List ℕ} {told : Bool} {h m : ℕ} (a : Walkable t bs w₀) (k : OnTheWay p t bs g w₀ w told h) (l : 0 < h)
+    (e : m ≡ numberAt 4 bs (8 * (h - 1) + 4)) where
+  inside : m < t .metas
+  inside = omega (arith, a .inside (h - 1) (omega (arith, k .within)) .1)
 
-pub record Sweeping (w₀ bs : List ℕ) (metas g : ℕ) (w : List ℕ) (h : ℕ) (left : Bool) : Type 0 where
-  pub clean : (m : ℕ) → m < metas → ofPair g m bs h ≡ 0 → getD w m 0 ≡ 0
-  pub lower : (m : ℕ) → m < metas → getD w m 0 ≤ getD w₀ m 0
-  pub more : left ≡ true → (m : ℕ) × (m < metas) × (0 < getD w₀ m 0)
-  pub none : left ≡ false → (m : ℕ) → m < metas → getD w m 0 ≡ getD w₀ m 0
+  -- the record's meta-peptide has a count, to which one can be added
+  pub meta-in : m < length w
+  meta-in = omega (arith, inside, a .above, a .order, a .room, k .long)
 
-module _ (w₀ bs : List ℕ) (n groups metas hd nx g : ℕ) (t : Walkable bs n groups metas w₀ hd nx) (lg : g < groups) where
-  pub walk-start : (h : ℕ) → h ≡ getD w₀ (hd + g) 0 → Walk w₀ w₀ bs n metas g h
-  walk-start h e =
-      let e′ : h ≡ lastOf bs 0 g n = e ∙ t .chains .heads g lg in
-      record {
-        long = refl;
-        within = omega (arith, last-le bs 0 g n);
-        hit = λ p. rw e′ (last-hit bs 0 g n (omega arith));
-        fewer = λ m. rw e′ (omega (arith, pair-skip g m bs n));
-        rest = λ i l. refl;
-      }
+  pub meta-small : getD w m 0 < 4294967295
+  meta-small = omega (arith, k .small m inside)
 
-  -- all records count
-  pub walk-all : (h : ℕ) → h ≡ getD w₀ (hd + g) 0 → (m : ℕ) → ofPair g m bs h ≡ ofPair g m bs n
-  walk-all h e m = let e′ : h ≡ lastOf bs 0 g n = e ∙ t .chains .heads g lg in rw e′ (sym (pair-skip g m bs n))
+  module _ {v : ℕ} (f : v ≡ changed p (getD w m 0)) where
+    abbrev after : List ℕ
+    after = set w m v
 
-  module _ (w : List ℕ) (h : ℕ) (k : Walk w₀ w bs n metas g h) (p : 0 < h) where
-    abbrev pub meta-at : ℕ
-    meta-at = numberAt 4 bs (8 * (h - 1) + 4)
+    abbrev next : ℕ
+    next = getD after (t .nexts + (h - 1)) 0
 
-    pub walk-inside : meta-at < metas
-    walk-inside = t .inside (h - 1) (omega (arith, k .within)) .1
+    pub next-in : t .nexts + (h - 1) < length after
+    next-in = simp length-set (omega (arith, a .room, k .within, k .long))
 
-    pub walk-in : meta-at < length w
-    walk-in = omega (arith, walk-inside, t .above, t .order, t .room, k .long)
+    other : (x : ℕ) → (x ≡ m → ⊥) → getD after x 0 ≡ getD w x 0
+    other x u = getD-set-other w m x v 0 u
 
-    module _ (v : ℕ) where
-      abbrev pub walked : List ℕ
-      walked = set w meta-at v
+    next-is : next ≡ lastWith bs 0 g (h - 1)
+    next-is =
+        other (t .nexts + (h - 1)) (λ z. omega (arith, inside, a .above, a .order))
+        ∙ k .rest (t .nexts + (h - 1)) (inr (omega (arith, a .above, a .order)))
+        ∙ a .chains .nexts (h - 1) (omega (arith, k .within))
+        ∙ ap (λ (x : ℕ). lastWith bs 0 x (h - 1)) (k .hit l)
 
-      pub walk-here : getD walked meta-at 0 ≡ v
-      walk-here = getD-set-same w meta-at v 0 walk-in
+    pub next-falls : next < h
+    next-falls = omega (arith, next-is, last-le bs 0 g (h - 1))
 
-      pub walk-other : (m : ℕ) → (m ≡ meta-at → ⊥) → getD walked m 0 ≡ getD w m 0
-      walk-other m u = getD-set-other w meta-at m v 0 u
+    -- the record counts for its meta-peptide and no other
+    passes : (x : ℕ) → ofPair g x bs h ≡ bit (eqb x m) + ofPair g x bs next
+    passes x = pair-hit g x bs h l (k .hit l) ∙ rw (← e) (ap (λ (r : ℕ). bit (eqb x m) + r) (pair-skip g x bs (h - 1) ∙ ap (ofPair g x bs) (sym next-is)))
 
-      next-is : getD walked (nx + (h - 1)) 0 ≡ lastOf bs 0 g (h - 1)
-      next-is =
-          walk-other (nx + (h - 1)) (λ z. omega (arith, walk-inside, t .above, t .order))
-          ∙ k .rest (nx + (h - 1)) (omega (arith, t .above, t .order))
-          ∙ t .chains .nexts (h - 1) (omega (arith, k .within))
-          ∙ ap (λ (x : ℕ). lastOf bs 0 x (h - 1)) (k .hit p)
+    one-less : ofPair g m bs h ≡ suc (ofPair g m bs next)
+    one-less = passes m ∙ rw (eq-eqb m m refl) (omega arith)
 
-      pub walk-room : nx + (h - 1) < length walked
-      walk-room = simp length-set (omega (arith, t .room, k .within, k .long))
+    as-many : (x : ℕ) → (x ≡ m → ⊥) → ofPair g x bs next ≡ ofPair g x bs h
+    as-many x u = sym (passes x ∙ rw (ne-eqb x m u) (omega arith))
 
-      pub walk-falls : getD walked (nx + (h - 1)) 0 < h
-      walk-falls = omega (arith, next-is, last-le bs 0 g (h - 1))
+    -- what holds of the records left and of the count, at each meta-peptide
+    each : (P : ℕ → ℕ → ℕ → Type 0) → P m (ofPair g m bs next) (changed p (getD w m 0)) → ((x : ℕ) → x < t .metas → P x (ofPair g x bs h) (getD w x 0)) → (x : ℕ) → x < t .metas → P x (ofPair g x bs next) (getD after x 0)
+    each P y n x b =
+        ⊎-elim (λ (z : x ≡ m). rw (z, getD-set-same w m v 0 meta-in ∙ f) y)
+        (λ (u : x ≡ m → ⊥). rw (other x u, as-many x u) (n x b)) (same? x m)
 
-      -- the record counts for its meta-peptide and no other
-      pub walk-passes : (m : ℕ) → ofPair g m bs h ≡ bit (eqb m meta-at) + ofPair g m bs (getD walked (nx + (h - 1)) 0)
-      walk-passes m = pair-hit g m bs h p (k .hit p) ∙ ap (λ (x : ℕ). bit (eqb m meta-at) + x) (pair-skip g m bs (h - 1) ∙ ap (ofPair g m bs) (sym next-is))
-
-      pub walk-turn : Walk w₀ walked bs n metas g (getD walked (nx + (h - 1)) 0)
-      walk-turn = record {
-        long = length-set w meta-at v ∙ k .long;
-        within = omega (arith, walk-falls, k .within);
-        hit = λ q. rw next-is (last-hit bs 0 g (h - 1) (omega (arith, next-is)));
-        fewer = λ m. omega (arith, walk-passes m, k .fewer m);
-        rest = λ i l. walk-other i (λ z. omega (arith, walk-inside)) ∙ k .rest i l;
-      }
-
-      -- at the record's meta-peptide one less is left, elsewhere as many
-      pub walk-one : ofPair g meta-at bs h ≡ 1 + ofPair g meta-at bs (getD walked (nx + (h - 1)) 0)
-      walk-one = walk-passes meta-at ∙ rw (eq-eqb meta-at meta-at refl)
-
-      pub walk-none : (m : ℕ) → (m ≡ meta-at → ⊥) → ofPair g m bs h ≡ ofPair g m bs (getD walked (nx + (h - 1)) 0)
-      walk-none m u = walk-passes m ∙ rw (ne-eqb m meta-at u) (omega arith)
-
-  -- ---- counting up
-  pub counting-start : (h : ℕ) → h ≡ getD w₀ (hd + g) 0 → ((m : ℕ) → m < metas → getD w₀ m 0 ≡ 0) → Counting bs n metas g w₀ h
-  counting-start h e c m l = omega (arith, c m l, walk-all h e m)
-
-  pub counting-turn : (w : List ℕ) (h : ℕ) (k : Walk w₀ w bs n metas g h) (p : 0 < h) → Counting bs n metas g w h
-      → Counting bs n metas g (set w (numberAt 4 bs (8 * (h - 1) + 4)) (getD w (numberAt 4 bs (8 * (h - 1) + 4)) 0 + 1)) (getD (set w (numberAt 4 bs (8 * (h - 1) + 4)) (getD w (numberAt 4 bs (8 * (h - 1) + 4)) 0 + 1)) (nx + (h - 1)) 0)
-  counting-turn w h k p c m l =
-      let x : ℕ = meta-at w h k p in
-      let v : ℕ = getD w x 0 + 1 in
-      ⊎-elim (λ (e : m ≡ x). rw e (omega (arith, walk-here w h k p v, walk-one w h k p v, c x (walk-inside w h k p))))
-      (λ (u : m ≡ x → ⊥). omega (arith, walk-other w h k p v m u, walk-none w h k p v m u, c m l)) (same? m x)
-
-  pub counting-end : (w : List ℕ) (h : ℕ) → Walk w₀ w bs n metas g h → Counting bs n metas g w h → h ≡ 0 → Tallied w₀ w bs n metas g
-  counting-end w h k c z = record { counts = λ m l. omega (arith, c m l, ap (ofPair g m bs) z, pair-nil g m bs); rest = k .rest }
-
-  -- ---- taking off
-  pub taking-start : (h : ℕ) → h ≡ getD w₀ (hd + g) 0 → Taking w₀ bs n metas g w₀ h false
-  taking-start h e = record { counts = λ m l. omega (arith, walk-all h e m); less = λ z. absurd (false≢true z); enough = λ z m l. omega (arith, walk-all h e m) }
-
-  module _ (w : List ℕ) (h : ℕ) (lack : Bool) (k : Walk w₀ w bs n metas g h) (p : 0 < h) (s : Taking w₀ bs n metas g w h lack) where
-    x : ℕ
-    x = meta-at w h k p
-
-    pub taking-turn : Taking w₀ bs n metas g (set w (meta-at w h k p) (getD w (meta-at w h k p) 0 - 1)) (getD (set w (meta-at w h k p) (getD w (meta-at w h k p) 0 - 1)) (nx + (h - 1)) 0) (lack || eqb (getD w (meta-at w h k p) 0) 0)
-    unfolding x
-    taking-turn = record {
-      counts = λ m l. ⊎-elim (λ (e : m ≡ x). rw e (omega (arith, walk-here w h k p v, walk-one w h k p v, s .counts x inside, k .fewer x)))
-          (λ (u : m ≡ x → ⊥). walk-other w h k p v m u ∙ s .counts m l ∙ ap (λ (q : ℕ). getD w₀ m 0 - (ofPair g m bs n - q)) (walk-none w h k p v m u)) (same? m x);
-      less = λ z. ⊎-elim (λ (e : lack ≡ true). s .less e) (λ (e : lack ≡ false). (x, inside, short (eqb-true (getD w x 0) 0 (from lack (eqb (getD w x 0) 0) e z)))) (truth? lack);
-      enough = λ z m l. let (a, b) = neither lack (eqb (getD w x 0) 0) z in
-          ⊎-elim (λ (e : m ≡ x). rw e (full (s .enough a x inside) (eqb-false (getD w x 0) 0 b))) (λ (u : m ≡ x → ⊥). omega (arith, s .enough a m l, walk-none w h k p v m u)) (same? m x);
+    pub pass-turn : OnTheWay p t bs g w₀ after (told || telling p (getD w m 0)) next
+    pass-turn = record {
+      long = length-set w m v ∙ k .long;
+      within = omega (arith, next-falls, k .within);
+      hit = λ q. rw next-is (last-hit bs 0 g (h - 1) (omega (arith, next-is)));
+      small = each (λ x r c. c + r ≤ 2097152) (omega (arith, changed-le p (getD w m 0), one-less, k .small m inside)) (k .small);
+      counts = each (λ x r c. changedBy p r c ≡ changedBy p (ofPair g x bs (t .records)) (getD w₀ x 0)) (rw one-less at (k .counts m inside)) (k .counts);
+      one = λ z. ⊎-elim (λ (y : told ≡ true). k .one y) (λ (y : told ≡ false). (m, inside, sym (k .none y m inside) ∙ rw (one-less, from told (telling p (getD w m 0)) y z))) (truth? told);
+      none = λ z. let (y, q) = neither told (telling p (getD w m 0)) z in
+          each (λ x r c. tellingBy p r c ≡ tellingBy p (ofPair g x bs (t .records)) (getD w₀ x 0)) (rw (one-less, q) at (k .none y m inside)) (k .none y);
+      rest = framed-then 0 (t .metas) w₀ w after (k .rest) (framed-set 0 (t .metas) m v w (omega arith) inside);
     }
       where
-        v : ℕ
-        v = getD w x 0 - 1
+        from : (b c : Bool) → b ≡ false → (b || c) ≡ true → c ≡ true
+        from true c y z = absurd (true≢false y)
+        from false c y z = z
 
-        inside : x < metas
-        inside = walk-inside w h k p
-
-        from : (a b : Bool) → a ≡ false → (a || b) ≡ true → b ≡ true
-        from true b e z = absurd (true≢false e)
-        from false b e z = z
-
-        short : getD w x 0 ≡ 0 → getD w₀ x 0 < ofPair g x bs n
-        short e = omega (arith, s .counts x inside, walk-one w h k p v, k .fewer x)
-
-        full : ofPair g x bs n - ofPair g x bs h ≤ getD w₀ x 0 → (getD w x 0 ≡ 0 → ⊥) → ofPair g x bs n - ofPair g x bs (getD (set w x v) (nx + (h - 1)) 0) ≤ getD w₀ x 0
-        full q u = ⊎-elim (λ (e : getD w x 0 ≡ 0). absurd (u e)) (λ (e : getD w x 0 ≡ 0 → ⊥). more (pos (getD w x 0) u)) (same? (getD w x 0) 0)
-          where
-            pos : (a : ℕ) → (a ≡ 0 → ⊥) → 0 < a
-            pos a y = ⊎-elim (λ (d : 0 < a). d) (λ (d : a ≤ 0). absurd (y (omega arith))) (below? 0 a)
-
-            more : 0 < getD w x 0 → ofPair g x bs n - ofPair g x bs (getD (set w x v) (nx + (h - 1)) 0) ≤ getD w₀ x 0
-            more y = omega (arith, s .counts x inside, walk-one w h k p v, k .fewer x)
-
-  pub taking-end : (w : List ℕ) (h : ℕ) (lack : Bool) → Walk w₀ w bs n metas g h → Taking w₀ bs n metas g w h lack → h ≡ 0 → Taken w₀ w bs n metas g lack
-  taking-end w h lack k s z =
-      let none : (m : ℕ) → ofPair g m bs h ≡ 0 = λ m. ap (ofPair g m bs) z ∙ pair-nil g m bs in
-      record {
-        counts = λ m l. omega (arith, s .counts m l, none m);
-        less = s .less;
-        enough = λ e m l. omega (arith, s .enough e m l, none m);
-        rest = k .rest;
-      }
-
-  -- ---- sweeping
-  pub sweeping-start : (h : ℕ) → h ≡ getD w₀ (hd + g) 0 → ((m : ℕ) → m < metas → ofPair g m bs n ≡ 0 → getD w₀ m 0 ≡ 0) → Sweeping w₀ bs metas g w₀ h false
-  sweeping-start h e c = record { clean = λ m l z. c m l (sym (walk-all h e m) ∙ z); lower = λ m l. omega arith; more = λ z. absurd (false≢true z); none = λ z m l. refl }
-
-  module _ (w : List ℕ) (h : ℕ) (left : Bool) (k : Walk w₀ w bs n metas g h) (p : 0 < h) (s : Sweeping w₀ bs metas g w h left) where
-    y : ℕ
-    y = meta-at w h k p
-
-    pub sweeping-turn : Sweeping w₀ bs metas g (set w (meta-at w h k p) 0) (getD (set w (meta-at w h k p) 0) (nx + (h - 1)) 0) (left || not (eqb (getD w (meta-at w h k p) 0) 0))
-    unfolding y
-    sweeping-turn = record {
-      clean = λ m l z. ⊎-elim (λ (e : m ≡ y). rw e (walk-here w h k p 0)) (λ (u : m ≡ y → ⊥). walk-other w h k p 0 m u ∙ s .clean m l (walk-none w h k p 0 m u ∙ z)) (same? m y);
-      lower = λ m l. ⊎-elim (λ (e : m ≡ y). rw e (omega (arith, walk-here w h k p 0))) (λ (u : m ≡ y → ⊥). omega (arith, walk-other w h k p 0 m u, s .lower m l)) (same? m y);
-      more = λ z. ⊎-elim (λ (e : left ≡ true). s .more e) (λ (e : left ≡ false). (y, inside, some-left (from left (eqb (getD w y 0) 0) e z))) (truth? left);
-      none = λ z m l. let (a, b) = neither left (not (eqb (getD w y 0) 0)) z in
-          ⊎-elim (λ (e : m ≡ y). rw e (walk-here w h k p 0 ∙ sym (eqb-true (getD w y 0) 0 (is (eqb (getD w y 0) 0) b)) ∙ s .none a y inside)) (λ (u : m ≡ y → ⊥). walk-other w h k p 0 m u ∙ s .none a m l) (same? m y);
+pub pass-end : {p : Pass} {t : Links} {bs : List ℕ} {g : ℕ} {w₀ w : List ℕ} {told : Bool} {h : ℕ} → OnTheWay p t bs g w₀ w told h → h ≡ 0 → Gone p t bs g w₀ w told
+pass-end {p} {t} {bs} {g} {w₀} {w} {told} {h} k z =
+    let none : (m : ℕ) → ofPair g m bs h ≡ 0 = λ m. ap (ofPair g m bs) z ∙ pair-nil g m bs in
+    record {
+      counts = λ m l. sym (ap (λ (r : ℕ). changedBy p r (getD w m 0)) (none m)) ∙ k .counts m l;
+      one = k .one;
+      none = λ e m l. sym (k .none e m l) ∙ ap (λ (r : ℕ). tellingBy p r (getD w m 0)) (none m);
+      rest = k .rest;
     }
-      where
-        inside : y < metas
-        inside = walk-inside w h k p
 
-        from : (a b : Bool) → a ≡ false → (a || not b) ≡ true → b ≡ false
-        from true b e z = absurd (true≢false e)
-        from false true e z = absurd (false≢true z)
-        from false false e z = refl
+-- ---- what the passes come to
 
-        is : (b : Bool) → not b ≡ false → b ≡ true
-        is true e = refl
-        is false e = absurd (true≢false e)
+pub up-all : (k v : ℕ) → changedBy Up k v ≡ v + k
+up-all zero v = omega arith
+up-all (suc k) v = up-all k (v + 1) ∙ omega arith
 
-        some-left : eqb (getD w y 0) 0 ≡ false → 0 < getD w₀ y 0
-        some-left e = ⊎-elim (λ (d : 0 < getD w₀ y 0). d) (λ (d : getD w₀ y 0 ≤ 0). absurd (eqb-false (getD w y 0) 0 e (omega (arith, s .lower y inside)))) (below? 0 (getD w₀ y 0))
+pub off-all : (k v : ℕ) → changedBy Off k v ≡ v - k
+off-all zero v = omega arith
+off-all (suc k) v = off-all k (v - 1) ∙ omega arith
 
-  pub sweeping-end : (w : List ℕ) (h : ℕ) (left : Bool) → Walk w₀ w bs n metas g h → Sweeping w₀ bs metas g w h left → h ≡ 0 → Swept w₀ w metas left
-  sweeping-end w h left k s z =
-      let clean : (m : ℕ) → m < metas → getD w m 0 ≡ 0 = λ m l. s .clean m l (ap (ofPair g m bs) z ∙ pair-nil g m bs) in
-      record { clean = clean; more = s .more; none = λ e m l. sym (s .none e m l) ∙ clean m l; rest = k .rest }
+-- taken off below zero
+pub off-yes : (k v : ℕ) → tellingBy Off k v ≡ true → v < k
+off-yes zero v e = absurd (false≢true e)
+off-yes (suc k) v e = ⊎-elim (λ (z : v ≡ 0). omega arith) (λ (u : v ≡ 0 → ⊥). omega (arith, off-yes k (v - 1) (rw (ne-eqb v 0 u) at e))) (same? v 0)
+
+pub off-no : (k v : ℕ) → tellingBy Off k v ≡ false → k ≤ v
+off-no zero v e = omega arith
+off-no (suc k) v e = let (a, b) = neither (eqb v 0) (tellingBy Off k (v - 1)) e in omega (arith, eqb-false v 0 a, off-no k (v - 1) b)
+
+-- cleared
+pub clear-none : (k : ℕ) → changedBy Clear k 0 ≡ 0
+clear-none zero = refl
+clear-none (suc k) = clear-none k
+
+pub clear-all : (k v : ℕ) → (k ≡ 0 → v ≡ 0) → changedBy Clear k v ≡ 0
+clear-all zero v h = h refl
+clear-all (suc k) v h = clear-none k
+
+still : (k : ℕ) → tellingBy Clear k 0 ≡ false
+still zero = refl
+still (suc k) = still k
+
+pub clear-yes : (k v : ℕ) → tellingBy Clear k v ≡ true → 0 < v
+clear-yes k zero e = absurd (false≢true (sym (still k) ∙ e))
+clear-yes k (suc v) e = omega arith
+
+pub clear-no : (k v : ℕ) → 0 < k → tellingBy Clear k v ≡ false → v ≡ 0
+clear-no zero v l e = absurd (omega arith)
+clear-no (suc k) v l e = ⊎-elim (λ (z : v ≡ 0). z) (λ (u : v ≡ 0 → ⊥). absurd (true≢false (rw (ne-eqb v 0 u) at e))) (same? v 0)

@@ -22,8 +22,8 @@ use Rattle.cover_spec.specs.Cover.{Edge, group, meta}
 use Rattle.cover_edges.specs.Edges.{edgeAt, edgesTo, edgesOf, edgeBytes, badEdge, firstBadEdge}
 
 -- the numbers of all edges fit their fields
-abbrev pub Storable : List Edge → Type 0
-Storable es = All (λ e. (group e < 4294967296) × (meta e < 4294967296)) es
+abbrev pub StorableEdge : List Edge → Type 0
+StorableEdge es = All (λ e. (group e < 4294967296) × (meta e < 4294967296)) es
 
 pub length-edge : (e : Edge) → length (edgeBytes e) ≡ 8
 unfolding edgeBytes
@@ -49,7 +49,7 @@ later-edge e rest i =
     )
 
 -- record i is the i-th edge
-pub edge-back : (es : List Edge) → Storable es → (i : ℕ) → i < length es → edgeAt (flatten (map edgeBytes es)) i ≡ getD es i (0, 0)
+pub edge-back : (es : List Edge) → StorableEdge es → (i : ℕ) → i < length es → edgeAt (flatten (map edgeBytes es)) i ≡ getD es i (0, 0)
 unfolding flatten
 edge-back [] h i l = absurd (omega arith)
 edge-back (e ∷ es) h zero l = first-edge e (flatten (map edgeBytes es)) (h .0 .0) (h .0 .1)
@@ -74,7 +74,7 @@ pub count-edges : (es : List Edge) → length (flatten (map edgeBytes es)) / 8 �
 count-edges es = let e : length (flatten (map edgeBytes es)) ≡ 8 * length es = length-flatten 8 (map edgeBytes es) (sized-edges es) ∙ ap (λ (n : ℕ). 8 * n) (length-map es edgeBytes) in omega arith
 
 -- THE LAW
-pub edges-back : (es : List Edge) → Storable es → edgesOf (flatten (map edgeBytes es)) ≡ es
+pub edges-back : (es : List Edge) → StorableEdge es → edgesOf (flatten (map edgeBytes es)) ≡ es
 unfolding edgesTo
 edges-back es h =
     ap (edgesTo (flatten (map edgeBytes es))) (count-edges es)
@@ -83,7 +83,7 @@ edges-back es h =
 
 -- edges in range are accepted
 module _ (groups metas : ℕ) (g : groups ≤ 4294967296) (m : metas ≤ 4294967296) where
-  pub ranged-storable : (es : List Edge) → All (λ e. (group e < groups) × (meta e < metas)) es → Storable es
+  pub ranged-storable : (es : List Edge) → All (λ e. (group e < groups) × (meta e < metas)) es → StorableEdge es
   ranged-storable es h = all-map (λ e k. (omega arith, omega arith)) es h
 
   at-range : (es : List Edge) → All (λ e. (group e < groups) × (meta e < metas)) es → (i : ℕ) → i < length es → (group (getD es i (0, 0)) < groups) × (meta (getD es i (0, 0)) < metas)

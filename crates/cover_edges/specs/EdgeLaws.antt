@@ -6,7 +6,7 @@ use mathlib.Core.List.{List, [], _∷_, _++_}
 use lib.ListN.{length, length-append}
 use Rattle.lists.specs.Lists.{All}
 use Rattle.lists.specs.KeepLaws.{all-map}
-use Rattle.cover_spec.specs.ChoiceLaws.{Under}
+use Rattle.cover_spec.specs.ChoiceLaws.{GroupsUnder}
 use Rattle.cover_spec.specs.Cover.{Edge, group, meta}
 use Rattle.cover_edges.specs.Edges.{edgeAt, edgesTo}
 use Rattle.cover_edges.specs.RangeLaws.{InRange}
@@ -20,7 +20,7 @@ unfolding edgesTo
 edges-all bs zero groups metas r = tt
 edges-all bs (suc n) groups metas r = all-snoc _ (edgesTo bs n) (edgeAt bs n) (edges-all bs n groups metas (λ i l. r i (omega arith))) (r n (omega arith))
 
-pub edges-under : (bs : List ℕ) (n groups metas : ℕ) → InRange bs n groups metas → Under groups (edgesTo bs n)
+pub edges-under : (bs : List ℕ) (n groups metas : ℕ) → InRange bs n groups metas → GroupsUnder groups (edgesTo bs n)
 edges-under bs n groups metas r = all-map (λ e h. h .0) (edgesTo bs n) (edges-all bs n groups metas r)
 
 pub length-edges : (bs : List ℕ) (n : ℕ) → length (edgesTo bs n) ≡ n

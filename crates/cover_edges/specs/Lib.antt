@@ -6,3 +6,4 @@ pub mod BackLaws
 pub mod TableLaws
 pub mod Chains
 pub mod ChainLaws
+pub mod PutLaws

@@ -3,8 +3,9 @@ use records::u32_at;
 ghost use mathlib.Core.Path.{_≡_};
 ghost use Prim.Native.Nat.{ℕ, _+_, _*_, _≤_, _<_};
 ghost use lib.ListN.{length, getD, set};
+ghost use Rattle.lists.specs.FrameLaws.{Out};
 ghost use Rattle.records.specs.Le.{numberAt};
-ghost use Rattle.cover_edges.specs.Chains.{Out, Chains};
+ghost use Rattle.cover_edges.specs.Chains.{Chains};
 
 // Links record i by its number at byte f: heads from h on, nexts from nx on.
 fn link_one(edges: &[u8], i: usize, f: usize, w: &mut [u32], h: usize, nx: usize)
@@ -24,7 +25,7 @@ pub fn link(edges: &[u8], n: usize, f: usize, w: &mut [u32], size: usize, h: usi
     requires { ⌜ ((i : ℕ) → i < n → numberAt 4 (now edges) (8 * i + f) < size) ⌝ }
     requires { ⌜ ((x : ℕ) → x < size → getD (now w) (h + x) 0 ≡ 0) ⌝ }
     ensures { λ _. ⌜ Chains (now (w .exit)) (now (edges .entry)) f n size h nx ⌝ }
-    ensures { λ _. ⌜ ((i : ℕ) → Out i h size → Out i nx n → getD (now (w .exit)) i 0 ≡ getD (now (w .entry)) i 0) ⌝ }
+    ensures { λ _. ⌜ ((i : ℕ) → Out i h (h + size) → Out i nx (nx + n) → getD (now (w .exit)) i 0 ≡ getD (now (w .entry)) i 0) ⌝ }
 {
     let mut i = 0;
     while i < n {

@@ -2,23 +2,23 @@
 use crate::reading::group_of;
 use crate::reading::meta_of;
 use cover_tables::Areas;
+use cover_tables::size_at;
 ghost use Prim.Native.Nat.{ℕ, _+_, _<_, _≤_};
 ghost use mathlib.Core.Path.{_≡_};
 ghost use mathlib.Core.Bool.{cond, not};
 ghost use lib.Dec.{eqb};
 ghost use lib.ListN.{getD, length};
-ghost use Rattle.cover_tables.specs.TableLaws.{Tables};
 ghost use Rattle.cover_tables.specs.StepLaws.{Levels};
-ghost use Rattle.cover_first.specs.FirstLaws.{Unmarked, Forced, Covered, Counted};
+ghost use Rattle.cover_first.specs.FirstLaws.{Unmarked, Forced, Covered, OpenCounted};
 ghost use Rattle.lists.specs.Lists.{bit};
 ghost use Rattle.cover_edges.specs.Edges.{edgesTo};
 ghost use Rattle.cover_edges.specs.RangeLaws.{InRange};
 
-// 1 where a is 1, else what there was.
-fn flagged(a: u32, old: u32) -> u32
-    ensures { λ r. ⌜ r ≡ cond (eqb a 1) 1 old ⌝ }
+// 1 where it is on, else what there was.
+fn flagged(on: bool, old: u32) -> u32
+    ensures { λ r. ⌜ r ≡ cond on 1 old ⌝ }
 {
-    if a == 1 { 1 } else { old }
+    if on { 1 } else { old }
 }
 
 // 0 where a is 1, else 1.
@@ -37,9 +37,9 @@ fn forced(edges: &[u8], n: usize, w: &mut [u32], areas: Areas)
     while i < n {
         let g = group_of(edges, i);
         let x = meta_of(edges, i);
-        let d = w[areas.mo + x + 1] - w[areas.mo + x];
+        let only = size_at(w, areas.mo + x) == 1;
         let at = areas.groups + areas.metas + g;
-        let v = flagged(d, w[at]);
+        let v = flagged(only, w[at]);
         w[at] = v;
         i += 1;
     }
@@ -54,7 +54,7 @@ fn covered(edges: &[u8], n: usize, w: &mut [u32], groups: usize, metas: usize)
     while i < n {
         let g = group_of(edges, i);
         let x = meta_of(edges, i);
-        let v = flagged(w[groups + metas + g], w[groups + x]);
+        let v = flagged(w[groups + metas + g] == 1, w[groups + x]);
         w[groups + x] = v;
         i += 1;
     }
@@ -63,7 +63,7 @@ fn covered(edges: &[u8], n: usize, w: &mut [u32], groups: usize, metas: usize)
 // Counts the edges of uncovered meta-peptides.
 fn counts(edges: &[u8], n: usize, w: &mut [u32], groups: usize, metas: usize)
     requires { ⌜ (groups + metas ≤ length (now w)) × InRange (now edges) n groups metas × ((y : ℕ) → y < groups → getD (now w) y 0 ≡ 0) × (n ≤ 1048576) ⌝ }
-    ensures { λ _. ⌜ Counted groups (now (edges .entry)) (now (w .entry)) (now (w .exit)) n ⌝ }
+    ensures { λ _. ⌜ OpenCounted groups (now (edges .entry)) (now (w .entry)) (now (w .exit)) n ⌝ }
 {
     let mut i = 0;
     while i < n {

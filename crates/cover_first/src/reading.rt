@@ -1,6 +1,6 @@
 // The fields of an edge record.
-use cover_index::wide;
 use records::u32_at;
+use records::wide;
 ghost use mathlib.Core.Path.{_≡_};
 ghost use Prim.Native.Nat.{_<_};
 ghost use Rattle.cover_first.specs.FirstLaws.{groupAt, metaAt};

@@ -6,9 +6,9 @@ use mathlib.Core.Bool.{Bool}
 use mathlib.Core.List.{List, _∷_}
 use lib.ListN.{length, getD}
 use Rattle.lists.specs.Lists.{All}
+use Rattle.lists.specs.FrameLaws.{Framed}
 use Rattle.records.specs.Le.{numberAt}
 use Rattle.cover_spec.specs.Cover.{Edge}
-use Rattle.cover_edges.specs.Chains.{Out}
 
 pub record Forest (w : List ℕ) (p n : ℕ) : Type 0 where
   pub room : p + n ≤ length w
@@ -27,17 +27,17 @@ pub record Held (links : List Edge) (w : List ℕ) (p n : ℕ) : Type 0 where
   pub only : (f : ℕ → Bool) → All (λ l. f (l .0) ≡ f (l .1)) links → (x : ℕ) → x < n → f x ≡ f (rep x)
 
 -- r is the lowest node of the part of x, and the parts are as they were
-pub record Found (w w′ : List ℕ) (p n x r : ℕ) : Type 0 where
+pub record LowestFound (w w′ : List ℕ) (p n x r : ℕ) : Type 0 where
   pub forest : Forest w′ p n
   pub inside : r < n
   pub reps : (rep : ℕ → ℕ) → Reps rep w p n → Reps rep w′ p n × (r ≡ rep x) × (rep r ≡ r)
-  pub rest : (i : ℕ) → Out i p n → getD w′ i 0 ≡ getD w i 0
+  pub rest : Framed p (p + n) w w′
 
 -- there are more links
 pub record Joined (more : List Edge → List Edge) (w w′ : List ℕ) (p n : ℕ) : Type 0 where
   pub forest : Forest w′ p n
   pub held : (links : List Edge) → Held links w p n → Held (more links) w′ p n
-  pub rest : (i : ℕ) → Out i p n → getD w′ i 0 ≡ getD w i 0
+  pub rest : Framed p (p + n) w w′
 
 -- ---- the nodes: 0 for what is touched, then one for each group, then one for each meta-peptide
 abbrev pub nodes : ℕ → ℕ → ℕ

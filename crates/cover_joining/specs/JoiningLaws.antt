@@ -10,13 +10,13 @@ use lib.ListN.{length, getD, set, length-set}
 use lib.Seq.{getD-set-same, getD-set-other}
 use lib.Dec.{eqb}
 use borrow.Author.Tests.{eq-eqb, ne-eqb}
-use Rattle.cover_joining.specs.Joining.{Forest, Reps, Held, Found, Joined, edgeLinks}
-use Rattle.lists.specs.Tests.{same?, below?}
+use Rattle.cover_joining.specs.Joining.{Forest, Reps, Held, LowestFound, Joined, edgeLinks}
+use Rattle.lists.specs.Tests.{same?}
 use Rattle.lists.specs.Lists.{All}
+use Rattle.lists.specs.FrameLaws.{Framed, framed-none, framed-then, framed-set}
 use Rattle.lists.specs.KeepLaws.{all-map}
 use Rattle.records.specs.Le.{numberAt}
 use Rattle.cover_spec.specs.Cover.{Edge}
-use Rattle.cover_edges.specs.Chains.{Out}
 
 -- ---- parts of one node each
 module _ (w : List ℕ) (p n : ℕ) (own : (x : ℕ) → x < n → getD w (p + x) 0 ≡ x) where
@@ -25,16 +25,6 @@ module _ (w : List ℕ) (p n : ℕ) (own : (x : ℕ) → x < n → getD w (p + x
 
   pub alone-held : Held [] w p n
   alone-held = record { rep = λ x. x; reps = record { along = own; top = λ x l e. refl }; joins = tt; only = λ f h x l. refl }
-
-pub less-than : (j i : ℕ) → j < i + 1 → (j ≡ i → ⊥) → j < i
-less-than j i m q = ⊎-elim (λ (y : j < i). y) (λ (y : i ≤ j). absurd (q (omega arith))) (below? j i)
-
-pub apart : (i a k j : ℕ) → j < k → Out i a k → i ≡ a + j → ⊥
-apart i a k j l o e = ⊎-elim (λ (y : i < a). omega arith) (λ (y : a + k ≤ i). omega arith) o
-
-pub own-more : (w : List ℕ) (p n x : ℕ) → p + n ≤ length w → x < n → ((y : ℕ) → y < x → getD w (p + y) 0 ≡ y) → (y : ℕ) → y < x + 1 → getD (set w (p + x) x) (p + y) 0 ≡ y
-own-more w p n x r l h y m =
-    ⊎-elim (λ (e : y ≡ x). rw e (getD-set-same w (p + x) x 0 (omega arith))) (λ (u : y ≡ x → ⊥). getD-set-other w (p + x) (p + y) x 0 (λ z. u (omega arith)) ∙ h y (less-than y x m u)) (same? y x)
 
 -- ---- a table that agrees in its places
 module _ (w w′ : List ℕ) (p n : ℕ) (same : (x : ℕ) → x < n → getD w′ (p + x) 0 ≡ getD w (p + x) 0) where
@@ -61,8 +51,8 @@ module _ (w : List ℕ) (p n y v : ℕ) (f : Forest w p n) (l : y < n) (d : v �
     down = λ x m. ⊎-elim (λ (e : x ≡ y). rw e (omega (arith, at-y))) (λ (u : x ≡ y → ⊥). omega (arith, at-other x u, f .down x m)) (same? x y);
   }
 
-  pub set-rest : (i : ℕ) → Out i p n → getD (set w (p + y) v) i 0 ≡ getD w i 0
-  set-rest i o = getD-set-other w (p + y) i v 0 (apart i p n y l o)
+  pub set-rest : Framed p (p + n) w (set w (p + y) v)
+  set-rest = framed-set p (p + n) (p + y) v w (omega arith) (omega arith)
 
   -- a node of the same part, below y
   pub set-reps : (rep : ℕ → ℕ) → rep v ≡ rep y → v < y → Reps rep w p n → Reps rep (set w (p + y) v) p n
@@ -76,7 +66,7 @@ module _ (w : List ℕ) (p n y v : ℕ) (f : Forest w p n) (l : y < n) (d : v �
 
   -- the lowest node of another part, or y: the part of y goes there
   module _ (rep : ℕ → ℕ) (ty : rep y ≡ y) (tv : rep v ≡ v) where
-    abbrev pub moved : ℕ → ℕ
+    abbrev moved : ℕ → ℕ
     moved x = cond (eqb (rep x) y) v (rep x)
 
     moved-at : (x : ℕ) → rep x ≡ y → moved x ≡ v
@@ -125,10 +115,10 @@ pub record Finding (w₀ w : List ℕ) (p n x y up : ℕ) : Type 0 where
   pub inside : y < n
   pub names : up ≡ getD w (p + y) 0
   pub reps : (rep : ℕ → ℕ) → Reps rep w₀ p n → Reps rep w p n × (rep y ≡ rep x)
-  pub rest : (i : ℕ) → Out i p n → getD w i 0 ≡ getD w₀ i 0
+  pub rest : Framed p (p + n) w₀ w
 
 pub finding-start : (w : List ℕ) (p n x up : ℕ) → Forest w p n → x < n → up ≡ getD w (p + x) 0 → Finding w w p n x x up
-finding-start w p n x up f l e = record { forest = f; inside = l; names = e; reps = λ rep r. (r, refl); rest = λ i o. refl }
+finding-start w p n x up f l e = record { forest = f; inside = l; names = e; reps = λ rep r. (r, refl); rest = framed-none p (p + n) w }
 
 module _ (w₀ w : List ℕ) (p n x y up next : ℕ) (k : Finding w₀ w p n x y up) (b : up < y) (e : next ≡ getD w (p + up) 0) where
   pub finding-less : next < y
@@ -143,10 +133,10 @@ module _ (w₀ w : List ℕ) (p n x y up next : ℕ) (k : Finding w₀ w p n x y
         let (q, s) = k .reps rep r in
         let t : rep next ≡ rep y = ap rep e ∙ q .along up (omega (arith, k .inside)) ∙ ap rep (k .names) ∙ q .along y (k .inside) in
         (set-reps w p n y next (k .forest) (k .inside) (omega (arith, finding-less)) rep t finding-less q, t ∙ s);
-    rest = λ i o. set-rest w p n y next (k .forest) (k .inside) (omega (arith, finding-less)) i o ∙ k .rest i o;
+    rest = framed-then p (p + n) w₀ w (set w (p + y) next) (k .rest) (set-rest w p n y next (k .forest) (k .inside) (omega (arith, finding-less)));
   }
 
-pub finding-end : (w₀ w : List ℕ) (p n x y up : ℕ) → Finding w₀ w p n x y up → y ≤ up → Found w₀ w p n x y
+pub finding-end : (w₀ w : List ℕ) (p n x y up : ℕ) → Finding w₀ w p n x y up → y ≤ up → LowestFound w₀ w p n x y
 finding-end w₀ w p n x y up k b =
     let t : getD w (p + y) 0 ≡ y = omega (arith, k .names, k .forest .down y (k .inside)) in
     record {
@@ -157,7 +147,7 @@ finding-end w₀ w p n x y up k b =
     }
 
 -- ---- two ways, and the lower of the lowest nodes named by the other
-module _ (w w₁ w₂ : List ℕ) (p n x y a b : ℕ) (lx : x < n) (ly : y < n) (fa : Found w w₁ p n x a) (fb : Found w₁ w₂ p n y b) where
+module _ (w w₁ w₂ : List ℕ) (p n x y a b : ℕ) (lx : x < n) (ly : y < n) (fa : LowestFound w w₁ p n x a) (fb : LowestFound w₁ w₂ p n y b) where
   pub joined-left : a < b → Joined (λ links. (x, y) ∷ links) w (set w₂ (p + b) a) p n
   joined-left l = record {
     forest = set-forest w₂ p n b a (fb .forest) (fb .inside) (omega arith);
@@ -187,7 +177,7 @@ module _ (w w₁ w₂ : List ℕ) (p n x y a b : ℕ) (lx : x < n) (ly : y < n) 
       same-moved rep s s′ = rw (← s, ← s′, eq-eqb a a refl) (⊎-elim (λ (e : b ≡ a). rw (eq-eqb b a e)) (λ (u : b ≡ a → ⊥). rw (ne-eqb b a u)) (same? b a))
 
 pub joined-none : (w : List ℕ) (p n : ℕ) → Forest w p n → Joined (λ links. links) w w p n
-joined-none w p n f = record { forest = f; held = λ links h. h; rest = λ i o. refl }
+joined-none w p n f = record { forest = f; held = λ links h. h; rest = framed-none p (p + n) w }
 
 pub joined-then : {f g : List Edge → List Edge} {u v w : List ℕ} {p n : ℕ} → Joined f u v p n → Joined g v w p n → Joined (λ links. g (f links)) u w p n
 joined-then {f} a b = record { forest = b .forest; held = λ links h. b .held (f links) (a .held links h); rest = λ i o. b .rest i o ∙ a .rest i o }

@@ -1,19 +1,17 @@
 // Nodes joined into parts, each by one number from place p of the work memory on: a node that is not above it. The lowest node of a
 // part names itself.
 use records::u32_at;
-ghost use mathlib.Core.Path.{_≡_};
 ghost use mathlib.Core.List.{_∷_};
-ghost use Prim.Native.Nat.{ℕ, _+_, _≤_, _<_};
-ghost use lib.ListN.{length, getD};
-ghost use Rattle.cover_joining.specs.Joining.{Forest, Found, Joined, nodes, edgeLinks};
-ghost use Rattle.cover_edges.specs.Chains.{Out};
+ghost use Prim.Native.Nat.{_+_, _≤_, _<_};
+ghost use lib.ListN.{length};
+ghost use Rattle.cover_joining.specs.Joining.{Forest, LowestFound, Joined, nodes, edgeLinks};
+ghost use Rattle.cover_edges.specs.PutLaws.{Puts};
 ghost use Rattle.cover_edges.specs.RangeLaws.{InRange};
 
 // Each of n nodes is a part of its own.
 pub fn each_alone(w: &mut [u32], p: usize, n: usize)
     requires { ⌜ (p + n ≤ length (now w)) × (n ≤ 4294967295) ⌝ }
-    ensures { λ _. ⌜ ((x : ℕ) → x < n → getD (now (w .exit)) (p + x) 0 ≡ x) ⌝ }
-    ensures { λ _. ⌜ ((i : ℕ) → Out i p n → getD (now (w .exit)) i 0 ≡ getD (now (w .entry)) i 0) ⌝ }
+    ensures { λ _. ⌜ Puts (λ x. x) p (p + n) (now (w .entry)) (now (w .exit)) ⌝ }
 {
     let mut x = 0;
     while x < n {
@@ -27,7 +25,7 @@ pub fn each_alone(w: &mut [u32], p: usize, n: usize)
 pub fn lowest(w: &mut [u32], p: usize, n: usize, x: usize) -> usize
     requires { ⌜ Forest (now w) p n ⌝ }
     requires { ⌜ x < n ⌝ }
-    ensures { λ r. ⌜ Found (now (w .entry)) (now (w .exit)) p n x r ⌝ }
+    ensures { λ r. ⌜ LowestFound (now (w .entry)) (now (w .exit)) p n x r ⌝ }
 {
     let mut y = x;
     let mut up = w[p + y] as usize;

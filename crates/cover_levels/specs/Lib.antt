@@ -1,2 +1,3 @@
--- Nothing here has to be believed: PrepareLaws says how the tables are made.
+-- Nothing here has to be believed: KeyedLaws says what a sort by keys gives, PrepareLaws how the tables are made.
+pub mod KeyedLaws
 pub mod PrepareLaws

@@ -1,23 +1,9 @@
 // Stretches of the slice set to numbers.
-use cover_index::narrow;
 use records::u32_at;
-ghost use Prim.Native.Nat.{_+_, _*_, _≤_};
+ghost use Prim.Native.Nat.{_+_, _-_, _*_, _≤_};
 ghost use lib.ListN.{length};
 ghost use Rattle.records.specs.Le.{numberAt};
-ghost use Rattle.cover_levels.specs.PrepareLaws.{Puts};
-
-// w[a..e] becomes zero.
-pub(crate) fn clear_part(w: &mut [u32], a: usize, e: usize)
-    requires { ⌜ (a ≤ e) × (e ≤ length (now w)) ⌝ }
-    ensures { λ r. ⌜ Puts (λ i. 0) a e (now (w .entry)) (now (w .exit)) ⌝ }
-{
-    let len = e - a;
-    let mut i = 0;
-    while i < len {
-        w[a + i] = 0;
-        i += 1;
-    }
-}
+ghost use Rattle.cover_edges.specs.PutLaws.{Puts};
 
 // The numbers at byte f of n records go to w from place a on.
 pub(crate) fn copy_field(edges: &[u8], n: usize, f: usize, w: &mut [u32], a: usize)
@@ -32,14 +18,14 @@ pub(crate) fn copy_field(edges: &[u8], n: usize, f: usize, w: &mut [u32], a: usi
     }
 }
 
-// The numbers 0, 1, .. go to w from place a on.
+// The numbers n - 1, .., 0 go to w from place a on.
 pub(crate) fn numbers(w: &mut [u32], a: usize, n: usize)
     requires { ⌜ (a + n ≤ length (now w)) × (n ≤ 4294967295) ⌝ }
-    ensures { λ r. ⌜ Puts (λ i. i) a (a + n) (now (w .entry)) (now (w .exit)) ⌝ }
+    ensures { λ r. ⌜ Puts (λ i. n - 1 - i) a (a + n) (now (w .entry)) (now (w .exit)) ⌝ }
 {
     let mut i = 0;
     while i < n {
-        let v = narrow(i);
+        let v = (n - 1 - i) as u32;
         w[a + i] = v;
         i += 1;
     }

@@ -1,17 +1,19 @@
 // The lists of the groups and of the meta-peptides.
-use crate::filling::clear_part;
 use crate::filling::copy_field;
-use cover_index::index;
 use cover_tables::Areas;
+use records::clear;
+use sorting_counting::Places;
+use sorting_counting::sort_by_keys;
 ghost use Rattle.cover_edges.specs.RangeLaws.{InRange};
-ghost use Rattle.cover_levels.specs.PrepareLaws.{Layout, Listed, Gathered};
+ghost use Rattle.cover_levels.specs.PrepareLaws.{Layout, EdgesIn, ListsMade};
 
 // The edges into w, and zero where the lists go.
 fn gather(edges: &[u8], n: usize, w: &mut [u32], areas: Areas)
-    requires { ⌜ Layout areas n (now w) × InRange (now edges) n (areas .groups) (areas .metas) ⌝ }
-    ensures { λ _. ⌜ Gathered areas (now (edges .entry)) n (now (w .exit)) ⌝ }
+    requires { ⌜ Layout areas n (now w) ⌝ }
+    ensures { λ _. ⌜ EdgesIn areas (now (edges .entry)) n (now (w .exit)) ⌝ }
 {
-    clear_part(w, 0, areas.od + areas.groups);
+    let end = areas.od + areas.groups;
+    clear(&mut w[0..end]);
     copy_field(edges, n, 0, w, areas.ge);
     copy_field(edges, n, 4, w, areas.ge + n);
 }
@@ -19,25 +21,27 @@ fn gather(edges: &[u8], n: usize, w: &mut [u32], areas: Areas)
 // The lists of the groups and of the meta-peptides.
 pub(crate) fn lists(edges: &[u8], n: usize, w: &mut [u32], areas: Areas)
     requires { ⌜ Layout areas n (now w) × InRange (now edges) n (areas .groups) (areas .metas) ⌝ }
-    ensures { λ _. ⌜ Listed areas (now (edges .entry)) n (now (w .exit)) ⌝ }
+    ensures { λ _. ⌜ ListsMade areas (now (edges .entry)) n (now (w .exit)) ⌝ }
 {
+    let by_group = Places {
+        keys: areas.ge,
+        values: areas.ge + n,
+        count: n,
+        bounds: areas.go,
+        kinds: areas.groups,
+        sorted: areas.gm,
+    };
+    let by_meta = Places {
+        keys: areas.ge + n,
+        values: areas.ge,
+        count: n,
+        bounds: areas.mo,
+        kinds: areas.metas,
+        sorted: areas.mg,
+    };
+    let group_base = areas.gm as u32;
+    let meta_base = areas.mg as u32;
     gather(edges, n, w, areas);
-    index(
-        w,
-        areas.ge,
-        areas.ge + n,
-        n,
-        areas.go,
-        areas.groups,
-        areas.gm,
-    );
-    index(
-        w,
-        areas.ge + n,
-        areas.ge,
-        n,
-        areas.mo,
-        areas.metas,
-        areas.mg,
-    );
+    sort_by_keys(w, by_group, group_base);
+    sort_by_keys(w, by_meta, meta_base);
 }

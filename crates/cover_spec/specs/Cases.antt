@@ -3,7 +3,7 @@ use Prim.Native.Nat.{ℕ}
 use mathlib.Core.Path.{refl}
 use mathlib.Core.List.{List, [], _∷_}
 use Rattle.records.specs.Cases.{Case, Hold}
-use Rattle.cover_spec.specs.Cover.{Edge, markForced, coverMarked, stays, pass, passes, greatest, mark, choose, turn, turns, cover, listed, coverList}
+use Rattle.cover_spec.specs.Cover.{Edge, markForced, coverMarked, stays, pass, trimPasses, greatest, mark, choose, turn, turns, cover, listed, coverList}
 use Rattle.cover_spec.specs.Update.{reached, touched, update, updateList}
 
 covering : ℕ → List Edge → List ℕ → Case
@@ -38,5 +38,5 @@ table =
     ∷ []
 
 pub cases : Hold table
-unfolding markForced coverMarked stays pass passes greatest mark choose turn turns cover listed coverList reached touched update updateList covering updating before after table
+unfolding markForced coverMarked stays pass trimPasses greatest mark choose turn turns cover listed coverList reached touched update updateList covering updating before after table
 cases = refl

@@ -89,11 +89,11 @@ module _ (d o : ℕ → ℕ) where
       go false i true j r k = rw (eqb-true g n j) (lex-no d o (greatest d o n) n i)
       go false i false j r k = r (omega (arith, eqb-false g n j))
 
-abbrev pub Under : ℕ → List Edge → Type 0
-Under n l = All (λ e. group e < n) l
+abbrev pub GroupsUnder : ℕ → List Edge → Type 0
+GroupsUnder n l = All (λ e. group e < n) l
 
 -- where an edge remains, the choice has one
-pub choice-has : (all l : List Edge) (n : ℕ) → Under n l → 0 < length l → 0 < ofGroup (choice all l n) l
+pub choice-has : (all l : List Edge) (n : ℕ) → GroupsUnder n l → 0 < length l → 0 < ofGroup (choice all l n) l
 choice-has all [] n u h = absurd (omega arith)
 choice-has all (e ∷ l) n u h =
     omega (arith, has, greatest-max (λ g. ofGroup g (e ∷ l)) (λ g. ofGroup g all) n (group e) (u .0) .0)

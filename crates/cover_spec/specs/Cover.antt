@@ -49,15 +49,15 @@ unfoldable pub pass : State → State
 pass s = record { edges = keep (stays s) (s .edges); marked = markForced s; covered = coverMarked s }
 
 -- "Passes repeat until one removes nothing." At most as many remove something as there are edges.
-unfoldable pub passes : ℕ → State → State
-passes zero s = s
-passes (suc k) s =
+unfoldable pub trimPasses : ℕ → State → State
+trimPasses zero s = s
+trimPasses (suc k) s =
     let t : State = pass s in
-    let rest : State = passes k t in
+    let rest : State = trimPasses k t in
     cond (eqb (length (t .edges)) (length (s .edges))) t rest
 
 abbrev pub trim : State → State
-trim s = passes (length (s .edges)) s
+trim s = trimPasses (length (s .edges)) s
 
 -- "Choose marks the group with the greatest (remaining edges, original edges), at equality the highest number." The group a has
 -- less than b, or as much:

@@ -7,14 +7,14 @@ use lib.ListN.{length}
 use mathlib.Core.Path.{_≡_, refl, sym, ap, _∙_, subst}
 use mathlib.Core.Logic.{_⊎_, inl, inr}
 use native.Mathlib.Omega.{arith}
-use borrow.Author.Tests.{eqb-true, eqb-false, ltb-true, eq-eqb, lt-ltb}
-use Rattle.lists.specs.Tests.{both, neither, not-is, or-left, or-right}
+use borrow.Author.Tests.{eqb-true, eqb-false, ltb-true, eq-eqb, lt-ltb, not-true}
+use Rattle.lists.specs.Tests.{both, neither, or-left, or-right}
 use Rattle.lists.specs.Lists.{count, some, keep, All}
 use Rattle.lists.specs.KeepLaws.{all-map, count-ext, count-keep, count-le, count-mono, some-mono, all-kept, some-none}
 use Rattle.cover_spec.specs.Cover.{Edge, group, meta, ofMeta, State, forced, markForced, coverMarked, stays, pass, trim, choice, mark, choose, turn, turns, start, cover, sameEdge}
 use Rattle.cover_spec.specs.CountLaws.{all-at, find, same-edge}
 use Rattle.cover_spec.specs.TrimLaws.{iter, passes-iter, trim-settled, trim-le}
-use Rattle.cover_spec.specs.ChoiceLaws.{Under, choice-has}
+use Rattle.cover_spec.specs.ChoiceLaws.{GroupsUnder, choice-has}
 use Rattle.cover_spec.specs.TurnLaws.{under-pass, turn-empty, turn-choose, turns-iter, turns-end}
 
 -- the states of a run
@@ -52,12 +52,12 @@ module _ (n : ℕ) (all : List Edge) where
       go zero t w = w
       go (suc k) t w = go k (turn all n t) (visited-turn t w)
 
-  final-empty : Under n all → length (final .edges) ≡ 0
+  final-empty : GroupsUnder n all → length (final .edges) ≡ 0
   final-empty u = rw (turns-iter all n (suc (length all)) (start all)) (turns-end all n (length all) (start all) u (trim-le (start all)))
 
   -- ---- what holds of every state of a run
 
-  pub record Sound (s : State) : Type 0 where
+  pub record SoundRun (s : State) : Type 0 where
     pub fewer : (p : Edge → Bool) → count p (s .edges) ≤ count p all
     pub owned : (m : ℕ) → s .covered m ≡ true → some (λ e. eqb (meta e) m && s .marked (group e)) all ≡ true
     pub whole : (m : ℕ) → s .covered m ≡ false → ofMeta m (s .edges) ≡ ofMeta m all
@@ -67,7 +67,7 @@ module _ (n : ℕ) (all : List Edge) where
   and-mono true b c h i = h i
   and-mono false b c h i = i
 
-  sound-pass : (s : State) → Sound s → Sound (pass s)
+  sound-pass : (s : State) → SoundRun s → SoundRun (pass s)
   unfolding pass markForced coverMarked stays
   sound-pass s h = record {
     fewer = λ p. omega (arith, count-keep p (stays s) (s .edges), count-mono (λ e. stays s e && p e) p (λ e i. both (stays s e) (p e) i .1) (s .edges), h .fewer p);
@@ -100,9 +100,9 @@ module _ (n : ℕ) (all : List Edge) where
           ∙ h .whole m (u .0)
 
       fresh-one : (e : Edge) → stays s e ≡ true → coverMarked s (meta e) ≡ false
-      fresh-one e i = not-is (coverMarked s (meta e)) (both (not (markForced s (group e))) (not (coverMarked s (meta e))) i .1)
+      fresh-one e i = not-true (coverMarked s (meta e)) (both (not (markForced s (group e))) (not (coverMarked s (meta e))) i .1)
 
-  sound-mark : (s : State) (g : ℕ) → Sound s → Sound (mark g s)
+  sound-mark : (s : State) (g : ℕ) → SoundRun s → SoundRun (mark g s)
   unfolding mark
   sound-mark s g h = record {
     fewer = h .fewer;
@@ -113,23 +113,23 @@ module _ (n : ℕ) (all : List Edge) where
     fresh = h .fresh;
   }
 
-  pub sound : {s : State} → Visited s → Sound s
+  pub sound-run : {s : State} → Visited s → SoundRun s
   unfolding choose
-  sound begin = record { fewer = λ p. omega arith; owned = λ m i. absurd (false≢true i); whole = λ m i. refl; fresh = go all }
+  sound-run begin = record { fewer = λ p. omega arith; owned = λ m i. absurd (false≢true i); whole = λ m i. refl; fresh = go all }
     where
       go : (l : List Edge) → All (λ e. false ≡ false) l
       go [] = tt
       go (e ∷ l) = (refl, go l)
-  sound (passed {s = s} v) = sound-pass s (sound v)
-  sound (chosen {s = s} v e z) = sound-mark s (choice all (s .edges) n) (sound v)
+  sound-run (passed {s = s} v) = sound-pass s (sound-run v)
+  sound-run (chosen {s = s} v e z) = sound-mark s (choice all (s .edges) n) (sound-run v)
 
   -- each meta-peptide with an edge has a marked neighbour
-  pub neighbour : Under n all → (m : ℕ) → 0 < ofMeta m all → some (λ e. eqb (meta e) m && cover n all (group e)) all ≡ true
+  pub neighbour : GroupsUnder n all → (m : ℕ) → 0 < ofMeta m all → some (λ e. eqb (meta e) m && cover n all (group e)) all ≡ true
   unfolding cover
   neighbour u m h = go (final .covered m) refl
     where
-      f : Sound final
-      f = sound visited-final
+      f : SoundRun final
+      f = sound-run visited-final
 
       go : (b : Bool) → final .covered m ≡ b → some (λ e. eqb (meta e) m && final .marked (group e)) all ≡ true
       go true i = f .owned m i
@@ -159,14 +159,14 @@ module _ (n : ℕ) (all : List Edge) where
           let q = same-edge (g, m) e j in
           subst (λ (d : Edge). (eqb (meta d) m && markForced s (group d)) ≡ true) q (rw (eq-eqb m m refl, i))
 
-  visited-under : Under n all → {s : State} → Visited s → Under n (s .edges)
+  visited-under : GroupsUnder n all → {s : State} → Visited s → GroupsUnder n (s .edges)
   unfolding choose mark
   visited-under u begin = u
   visited-under u (passed {s = s} v) = under-pass n s (visited-under u v)
   visited-under u (chosen {s = s} v e z) = visited-under u v
 
   -- each marked group, when marked, newly covered one
-  pub marking : Under n all → {s : State} → Visited s → (g : ℕ) → s .marked g ≡ true → Marking g
+  pub marking : GroupsUnder n all → {s : State} → Visited s → (g : ℕ) → s .marked g ≡ true → Marking g
   unfolding pass choose mark markForced
   marking u begin g i = absurd (false≢true i)
   marking u (passed {s = s} v) g i = go (s .marked g) refl (λ j. marking u v g j)
@@ -184,7 +184,7 @@ module _ (n : ℕ) (all : List Edge) where
             unmarked = j;
             target = meta e;
             remains = x;
-            uncovered = all-at (λ d. s .covered (meta d) ≡ false) e (s .edges) (sound v .fresh) z;
+            uncovered = all-at (λ d. s .covered (meta d) ≡ false) e (s .edges) (sound-run v .fresh) z;
             newly = inl (i, covers s g (meta e) x i);
           }
   marking u (chosen {s = s} v e z) g i = go (s .marked g) refl (λ j. marking u v g j)
@@ -202,10 +202,10 @@ module _ (n : ℕ) (all : List Edge) where
             unmarked = j;
             target = meta d;
             remains = x;
-            uncovered = all-at (λ f. s .covered (meta f) ≡ false) d (s .edges) (sound v .fresh) y;
+            uncovered = all-at (λ f. s .covered (meta f) ≡ false) d (s .edges) (sound-run v .fresh) y;
             newly = inr (e, q, covers (choose all n s) g (meta d) x (or-left (choose all n s .marked g) (forced (s .edges) g) i));
           }
 
-  pub cover-marking : Under n all → (g : ℕ) → cover n all g ≡ true → Marking g
+  pub cover-marking : GroupsUnder n all → (g : ℕ) → cover n all g ≡ true → Marking g
   unfolding cover
   cover-marking u g i = marking u visited-final g i

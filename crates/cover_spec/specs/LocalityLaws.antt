@@ -8,12 +8,12 @@ use mathlib.Core.Path.{_≡_, refl, sym, ap, _∙_, subst}
 use native.Mathlib.Omega.{arith}
 use borrow.Author.Tests.{eqb-true, eqb-false}
 use Rattle.lists.specs.Lists.{count, All}
-use Rattle.lists.specs.Tests.{within}
+use Rattle.lists.specs.Tests.{and-within}
 use Rattle.lists.specs.KeepLaws.{count-ext, length-count, count-le, count-none}
 use Rattle.cover_spec.specs.Cover.{Edge, group, ofGroup, State, pass, trim, choice, mark, choose, turn, start, cover}
 use Rattle.cover_spec.specs.PartLaws.{Closed, Part, part-pass}
 use Rattle.cover_spec.specs.TrimLaws.{iter, trim-iter, trim-le}
-use Rattle.cover_spec.specs.ChoiceLaws.{Lex, lex-anti, lex-cast, greatest-lt, greatest-max, Under, choice-has}
+use Rattle.cover_spec.specs.ChoiceLaws.{Lex, lex-anti, lex-cast, greatest-lt, greatest-max, GroupsUnder, choice-has}
 use Rattle.cover_spec.specs.TurnLaws.{under-trim, turn-empty, turn-choose, turn-trim, turns-iter, under-turn, turns-end, same-end}
 
 abbrev remaining : List Edge → ℕ → ℕ
@@ -33,12 +33,12 @@ module _ (sg sm : ℕ → Bool) where
       go zero u v p = p
       go (suc k) u v p = go k (pass u) (pass v) (part-pass sg sm u v p)
 
-  pub inner : (S T : List Edge) → ((p : Edge → Bool) → count (λ e. sg (group e) && p e) S ≡ count p T) → (g : ℕ) → sg g ≡ true → ofGroup g S ≡ ofGroup g T
+  inner : (S T : List Edge) → ((p : Edge → Bool) → count (λ e. sg (group e) && p e) S ≡ count p T) → (g : ℕ) → sg g ≡ true → ofGroup g S ≡ ofGroup g T
   inner S T h g i = count-ext (λ e. eqb (group e) g) (λ e. sg (group e) && eqb (group e) g) S (each S) ∙ h (λ e. eqb (group e) g)
     where
       each : (l : List Edge) → All (λ e. eqb (group e) g ≡ (sg (group e) && eqb (group e) g)) l
       each [] = tt
-      each (e ∷ l) = (within (sg (group e)) (eqb (group e) g) (λ q. ap sg (eqb-true (group e) g q) ∙ i), each l)
+      each (e ∷ l) = (and-within (sg (group e)) (eqb (group e) g) (λ q. ap sg (eqb-true (group e) g q) ∙ i), each l)
 
   -- a group outside holds no edge of the inner list
   outer : (S T : List Edge) → ((p : Edge → Bool) → count (λ e. sg (group e) && p e) S ≡ count p T) → (g : ℕ) → sg g ≡ false → ofGroup g T ≡ 0
@@ -54,7 +54,7 @@ module _ (sg sm : ℕ → Bool) where
 
   module _ (n : ℕ) (S T : List Edge) (split : (p : Edge → Bool) → count (λ e. sg (group e) && p e) S ≡ count p T) where
     -- a choice inside is the choice of the inner run
-    same-choice : (s t : State) → Part sg sm s t → Under n (s .edges) → 0 < length (s .edges) → sg (choice S (s .edges) n) ≡ true
+    same-choice : (s t : State) → Part sg sm s t → GroupsUnder n (s .edges) → 0 < length (s .edges) → sg (choice S (s .edges) n) ≡ true
         → choice T (t .edges) n ≡ choice S (s .edges) n
     same-choice s t h u z i = go (sg c′) refl
       where
@@ -64,7 +64,7 @@ module _ (sg sm : ℕ → Bool) where
         c′ : ℕ
         c′ = choice T (t .edges) n
 
-        few : (m : ℕ) (l : List Edge) → Under m l → 0 < length l → 0 < m
+        few : (m : ℕ) (l : List Edge) → GroupsUnder m l → 0 < length l → 0 < m
         few m [] v y = absurd (omega arith)
         few m (e ∷ l) v y = omega (arith, v .0)
 
@@ -112,7 +112,7 @@ module _ (sg sm : ℕ → Bool) where
         let q : iter (turn T n) j (turn T n (trim t)) ≡ iter (turn T n) j (turn T n t) = ap (iter (turn T n) j) (turn-trim T n t) in
         (suc j, subst (λ (x : State). length (x .edges) ≡ 0) q z, λ g i. e g i ∙ ap (λ (x : State). x .marked g) q)
 
-    ends : (k : ℕ) (s t : State) → Part sg sm s t → Under n (s .edges) → length (iter (turn S n) k s .edges) ≡ 0 → Ends t (iter (turn S n) k s .marked)
+    ends : (k : ℕ) (s t : State) → Part sg sm s t → GroupsUnder n (s .edges) → length (iter (turn S n) k s .edges) ≡ 0 → Ends t (iter (turn S n) k s .marked)
     unfolding iter choose
     ends zero s t h u z = (0, omega (arith, part-length s t h), h .marks)
     ends (suc k) s t h u z = go (eqb (length (trim s .edges)) 0) refl (λ v p. ends k (turn S n s) v p (under-turn S n s u) z)
@@ -140,7 +140,7 @@ module _ (sg sm : ℕ → Bool) where
             side y false j = ends-trim t _ (r (trim t) (rw (turn-choose S n s y) (part-mark-outside (trim s) (trim t) p (choice S (trim s .edges) n) j)))
 
     -- LOCALITY: where no edge of S leaves the set and T holds the edges of S inside it, in whatever order, the two covers agree inside it
-    pub cover-local : Closed sg sm S → Under n S → Under n T → (g : ℕ) → sg g ≡ true → cover n S g ≡ cover n T g
+    pub cover-local : Closed sg sm S → GroupsUnder n S → GroupsUnder n T → (g : ℕ) → sg g ≡ true → cover n S g ≡ cover n T g
     unfolding cover
     cover-local c u v g i =
         let h : Part sg sm (start S) (start T) = record { closed = c; edges = split; marks = λ k j. refl; covers = λ k j. refl } in

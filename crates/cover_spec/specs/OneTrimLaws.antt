@@ -6,13 +6,13 @@ use lib.Dec.{eqb}
 use lib.ListN.{length}
 use mathlib.Core.Path.{_≡_, refl, sym, ap, _∙_, subst}
 use native.Mathlib.Omega.{arith}
-use borrow.Author.Tests.{eq-eqb, lt-ltb}
-use Rattle.lists.specs.Tests.{both, neither, not-is, or-right}
+use borrow.Author.Tests.{eq-eqb, lt-ltb, not-true}
+use Rattle.lists.specs.Tests.{both, neither, or-right}
 use Rattle.lists.specs.Lists.{count, some, keep, All}
 use Rattle.lists.specs.KeepLaws.{all-map, all-keep, count-ext, count-keep, length-count, length-keep, keep-same, none, all-has, all-kept, all-two, keep-keep, keep-ext}
 use Rattle.cover_spec.specs.Cover.{Edge, group, meta, ofMeta, State, forced, markForced, coverMarked, stays, pass, trim, mark, choose}
 use Rattle.cover_spec.specs.TrimLaws.{iter, iter-fix, pass-still, trim-iter}
-use Rattle.cover_spec.specs.CoverLaws.{Visited, sound, begin, passed, chosen}
+use Rattle.cover_spec.specs.CoverLaws.{Visited, sound-run, begin, passed, chosen}
 
 -- ---- the remaining edges are those of the uncovered meta-peptides
 
@@ -59,13 +59,13 @@ module _ (n : ℕ) (all : List Edge) (s : State) (v : Visited n all s) where
   unfolding stays
   free e i =
       let u = both (not (markForced s (group e))) (not (coverMarked s (meta e))) i in
-      (not-is (markForced s (group e)) (u .0), not-is (coverMarked s (meta e)) (u .1))
+      (not-true (markForced s (group e)) (u .0), not-true (coverMarked s (meta e)) (u .1))
 
   same-degree : (m : ℕ) → coverMarked s m ≡ false → ofMeta m left ≡ ofMeta m (s .edges)
   unfolding coverMarked pass
   same-degree m i =
-      sound n all (passed v) .whole m i
-      ∙ sym (sound n all v .whole m (neither (s .covered m) (some (λ e. eqb (meta e) m && markForced s (group e)) (s .edges)) i .0))
+      sound-run n all (passed v) .whole m i
+      ∙ sym (sound-run n all v .whole m (neither (s .covered m) (some (λ e. eqb (meta e) m && markForced s (group e)) (s .edges)) i .0))
 
   -- no edge that stays is the only one of its meta-peptide
   many : (e : Edge) → ((p : Edge → Bool) → p e ≡ true → 0 < count p (s .edges)) → stays s e ≡ true → eqb (ofMeta (meta e) left) 1 ≡ false

@@ -6,7 +6,7 @@ use lib.Dec.{ltb, eqb}
 use mathlib.Core.Path.{_≡_, sym, ap, _∙_}
 use borrow.Author.Tests.{eqb-true}
 use Rattle.lists.specs.Lists.{count, All}
-use Rattle.lists.specs.Tests.{within, guard, inside}
+use Rattle.lists.specs.Tests.{and-within, guard, inside}
 use Rattle.lists.specs.KeepLaws.{all-map, all-keep, count-ext, count-keep}
 use Rattle.cover_spec.specs.Cover.{Edge, group, meta, ofMeta, State, forced, markForced, coverMarked, stays, pass}
 
@@ -26,7 +26,7 @@ module _ (sg sm : ℕ → Bool) where
     pub part-ofMeta : (m : ℕ) → sm m ≡ true → ofMeta m (s .edges) ≡ ofMeta m (t .edges)
     part-ofMeta m i =
         count-ext (λ e. eqb (meta e) m) (λ e. sg (group e) && eqb (meta e) m) (s .edges)
-        (all-map (λ e c. within (sg (group e)) (eqb (meta e) m) (λ q. c ∙ ap sm (eqb-true _ _ q) ∙ i)) (s .edges) (h .closed))
+        (all-map (λ e c. and-within (sg (group e)) (eqb (meta e) m) (λ q. c ∙ ap sm (eqb-true _ _ q) ∙ i)) (s .edges) (h .closed))
         ∙ h .edges (λ e. eqb (meta e) m)
 
     part-forced : (g : ℕ) → sg g ≡ true → forced (s .edges) g ≡ forced (t .edges) g

@@ -6,8 +6,8 @@ use lib.Dec.{ltb, eqb}
 use lib.ListN.{length}
 use mathlib.Core.Path.{_≡_, refl, ap, _∙_, fun-ext}
 use native.Mathlib.Omega.{arith}
-use borrow.Author.Tests.{eqb-true, eqb-false, eq-eqb, lt-ltb}
-use Rattle.lists.specs.Tests.{both, neither, not-is}
+use borrow.Author.Tests.{eqb-true, eqb-false, eq-eqb, lt-ltb, not-true}
+use Rattle.lists.specs.Tests.{both, neither}
 use Rattle.lists.specs.Lists.{count, some, keep, All}
 use Rattle.lists.specs.KeepLaws.{all-map, count-ext, keep-all, all-has, all-two, keep-ext, every}
 use Rattle.cover_spec.specs.Cover.{Edge, group, meta, State, forced, markForced, coverMarked, stays, pass, trim, choice, mark, noEdges, choose, turn}
@@ -20,8 +20,8 @@ use Rattle.cover_spec.specs.OneTrimLaws.{trim-once}
 unfoldable pub takes : List Edge → ℕ → ℕ → Bool
 takes l c m = some (λ e. eqb (meta e) m && eqb (group e) c) l
 
-unfoldable pub taken : ℕ → State → State
-taken c s = record {
+unfoldable pub takenBy : ℕ → State → State
+takenBy c s = record {
   edges = keep (λ e. not (takes (s .edges) c (meta e))) (s .edges);
   marked = λ h. eqb h c || s .marked h;
   covered = λ m. s .covered m || takes (s .edges) c m;
@@ -36,7 +36,7 @@ module _ (s : State) (settled : pass s ≡ s) where
   pub uncovered : All (λ e. s .covered (meta e) ≡ false) (s .edges)
   unfolding pass stays coverMarked
   uncovered = all-map (λ e i. neither (s .covered (meta e)) (some (λ d. eqb (meta d) (meta e) && markForced s (group d)) (s .edges))
-      (not-is (coverMarked s (meta e)) (both (not (markForced s (group e))) (not (coverMarked s (meta e))) i .1)) .0) (s .edges)
+      (not-true (coverMarked s (meta e)) (both (not (markForced s (group e))) (not (coverMarked s (meta e))) i .1)) .0) (s .edges)
       (keep-all (stays s) (s .edges) (ap (λ (t : State). length (t .edges)) settled))
 
   module _ (c : ℕ) where
@@ -69,8 +69,8 @@ module _ (s : State) (settled : pass s ≡ s) where
         go true q = rw (lt-ltb 0 (count p (s .edges)) (h p (rw (eq-eqb (meta e) (meta e) refl, q))))
         go false q = refl
 
-    pub pass-mark : pass (mark c s) ≡ taken c s
-    unfolding pass taken mark
+    pub pass-mark : pass (mark c s) ≡ takenBy c s
+    unfolding pass takenBy mark
     pass-mark = λ i. record {
       edges = keep-ext (stays (mark c s)) (λ e. not (takes (s .edges) c (meta e))) (s .edges) every i;
       marked = fun-ext marks i;
@@ -85,13 +85,13 @@ module _ (s : State) (settled : pass s ≡ s) where
 
 module _ (n : ℕ) (all : List Edge) where
   unfoldable pub takeTurn : State → State
-  takeTurn s = cond (noEdges s) s (taken (choice all (s .edges) n) s)
+  takeTurn s = cond (noEdges s) s (takenBy (choice all (s .edges) n) s)
 
   trim-turn : (s : State) → Visited n all s → trim (turn all n s) ≡ takeTurn (trim s)
   unfolding takeTurn choose
   trim-turn s v = go (eqb (length (trim s .edges)) 0) refl
     where
-      go : (b : Bool) → eqb (length (trim s .edges)) 0 ≡ b → trim (turn all n s) ≡ cond b (trim s) (taken (choice all (trim s .edges) n) (trim s))
+      go : (b : Bool) → eqb (length (trim s .edges)) 0 ≡ b → trim (turn all n s) ≡ cond b (trim s) (takenBy (choice all (trim s .edges) n) (trim s))
       go true i = rw (turn-empty all n s (eqb-true (length (trim s .edges)) 0 i)) (trim-trim s)
       go false i =
           let z : 0 < length (trim s .edges) = omega (arith, eqb-false (length (trim s .edges)) 0 i) in

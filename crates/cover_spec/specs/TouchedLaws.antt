@@ -9,9 +9,9 @@ use Rattle.lists.specs.Tests.{both, iff}
 use Rattle.lists.specs.Lists.{count, some, All}
 use Rattle.lists.specs.KeepLaws.{all-map}
 use Rattle.cover_spec.specs.Cover.{Edge, group, meta}
-use Rattle.cover_spec.specs.Update.{part, differs, touched}
+use Rattle.cover_spec.specs.Update.{partOf, differs, touched}
 use Rattle.cover_spec.specs.CountLaws.{all-at, find}
-use Rattle.cover_spec.specs.ConnectedLaws.{_∈_, Connected, here, across, chain, all-in, has, part-linked, part-has}
+use Rattle.cover_spec.specs.ConnectedLaws.{_∈_, Connected, here, across, chain, edges-in, member-some, part-linked, part-has}
 
 -- the connected part of g is touched: some edge of it stands a different number of times in the two lists
 abbrev pub Touched : List Edge → List Edge → ℕ → Type 0
@@ -28,12 +28,12 @@ module _ (old new : List Edge) where
   pub touched-to : (g : ℕ) → touched old new g ≡ true → Touched old new g
   unfolding touched
   touched-to g i =
-      let (e, j, z) = find (differs old new) (part J g) (ltb-true 0 (count (differs old new) (part J g)) i) in
-      let (x, c) = all-at (λ d. (d ∈ J) × Connected J g (group d)) e (part J g) (part-linked J g) z in (e, x, j, c)
+      let (e, j, z) = find (differs old new) (partOf J g) (ltb-true 0 (count (differs old new) (partOf J g)) i) in
+      let (x, c) = all-at (λ d. (d ∈ J) × Connected J g (group d)) e (partOf J g) (part-linked J g) z in (e, x, j, c)
 
   pub touched-of : (g : ℕ) → Touched old new g → touched old new g ≡ true
   unfolding touched
-  touched-of g (e, x, y, c) = has (differs old new) e (part J g) (part-has J g c e x refl) y
+  touched-of g (e, x, y, c) = member-some (differs old new) e (partOf J g) (part-has J g c e x refl) y
 
   touched-along : (g h : ℕ) → Connected J g h → touched old new h ≡ true → touched old new g ≡ true
   touched-along g h c i = let (e, x, y, b) = touched-to h i in touched-of g (e, x, y, chain c b)
@@ -41,10 +41,10 @@ module _ (old new : List Edge) where
   -- no edge leaves what is touched
   pub touched-linked : All (λ e. touched old new (group e) ≡ touchedMeta old new (meta e)) J
   unfolding touchedMeta
-  touched-linked = all-map (λ e i. iff (touched old new (group e)) (touchedMeta old new (meta e)) (to e i) (of e i)) J (all-in J)
+  touched-linked = all-map (λ e i. iff (touched old new (group e)) (touchedMeta old new (meta e)) (to e i) (of e i)) J (edges-in J)
     where
       to : (e : Edge) → e ∈ J → touched old new (group e) ≡ true → touchedMeta old new (meta e) ≡ true
-      to e i t = has (λ d. eqb (meta d) (meta e) && touched old new (group d)) e J i (rw (eq-eqb (meta e) (meta e) refl, t))
+      to e i t = member-some (λ d. eqb (meta d) (meta e) && touched old new (group d)) e J i (rw (eq-eqb (meta e) (meta e) refl, t))
 
       of : (e : Edge) → e ∈ J → touchedMeta old new (meta e) ≡ true → touched old new (group e) ≡ true
       of e i t =

@@ -5,12 +5,12 @@ use lib.Dec.{eqb}
 use lib.ListN.{length}
 use mathlib.Core.Path.{_≡_, refl, sym, ap, _∙_, fun-ext}
 use native.Mathlib.Omega.{arith}
-use borrow.Author.Tests.{eqb-true, eqb-false}
+use borrow.Author.Tests.{eqb-true, eqb-false, not-true}
 use native.Mathlib.Decide.{le-ind}
-use Rattle.lists.specs.Tests.{both, neither, not-is}
+use Rattle.lists.specs.Tests.{both, neither}
 use Rattle.lists.specs.Lists.{All}
 use Rattle.lists.specs.KeepLaws.{all-map, count-le, length-keep, keep-all, keep-same, none}
-use Rattle.cover_spec.specs.Cover.{group, meta, State, forced, markForced, coverMarked, stays, pass, passes, trim}
+use Rattle.cover_spec.specs.Cover.{group, meta, State, forced, markForced, coverMarked, stays, pass, trimPasses, trim}
 
 -- ---- repeating
 
@@ -38,7 +38,7 @@ iter-still {A} f j k x h e = le-ind (λ (m : ℕ). iter f m x ≡ iter f j x) re
 module _ (s : State) where
   pub stay-unmarked : All (λ e. stays s e ≡ true) (s .edges) → All (λ e. markForced s (group e) ≡ false) (s .edges)
   unfolding stays
-  stay-unmarked h = all-map (λ e q. not-is _ (both _ _ q .0)) (s .edges) h
+  stay-unmarked h = all-map (λ e q. not-true _ (both _ _ q .0)) (s .edges) h
 
   pub still-forced : All (λ e. markForced s (group e) ≡ false) (s .edges) → (g : ℕ) → forced (s .edges) g ≡ false
   unfolding markForced
@@ -77,13 +77,13 @@ module _ (s : State) where
 
 -- ---- trim
 
-pub passes-iter : (k : ℕ) (s : State) → passes k s ≡ iter pass k s
-unfolding passes iter
+pub passes-iter : (k : ℕ) (s : State) → trimPasses k s ≡ iter pass k s
+unfolding trimPasses iter
 passes-iter zero s = refl
 passes-iter (suc k) s = go (eqb (length (pass s .edges)) (length (s .edges))) refl (passes-iter k (pass s))
   where
-    go : (b : Bool) → eqb (length (pass s .edges)) (length (s .edges)) ≡ b → passes k (pass s) ≡ iter pass k (pass s)
-        → cond b (pass s) (passes k (pass s)) ≡ iter pass k (pass s)
+    go : (b : Bool) → eqb (length (pass s .edges)) (length (s .edges)) ≡ b → trimPasses k (pass s) ≡ iter pass k (pass s)
+        → cond b (pass s) (trimPasses k (pass s)) ≡ iter pass k (pass s)
     go true i r = sym (iter-fix pass k (pass s) (ap pass (pass-still s (eqb-true _ _ i))))
     go false i r = r
 

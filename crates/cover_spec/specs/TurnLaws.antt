@@ -9,19 +9,19 @@ use native.Mathlib.Omega.{arith}
 use borrow.Author.Tests.{eqb-true, eqb-false, leb-true, leb-false, eq-eqb, ne-eqb}
 use Rattle.lists.specs.Tests.{neither}
 use Rattle.lists.specs.KeepLaws.{all-map, all-keep, keep-all, count-none}
-use Rattle.cover_spec.specs.Cover.{Edge, group, ofGroup, State, forced, markForced, stays, pass, passes, trim, choice, mark, noEdges, choose, turn, turns}
+use Rattle.cover_spec.specs.Cover.{Edge, group, ofGroup, State, forced, markForced, stays, pass, trimPasses, trim, choice, mark, noEdges, choose, turn, turns}
 use Rattle.cover_spec.specs.TrimLaws.{iter, iter-fix, iter-still, stay-unmarked, pass-le, passes-iter, trim-iter, trim-trim, trim-le}
-use Rattle.cover_spec.specs.ChoiceLaws.{Under, choice-has}
+use Rattle.cover_spec.specs.ChoiceLaws.{GroupsUnder, choice-has}
 
-pub under-pass : (n : ℕ) (s : State) → Under n (s .edges) → Under n (pass s .edges)
+pub under-pass : (n : ℕ) (s : State) → GroupsUnder n (s .edges) → GroupsUnder n (pass s .edges)
 unfolding pass
 under-pass n s u = all-keep _ (stays s) (s .edges) u
 
-pub under-trim : (n : ℕ) (s : State) → Under n (s .edges) → Under n (trim s .edges)
+pub under-trim : (n : ℕ) (s : State) → GroupsUnder n (s .edges) → GroupsUnder n (trim s .edges)
 unfolding iter
 under-trim n s u = rw (passes-iter (length (s .edges)) s) (go (length (s .edges)) s u)
   where
-    go : (k : ℕ) (t : State) → Under n (t .edges) → Under n (iter pass k t .edges)
+    go : (k : ℕ) (t : State) → GroupsUnder n (t .edges) → GroupsUnder n (iter pass k t .edges)
     go zero t v = v
     go (suc k) t v = go k (pass t) (under-pass n t v)
 
@@ -57,7 +57,7 @@ module _ (all : List Edge) (n : ℕ) where
   turn-choose s h = rw (ne-eqb (length (trim s .edges)) 0 (λ e. omega arith))
 
   pub trim-done : (s : State) → length (s .edges) ≡ 0 → trim s ≡ s
-  unfolding passes
+  unfolding trimPasses
   trim-done s h = rw h
 
   pub turn-done : (s : State) → length (s .edges) ≡ 0 → turn all n s ≡ s
@@ -77,15 +77,15 @@ module _ (all : List Edge) (n : ℕ) where
       go true i r = let e : turn all n s ≡ s = turn-done s (eqb-true (length (s .edges)) 0 i) in rw e (sym (iter-fix (turn all n) k s e))
       go false i r = r
 
-  pub under-turn : (s : State) → Under n (s .edges) → Under n (turn all n s .edges)
+  pub under-turn : (s : State) → GroupsUnder n (s .edges) → GroupsUnder n (turn all n s .edges)
   unfolding turn choose mark
   under-turn s u = go (noEdges (trim s))
     where
-      go : (b : Bool) → Under n (cond b (trim s) (choose all n (trim s)) .edges)
+      go : (b : Bool) → GroupsUnder n (cond b (trim s) (choose all n (trim s)) .edges)
       go true = under-trim n s u
       go false = under-trim n s u
 
-  pub choose-drops : (s : State) → Under n (s .edges) → 0 < length (s .edges) → length (trim (choose all n s) .edges) < length (s .edges)
+  pub choose-drops : (s : State) → GroupsUnder n (s .edges) → 0 < length (s .edges) → length (trim (choose all n s) .edges) < length (s .edges)
   unfolding choose mark
   choose-drops s u h = trim-drops (choose all n s) g (rw (eq-eqb g g refl)) (choice-has all (s .edges) n u h)
     where
@@ -93,7 +93,7 @@ module _ (all : List Edge) (n : ℕ) where
       g = choice all (s .edges) n
 
   -- one turn more than edges remain after the first trim
-  pub turns-end : (k : ℕ) (s : State) → Under n (s .edges) → length (trim s .edges) ≤ k → length (iter (turn all n) (suc k) s .edges) ≡ 0
+  pub turns-end : (k : ℕ) (s : State) → GroupsUnder n (s .edges) → length (trim s .edges) ≤ k → length (iter (turn all n) (suc k) s .edges) ≡ 0
   unfolding iter
   turns-end zero s u h = rw (turn-empty s (omega arith)) (omega arith)
   turns-end (suc k) s u h = go (eqb (length (trim s .edges)) 0) refl (turns-end k (turn all n s) (under-turn s u))

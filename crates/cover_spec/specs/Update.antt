@@ -19,15 +19,15 @@ reached zero all g = keep (λ e. eqb (group e) g) all
 reached (suc k) all g = keep (meets (reached k all g)) all
 
 -- the edges of the connected part that holds group g: no more are reached after as many steps as there are edges
-abbrev pub part : List Edge → ℕ → List Edge
-part all g = reached (length all) all g
+abbrev pub partOf : List Edge → ℕ → List Edge
+partOf all g = reached (length all) all g
 
 -- the edge stands a different number of times in the two lists
 abbrev pub differs : List Edge → List Edge → Edge → Bool
 differs old new e = not (eqb (count (sameEdge e) old) (count (sameEdge e) new))
 
 unfoldable pub touched : List Edge → List Edge → ℕ → Bool
-touched old new g = some (differs old new) (part (old ++ new) g)
+touched old new g = some (differs old new) (partOf (old ++ new) g)
 
 unfoldable pub update : ℕ → List Edge → List Edge → (ℕ → Bool) → ℕ → Bool
 update n old new marks g = cond (touched old new g) (cover n new g) (marks g)

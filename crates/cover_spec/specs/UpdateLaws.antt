@@ -7,13 +7,13 @@ use mathlib.Core.Path.{_≡_, refl, sym, ap, _∙_}
 use native.Mathlib.Omega.{arith}
 use borrow.Author.Tests.{eqb-true, eqb-false}
 use Rattle.lists.specs.Lists.{bit, count, keep, All}
-use Rattle.lists.specs.Tests.{within}
+use Rattle.lists.specs.Tests.{and-within}
 use Rattle.lists.specs.KeepLaws.{all-map, all-keep, count-ext, count-keep, count-none, count-append, all-append}
 use Rattle.cover_spec.specs.Cover.{Edge, group, meta, cover, coverList, sameEdge}
 use Rattle.cover_spec.specs.Update.{touched, update, updateList}
 use Rattle.cover_spec.specs.CountLaws.{count-determined, same-edge}
 use Rattle.cover_spec.specs.PartLaws.{Closed}
-use Rattle.cover_spec.specs.ChoiceLaws.{Under}
+use Rattle.cover_spec.specs.ChoiceLaws.{GroupsUnder}
 use Rattle.cover_spec.specs.LocalityLaws.{cover-local}
 use Rattle.cover_spec.specs.ListedLaws.{getD-listed, listed-ext, bit-is}
 use Rattle.cover_spec.specs.ConnectedLaws.{here}
@@ -55,7 +55,7 @@ module _ (n : ℕ) (old new : List Edge) where
         where
           all : (k : List Edge) → All (λ d. (sg (group d) && sameEdge e d) ≡ sameEdge e d) k
           all [] = tt
-          all (d ∷ k) = (sym (within (sg (group d)) (sameEdge e d) (λ q. ap (λ (x : Edge). sg (group x)) (sym (same-edge e d q)) ∙ i)), all k)
+          all (d ∷ k) = (sym (and-within (sg (group d)) (sameEdge e d) (λ q. ap (λ (x : Edge). sg (group x)) (sym (same-edge e d q)) ∙ i)), all k)
 
       outside : (e : Edge) (l : List Edge) → sg (group e) ≡ false → count (λ d. sg (group d) && sameEdge e d) l ≡ 0
       outside e l i = count-none (λ d. sg (group d) && sameEdge e d) l (all l)
@@ -75,16 +75,16 @@ module _ (n : ℕ) (old new : List Edge) where
           go true i = inside-out e old i ∙ untouched e i ∙ sym (inside-out e new i)
           go false i = outside e old i ∙ sym (outside e new i)
 
-  pub untouched-cover : Under n old → Under n new → (g : ℕ) → touched old new g ≡ false → cover n old g ≡ cover n new g
+  pub untouched-cover : GroupsUnder n old → GroupsUnder n new → (g : ℕ) → touched old new g ≡ false → cover n old g ≡ cover n new g
   unfolding sg
   untouched-cover u v g i =
       let (co, cn) = all-append (λ e. sg (group e) ≡ sm (meta e)) old new closed in
-      let under : Under n (keep (λ e. sg (group e)) new) = all-keep _ (λ e. sg (group e)) new v in
+      let under : GroupsUnder n (keep (λ e. sg (group e)) new) = all-keep _ (λ e. sg (group e)) new v in
       cover-local sg sm n old (keep (λ e. sg (group e)) new) part-old co u under g (ap not i)
       ∙ sym (cover-local sg sm n new (keep (λ e. sg (group e)) new) part-new cn v under g (ap not i))
 
   -- group by group: where the old mark was the cover's, the answer is the cover's
-  pub update-cover : Under n old → Under n new → (marks : ℕ → Bool) (g : ℕ) → marks g ≡ cover n old g → update n old new marks g ≡ cover n new g
+  pub update-cover : GroupsUnder n old → GroupsUnder n new → (marks : ℕ → Bool) (g : ℕ) → marks g ≡ cover n old g → update n old new marks g ≡ cover n new g
   unfolding update
   update-cover u v marks g e = go (touched old new g) refl
     where
@@ -93,14 +93,14 @@ module _ (n : ℕ) (old new : List Edge) where
       go false i = e ∙ untouched-cover u v g i
 
 -- of the lists: where the old marks are the cover of the old edges, the answer is the cover of the new ones
-pub update-list : (n : ℕ) (old new : List Edge) → Under n old → Under n new → updateList n old new (coverList n old) ≡ coverList n new
+pub update-list : (n : ℕ) (old new : List Edge) → GroupsUnder n old → GroupsUnder n new → updateList n old new (coverList n old) ≡ coverList n new
 unfolding updateList coverList
 update-list n old new u v =
     listed-ext n _ _ (λ g i. ap bit (update-cover n old new u v _ g
     (ap (λ (k : ℕ). eqb k 1) (getD-listed n (λ h. bit (cover n old h)) g i) ∙ bit-is (cover n old g))))
 
 -- a group in a touched part has the mark that the cover of the touched edges alone gives it
-pub touched-cover : (n : ℕ) (old new : List Edge) → Under n new → (g : ℕ) → touched old new g ≡ true
+pub touched-cover : (n : ℕ) (old new : List Edge) → GroupsUnder n new → (g : ℕ) → touched old new g ≡ true
     → cover n new g ≡ cover n (keep (λ e. touched old new (group e)) new) g
 touched-cover n old new v g i =
     cover-local (touched old new) (touchedMeta old new) n new (keep (λ e. touched old new (group e)) new)

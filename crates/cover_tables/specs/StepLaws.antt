@@ -1,5 +1,8 @@
--- The steps of the walk over its tables: a meta-peptide covered, a group taken, a level walked. Assumes nothing.
+-- The tables of the walk, all in one list w: remaining edges from 0 on, covered meta-peptides from n on, marks from n + m on, and from
+-- n + m + n on what the walk only reads: for each group its meta-peptides, for each meta-peptide its groups, and the order. The steps of
+-- the walk: a meta-peptide covered, a group taken, a level walked. Assumes nothing.
 use mathlib.Core.Path.{_≡_, refl, sym, ap, _∙_, subst}
+use mathlib.Core.Logic.{inr}
 use mathlib.Core.Bool.{Bool, true, false, not, _&&_, _||_, or-false, and-false, and-comm}
 use mathlib.Core.List.{List, [], _∷_}
 use Prim.Native.Nat.{ℕ, suc, _+_, _-_, _≤_, _<_}
@@ -7,19 +10,19 @@ use native.Mathlib.Omega.{arith}
 use native.Mathlib.Nat.{zero-add}
 use lib.Dec.{ltb, eqb}
 use lib.ListN.{length, getD, set, length-set}
-use lib.Seq.{getD-set-same, getD-set-other}
+use lib.Seq.{slice, getD-set-same, getD-set-other}
 use borrow.Author.Tests.{eqb-true, eqb-false, lt-ltb}
-use Rattle.cover_tables.specs.TableLaws.{Lowerable, Lists, lists-same, Tables, tables-same}
-use Rattle.lists.specs.Lists.{bit, count, some, keep, All}
+use Rattle.cover_tables.specs.TableLaws.{times-next, times-end, times-at, Lowerable, Lists, lists-same}
+use Rattle.lists.specs.Lists.{bit, count, some, keep, times, All}
+use Rattle.lists.specs.FrameLaws.{Framed, framed-none, framed-then, framed-within, framed-set}
 use Rattle.lists.specs.KeepLaws.{all-map, count-ext, count-keep, keep-ext, every}
 use Rattle.lists.specs.Tests.{eqb-sym}
 use Rattle.cover_spec.specs.Cover.{Edge, group, meta, ofGroup, State, cover, sameEdge}
 use Rattle.cover_spec.specs.CountLaws.{all-at}
-use Rattle.cover_spec.specs.TakeLaws.{taken, takes}
-use Rattle.cover_spec.specs.RunLaws.{after}
-use Rattle.cover_spec.specs.LevelLaws.{remaining, At, after-lean, found, passed-by, down, at-start, at-end}
+use Rattle.cover_spec.specs.TakeLaws.{takenBy, takes}
+use Rattle.cover_spec.specs.RunLaws.{afterTurns}
+use Rattle.cover_spec.specs.LevelLaws.{GroupOrder, degree, remaining, At, after-lean, found-choice, passed-by, down, at-start, at-end}
 use Rattle.cover_tables.specs.declared.areas.Areas.{Areas}
-use Rattle.cover_index.specs.PlaceLaws.{among, Same, among-step, among-done, among-has}
 
 -- ---- counting
 
@@ -59,6 +62,31 @@ module _ (areas : Areas) (all : List Edge) where
   abbrev od : ℕ
   od = areas .od
 
+  pub record WalkTables (w : List ℕ) : Type 0 where
+    pub bounds : All (λ e. (group e < n) × (meta e < m)) all
+    pub byGroup : Lists (n + m + n) go n (λ x. ofGroup x all) (λ x y. count (sameEdge (x, y)) all) w
+    pub byMeta : Lists (n + m + n) mo m (λ x. count (λ e. eqb (meta e) x) all) (λ x y. count (sameEdge (y, x)) all) w
+    pub order : GroupOrder n (degree n all) (λ i. getD w (od + i) 0)
+    pub order-above : n + m + n ≤ od
+    pub order-fits : od + n ≤ length w
+
+  pub tables-same : (w v : List ℕ) → length v ≡ length w → Framed 0 (n + m + n) w v → WalkTables w → WalkTables v
+  tables-same w v l h r = record {
+    bounds = r .bounds;
+    byGroup = lists-same (n + m + n) go n (λ x. ofGroup x all) (λ x y. count (sameEdge (x, y)) all) w v l h (r .byGroup);
+    byMeta = lists-same (n + m + n) mo m (λ x. count (λ e. eqb (meta e) x) all) (λ x y. count (sameEdge (y, x)) all) w v l h (r .byMeta);
+    order = record {
+      below = λ i b. rw (at i) (r .order .below i b);
+      holds = λ g b. let (i, j, q) = r .order .holds g b in (i, j, at i ∙ q);
+      falls = λ i j b k. rw (at i, at j) (r .order .falls i j b k);
+    };
+    order-above = r .order-above;
+    order-fits = omega (arith, r .order-fits);
+  }
+    where
+      at : (i : ℕ) → getD v (od + i) 0 ≡ getD w (od + i) 0
+      at i = h (od + i) (inr (omega (arith, r .order-above)))
+
   -- whether meta-peptide y is covered
   abbrev pub covers : List ℕ → ℕ → Bool
   covers w y = eqb (getD w (n + y) 0) 1
@@ -69,25 +97,25 @@ module _ (areas : Areas) (all : List Edge) where
 
   -- the tables can be worked on
   pub record Walk (w : List ℕ) : Type 0 where
-    pub tables : Tables areas all w
+    pub tables : WalkTables w
     pub counts : Counts w
 
   -- w with meta-peptide x covered is v
   pub record Visits (x : ℕ) (w v : List ℕ) : Type 0 where
     pub walk : Walk v
     pub covered : (y : ℕ) → covers v y ≡ (eqb y x || covers w y)
-    pub rest : Same (n + m) w v
+    pub rest : Framed 0 (n + m) w v
 
   -- w with all meta-peptides of c covered is v
   pub record Reaches (c : ℕ) (w v : List ℕ) : Type 0 where
     pub walk : Walk v
     pub covered : (y : ℕ) → covers v y ≡ (covers w y || some (sameEdge (c, y)) all)
-    pub rest : Same (n + m) w v
+    pub rest : Framed 0 (n + m) w v
 
   -- ---- one meta-peptide
 
   module _ (w : List ℕ) (a : Walk w) (x : ℕ) (b : x < m) where
-    r : Tables areas all w
+    r : WalkTables w
     r = a .tables
 
     k : Counts w
@@ -109,8 +137,8 @@ module _ (areas : Areas) (all : List Edge) where
     low-set : (g : ℕ) → g < n → getD covered g 0 ≡ getD w g 0
     low-set g c = getD-set-other w (n + x) g 1 0 (λ q. omega arith)
 
-    high-set : Same (n + m) w covered
-    high-set y c = getD-set-other w (n + x) y 1 0 (λ q. omega arith)
+    high-set : Framed 0 (n + m) w covered
+    high-set = framed-set 0 (n + m) (n + x) 1 w (omega arith) (omega arith)
 
     abbrev pub from : ℕ
     from = getD covered (mo + x) 0
@@ -119,20 +147,17 @@ module _ (areas : Areas) (all : List Edge) where
     till = getD covered (mo + x + 1) 0
 
     lists′ : Lists (n + m + n) mo m (λ z. count (λ e. eqb (meta e) z) all) (λ z y. count (sameEdge (y, z)) all) covered
-    lists′ = lists-same (n + m + n) mo m (λ z. count (λ e. eqb (meta e) z) all) (λ z y. count (sameEdge (y, z)) all) w covered (length-set w (n + x) 1) (λ y c. high-set y (omega arith)) (r .byMeta)
+    lists′ = lists-same (n + m + n) mo m (λ z. count (λ e. eqb (meta e) z) all) (λ z y. count (sameEdge (y, z)) all) w covered (length-set w (n + x) 1) (framed-within 0 0 (n + m) (n + m + n) w covered (omega arith) (omega arith) high-set) (r .byMeta)
 
-    size′ : till - from ≡ count (λ e. eqb (meta e) x) all
-    size′ = omega (arith, lists′ .sizes x b)
-
-    listed′ : (g : ℕ) → among covered from (till - from) g ≡ count (sameEdge (g, x)) all
-    listed′ g = rw size′ (lists′ .lists x g b)
+    listed′ : (g : ℕ) → times g (slice from till covered) ≡ count (sameEdge (g, x)) all
+    listed′ g = lists′ .lists x g b
 
     pub visit-lowerable : covers w x ≡ false → Lowerable n from till covered
     visit-lowerable i = record {
       behind = omega (arith, lists′ .starts x b);
       order = omega (arith, lists′ .sizes x b);
       fits = lists′ .ends x b;
-      names = λ p c d. named p (omega (arith, listed′ (getD covered p 0), among-has covered (till - from) from p c (omega arith)));
+      names = λ p c d. named p (omega (arith, listed′ (getD covered p 0), times-at covered from p till c d (lists′ .ends x b)));
       enough = λ g c. omega (arith, listed′ g, low-set g c, k g c, split (covers w) (covers covered) x g i covers-set all);
     }
       where
@@ -142,26 +167,26 @@ module _ (areas : Areas) (all : List Edge) where
     pub meta-lists : (mo + x < length w) × (mo + x + 1 < length w)
     meta-lists = (omega (arith, r .byMeta .fits), omega (arith, r .byMeta .fits))
 
-    module _ (v : List ℕ) (len : length v ≡ length covered) (i : covers w x ≡ false) (low : (g : ℕ) → g < n → getD v g 0 + among covered from (till - from) g ≡ getD covered g 0) (rest : Same n covered v) where
+    module _ (v : List ℕ) (len : length v ≡ length covered) (i : covers w x ≡ false) (low : (g : ℕ) → g < n → getD v g 0 + times g (slice from till covered) ≡ getD covered g 0) (rest : Framed 0 n covered v) where
       pub visit-covers : (y : ℕ) → covers v y ≡ (eqb y x || covers w y)
-      visit-covers y = ap (λ (z : ℕ). eqb z 1) (rest (n + y) (omega arith)) ∙ covers-set y
+      visit-covers y = ap (λ (z : ℕ). eqb z 1) (rest (n + y) (inr (omega arith))) ∙ covers-set y
 
       pub visit-counts : Counts v
       visit-counts g c = omega (arith, low g c, listed′ g, low-set g c, k g c, split (covers w) (covers v) x g i visit-covers all)
 
-      pub visit-rest : Same (n + m) w v
-      visit-rest y c = rest y (omega arith) ∙ high-set y c
+      pub visit-rest : Framed 0 (n + m) w v
+      visit-rest = framed-then 0 (n + m) w covered v high-set (framed-within 0 0 n (n + m) covered v (omega arith) (omega arith) rest)
 
-      pub visited : Visits x w v
-      visited = record {
-        walk = record { tables = tables-same areas all w v (len ∙ length-set w (n + x) 1) (λ y c. visit-rest y (omega arith)) r; counts = visit-counts };
+      pub meta-visited : Visits x w v
+      meta-visited = record {
+        walk = record { tables = tables-same w v (len ∙ length-set w (n + x) 1) (framed-within 0 0 (n + m) (n + m + n) w v (omega arith) (omega arith) visit-rest) r; counts = visit-counts };
         covered = visit-covers;
         rest = visit-rest;
       }
 
     -- covered already
     pub visited-before : covers w x ≡ true → Visits x w w
-    visited-before i = record { walk = a; covered = λ y. step y (eqb y x) refl; rest = λ y c. refl }
+    visited-before i = record { walk = a; covered = λ y. step y (eqb y x) refl; rest = framed-none 0 (n + m) w }
       where
         step : (y : ℕ) (t : Bool) → eqb y x ≡ t → covers w y ≡ (t || covers w y)
         step y true e = ap (covers w) (eqb-true y x e) ∙ i
@@ -170,51 +195,50 @@ module _ (areas : Areas) (all : List Edge) where
   -- ---- the meta-peptides of a group
 
   module _ (c : ℕ) (w₀ : List ℕ) where
-    abbrev pub first : ℕ
+    abbrev first : ℕ
     first = getD w₀ (go + c) 0
 
-    abbrev pub last : ℕ
+    abbrev last : ℕ
     last = getD w₀ (go + c + 1) 0
 
-    pub record Spread (w : List ℕ) (p : ℕ) : Type 0 where
+    pub record Reaching (w : List ℕ) (p : ℕ) : Type 0 where
       pub low : first ≤ p
       pub high : p ≤ last
       pub size : length w ≡ length w₀
       pub walk : Walk w
-      pub covereds : (y : ℕ) → (covers w y || ltb 0 (among w₀ p (last - p) y)) ≡ (covers w₀ y || ltb 0 (among w₀ first (last - first) y))
-      pub rest : Same (n + m) w₀ w
+      pub covereds : (y : ℕ) → (covers w y || ltb 0 (times y (slice p last w₀))) ≡ (covers w₀ y || ltb 0 (times y (slice first last w₀)))
+      pub rest : Framed 0 (n + m) w₀ w
 
   module _ (c : ℕ) (b : c < n) (w₀ : List ℕ) (a₀ : Walk w₀) where
-    r₀ : Tables areas all w₀
+    r₀ : WalkTables w₀
     r₀ = a₀ .tables
 
-    pub spread-lists : (go + c < length w₀) × (go + c + 1 < length w₀)
-    spread-lists = (omega (arith, r₀ .byGroup .fits), omega (arith, r₀ .byGroup .fits))
+    pub reaching-lists : (go + c < length w₀) × (go + c + 1 < length w₀)
+    reaching-lists = (omega (arith, r₀ .byGroup .fits), omega (arith, r₀ .byGroup .fits))
 
-    pub spread-start : Spread c w₀ w₀ (first c w₀)
-    spread-start = record { low = omega arith; high = omega (arith, r₀ .byGroup .sizes c b); size = refl; walk = a₀; covereds = λ y. refl; rest = λ x d. refl }
+    pub reaching-start : Reaching c w₀ w₀ (first c w₀)
+    reaching-start = record { low = omega arith; high = omega (arith, r₀ .byGroup .sizes c b); size = refl; walk = a₀; covereds = λ y. refl; rest = framed-none 0 (n + m) w₀ }
 
-    module _ (w : List ℕ) (p : ℕ) (s : Spread c w₀ w p) (more : p < (last c w₀)) where
+    module _ (w : List ℕ) (p : ℕ) (s : Reaching c w₀ w p) (more : p < (last c w₀)) where
       here : getD w p 0 ≡ getD w₀ p 0
-      here = s .rest p (omega (arith, s .low, r₀ .byGroup .starts c b))
+      here = s .rest p (inr (omega (arith, s .low, r₀ .byGroup .starts c b)))
 
-      pub spread-inside : p < length w
-      spread-inside = omega (arith, r₀ .byGroup .ends c b, s .size)
+      pub reaching-inside : p < length w
+      reaching-inside = omega (arith, r₀ .byGroup .ends c b, s .size)
 
-      pub spread-meta : getD w p 0 < m
-      spread-meta =
-          let q : (last c w₀) - (first c w₀) ≡ ofGroup c all = omega (arith, r₀ .byGroup .sizes c b) in
+      pub reaching-meta : getD w p 0 < m
+      reaching-meta =
           rw here (all-at (λ e. (group e < n) × (meta e < m)) (c, getD w₀ p 0) all (r₀ .bounds)
-          (omega (arith, r₀ .byGroup .lists c (getD w₀ p 0) b, among-has w₀ (ofGroup c all) (first c w₀) p (s .low) (omega arith))) .1)
+          (omega (arith, r₀ .byGroup .lists c (getD w₀ p 0) b, times-at w₀ (first c w₀) p (last c w₀) (s .low) more (r₀ .byGroup .ends c b))) .1)
 
-      pub spread-step : (v : List ℕ) → length v ≡ length w → Visits (getD w p 0) w v → Spread c w₀ v (p + 1)
-      spread-step v l h = record {
+      pub reaching-step : (v : List ℕ) → length v ≡ length w → Visits (getD w p 0) w v → Reaching c w₀ v (p + 1)
+      reaching-step v l h = record {
         low = omega (arith, s .low);
         high = omega arith;
         size = l ∙ s .size;
         walk = h .walk;
         covereds = λ y. one y ∙ s .covereds y;
-        rest = λ x d. h .rest x d ∙ s .rest x d;
+        rest = framed-then 0 (n + m) w₀ w v (s .rest) (h .rest);
       }
         where
           shuffle : (t u : Bool) (j : ℕ) → ((t || u) || ltb 0 j) ≡ (u || ltb 0 (bit t + j))
@@ -223,64 +247,62 @@ module _ (areas : Areas) (all : List Edge) where
           shuffle false true j = refl
           shuffle false false j = ap (ltb 0) (sym (zero-add j))
 
-          one : (y : ℕ) → (covers v y || ltb 0 (among w₀ (p + 1) ((last c w₀) - (p + 1)) y)) ≡ (covers w y || ltb 0 (among w₀ p ((last c w₀) - p) y))
-          one y = rw (h .covered y, among-step w₀ p (last c w₀) y more, here, eqb-sym y (getD w₀ p 0)) (shuffle (eqb (getD w₀ p 0) y) (covers w y) (among w₀ (p + 1) ((last c w₀) - (p + 1)) y))
+          one : (y : ℕ) → (covers v y || ltb 0 (times y (slice (p + 1) (last c w₀) w₀))) ≡ (covers w y || ltb 0 (times y (slice p (last c w₀) w₀)))
+          one y = rw (h .covered y, times-next w₀ p (last c w₀) y more (r₀ .byGroup .ends c b), here, eqb-sym y (getD w₀ p 0)) (shuffle (eqb (getD w₀ p 0) y) (covers w y) (times y (slice (p + 1) (last c w₀) w₀)))
 
-    pub spread-end : (w : List ℕ) (p : ℕ) → Spread c w₀ w p → (last c w₀) ≤ p → (y : ℕ) → covers w y ≡ (covers w₀ y || some (sameEdge (c, y)) all)
-    spread-end w p s d y =
-        let q : (last c w₀) - (first c w₀) ≡ ofGroup c all = omega (arith, r₀ .byGroup .sizes c b) in
-        let z : among w₀ (first c w₀) ((last c w₀) - (first c w₀)) y ≡ count (sameEdge (c, y)) all = rw q (r₀ .byGroup .lists c y b) in
-        sym (or-false (covers w y)) ∙ ap (λ (i : ℕ). covers w y || ltb 0 i) (sym (among-done w₀ p (last c w₀) y d)) ∙ s .covereds y ∙ ap (λ (i : ℕ). covers w₀ y || ltb 0 i) z
+    pub reaching-end : (w : List ℕ) (p : ℕ) → Reaching c w₀ w p → (last c w₀) ≤ p → (y : ℕ) → covers w y ≡ (covers w₀ y || some (sameEdge (c, y)) all)
+    reaching-end w p s d y =
+        sym (or-false (covers w y)) ∙ ap (λ (i : ℕ). covers w y || ltb 0 i) (sym (times-end w₀ p (last c w₀) y (omega (arith, s .high)))) ∙ s .covereds y ∙ ap (λ (i : ℕ). covers w₀ y || ltb 0 i) (r₀ .byGroup .lists c y b)
 
-    pub reaches : (w : List ℕ) (p : ℕ) → Spread c w₀ w p → (last c w₀) ≤ p → Reaches c w₀ w
-    reaches w p s d = record { walk = s .walk; covered = spread-end w p s d; rest = s .rest }
+    pub reaches : (w : List ℕ) (p : ℕ) → Reaching c w₀ w p → (last c w₀) ≤ p → Reaches c w₀ w
+    reaches w p s d = record { walk = s .walk; covered = reaching-end w p s d; rest = s .rest }
 
   -- ---- the run in the tables
 
   abbrev pub marks : List ℕ → ℕ → Bool
   marks w g = eqb (getD w (n + m + g) 0) 1
 
-  pub record Stands (t : ℕ) (w : List ℕ) : Type 0 where
+  pub record RunStands (t : ℕ) (w : List ℕ) : Type 0 where
     pub counts : Counts w
-    pub covered : (y : ℕ) → y < m → covers w y ≡ after n all t .covered y
-    pub marked : (g : ℕ) → g < n → marks w g ≡ after n all t .marked g
+    pub covered : (y : ℕ) → y < m → covers w y ≡ afterTurns n all t .covered y
+    pub marked : (g : ℕ) → g < n → marks w g ≡ afterTurns n all t .marked g
 
   -- what taking group c does
   pub record Takes (c : ℕ) (w v : List ℕ) : Type 0 where
     pub walk : Walk v
     pub covered : (y : ℕ) → y < m → covers v y ≡ (covers w y || some (sameEdge (c, y)) all)
     pub marked : (g : ℕ) → g < n → marks v g ≡ (eqb g c || marks w g)
-    pub rest : Same (n + m + n) w v
+    pub rest : Framed 0 (n + m + n) w v
 
   module _ (bounds : All (λ e. (group e < n) × (meta e < m)) all) where
-    keep-lean : (t : ℕ) (w : List ℕ) → Stands t w → keep (λ e. not (covers w (meta e))) all ≡ after n all t .edges
-    keep-lean t w s = keep-ext (λ e. not (covers w (meta e))) (λ e. not (after n all t .covered (meta e))) all (all-map (λ e b. ap not (s .covered (meta e) (b .1))) all bounds) ∙ sym (after-lean n all t)
+    keep-lean : (t : ℕ) (w : List ℕ) → RunStands t w → keep (λ e. not (covers w (meta e))) all ≡ afterTurns n all t .edges
+    keep-lean t w s = keep-ext (λ e. not (covers w (meta e))) (λ e. not (afterTurns n all t .covered (meta e))) all (all-map (λ e b. ap not (s .covered (meta e) (b .1))) all bounds) ∙ sym (after-lean n all t)
 
-    pub stands-counts : (t : ℕ) (w : List ℕ) → Stands t w → (g : ℕ) → g < n → getD w g 0 ≡ remaining n all t g
+    pub stands-counts : (t : ℕ) (w : List ℕ) → RunStands t w → (g : ℕ) → g < n → getD w g 0 ≡ remaining n all t g
     stands-counts t w s g b = s .counts g b ∙ ap (λ (l : List Edge). ofGroup g l) (keep-lean t w s)
 
-    pub stands-take : (t c : ℕ) (w v : List ℕ) → Stands t w → Takes c w v → after n all (suc t) ≡ taken c (after n all t) → Stands (suc t) v
-    unfolding taken takes
+    pub stands-take : (t c : ℕ) (w v : List ℕ) → RunStands t w → Takes c w v → afterTurns n all (suc t) ≡ takenBy c (afterTurns n all t) → RunStands (suc t) v
+    unfolding takenBy takes
     stands-take t c w v s k e = record {
       counts = k .walk .counts;
-      covered = λ y b. k .covered y b ∙ rw (s .covered y b) (grown y (after n all t .covered y) refl ∙ ap (λ (u : State). u .covered y) (sym e));
+      covered = λ y b. k .covered y b ∙ rw (s .covered y b) (grown y (afterTurns n all t .covered y) refl ∙ ap (λ (u : State). u .covered y) (sym e));
       marked = λ g b. k .marked g b ∙ rw (s .marked g b) (ap (λ (u : State). u .marked g) (sym e));
     }
       where
-        grown : (y : ℕ) (d : Bool) → after n all t .covered y ≡ d → (d || some (sameEdge (c, y)) all) ≡ (d || takes (after n all t .edges) c y)
+        grown : (y : ℕ) (d : Bool) → afterTurns n all t .covered y ≡ d → (d || some (sameEdge (c, y)) all) ≡ (d || takes (afterTurns n all t .edges) c y)
         grown y true i = refl
         grown y false i =
             ap (λ (j : ℕ). ltb 0 j)
-            (count-ext (sameEdge (c, y)) (λ x. not (after n all t .covered (meta x)) && (eqb (meta x) y && eqb (group x) c)) all (every _ each all)
-            ∙ sym (count-keep (λ x. eqb (meta x) y && eqb (group x) c) (λ x. not (after n all t .covered (meta x))) all)
+            (count-ext (sameEdge (c, y)) (λ x. not (afterTurns n all t .covered (meta x)) && (eqb (meta x) y && eqb (group x) c)) all (every _ each all)
+            ∙ sym (count-keep (λ x. eqb (meta x) y && eqb (group x) c) (λ x. not (afterTurns n all t .covered (meta x))) all)
             ∙ ap (count (λ x. eqb (meta x) y && eqb (group x) c)) (sym (after-lean n all t)))
           where
-            each : (x : Edge) → sameEdge (c, y) x ≡ (not (after n all t .covered (meta x)) && (eqb (meta x) y && eqb (group x) c))
+            each : (x : Edge) → sameEdge (c, y) x ≡ (not (afterTurns n all t .covered (meta x)) && (eqb (meta x) y && eqb (group x) c))
             each x = rw (eqb-sym c (group x), eqb-sym y (meta x)) (step (eqb (meta x) y) refl)
               where
-                step : (q : Bool) → eqb (meta x) y ≡ q → (eqb (group x) c && q) ≡ (not (after n all t .covered (meta x)) && (q && eqb (group x) c))
-                step true j = rw (ap (after n all t .covered) (eqb-true (meta x) y j) ∙ i) (and-comm (eqb (group x) c) true)
-                step false j = and-false (eqb (group x) c) ∙ sym (and-false (not (after n all t .covered (meta x))))
+                step : (q : Bool) → eqb (meta x) y ≡ q → (eqb (group x) c && q) ≡ (not (afterTurns n all t .covered (meta x)) && (q && eqb (group x) c))
+                step true j = rw (ap (afterTurns n all t .covered) (eqb-true (meta x) y j) ∙ i) (and-comm (eqb (group x) c) true)
+                step false j = and-false (eqb (group x) c) ∙ sym (and-false (not (afterTurns n all t .covered (meta x))))
 
   -- a mark changes nothing else
   module _ (c : ℕ) (b : c < n) (w : List ℕ) (a : Walk w) where
@@ -299,14 +321,14 @@ module _ (areas : Areas) (all : List Edge) where
         (all-map (λ e i. ap (λ (z : ℕ). not (eqb z 1)) (sym (other (n + meta e) (λ q. omega (arith, i .1))))) all (a .tables .bounds)))
 
     pub mark-walk : Walk withMark
-    mark-walk = record { tables = tables-same areas all w withMark (length-set w (n + m + c) 1) (λ x d. other x (λ q. omega arith)) (a .tables); counts = counts′ }
+    mark-walk = record { tables = tables-same w withMark (length-set w (n + m + c) 1) (framed-set 0 (n + m + n) (n + m + c) 1 w (omega arith) (omega arith)) (a .tables); counts = counts′ }
 
     pub takes-all : (v : List ℕ) → Reaches c withMark v → Takes c w v
     takes-all v h = record {
       walk = h .walk;
       covered = λ y d. h .covered y ∙ ap (λ (z : ℕ). eqb z 1 || some (sameEdge (c, y)) all) (other (n + y) (λ q. omega arith));
-      marked = λ g d. ap (λ (z : ℕ). eqb z 1) (h .rest (n + m + g) (omega arith)) ∙ one g (eqb g c) refl;
-      rest = λ x d. h .rest x (omega arith) ∙ other x (λ q. omega arith);
+      marked = λ g d. ap (λ (z : ℕ). eqb z 1) (h .rest (n + m + g) (inr (omega arith))) ∙ one g (eqb g c) refl;
+      rest = framed-then 0 (n + m + n) w withMark v (framed-set 0 (n + m + n) (n + m + c) 1 w (omega arith) (omega arith)) (framed-within 0 0 (n + m) (n + m + n) withMark v (omega arith) (omega arith) (h .rest));
     }
       where
         one : (g : ℕ) (t : Bool) → eqb g c ≡ t → marks withMark g ≡ (t || marks w g)
@@ -315,18 +337,18 @@ module _ (areas : Areas) (all : List Edge) where
 
   -- ---- the levels in the tables
 
-  abbrev pub place : List ℕ → ℕ → ℕ
+  abbrev place : List ℕ → ℕ → ℕ
   place w i = getD w (od + i) 0
 
   -- the walk stands at level d, place i
   pub record Levels (d i : ℕ) (w : List ℕ) : Type 0 where
     pub walk : Walk w
     pub turns : ℕ
-    pub stands : Stands turns w
+    pub stands : RunStands turns w
     pub here : At n all (place w) turns d i
 
   module _ (w : List ℕ) (d i : ℕ) (h : Levels d i w) (b : i < n) where
-    tb : Tables areas all w
+    tb : WalkTables w
     tb = h .walk .tables
 
     pub place-inside : od + i < length w
@@ -352,13 +374,13 @@ module _ (areas : Areas) (all : List Edge) where
         z′ : d ≡ suc (d - 1)
         z′ = omega arith
 
-        u : (after n all (suc (h .turns)) ≡ taken (place w i) (after n all (h .turns))) × At n all (place w) (suc (h .turns)) (suc (d - 1)) (i + 1)
-        u = found n all (place w) (tb .order) (h .turns) (d - 1) i (subst (λ (x : ℕ). At n all (place w) (h .turns) x i) z′ (h .here)) b (sym left ∙ e ∙ z′)
+        u : (afterTurns n all (suc (h .turns)) ≡ takenBy (place w i) (afterTurns n all (h .turns))) × At n all (place w) (suc (h .turns)) (suc (d - 1)) (i + 1)
+        u = found-choice n all (place w) (tb .order) (h .turns) (d - 1) i (subst (λ (x : ℕ). At n all (place w) (h .turns) x i) z′ (h .here)) b (sym left ∙ e ∙ z′)
 
         moved : At n all (place v) (suc (h .turns)) d (i + 1)
         moved =
             let a : At n all (place w) (suc (h .turns)) d (i + 1) = subst (λ (x : ℕ). At n all (place w) (suc (h .turns)) x (i + 1)) (sym z′) (u .1) in
-            record { upper = a .upper; passed = λ j k. rw (t .rest (od + j) (omega (arith, tb .order-above))) (a .passed j k) }
+            record { upper = a .upper; passed = λ j k. rw (t .rest (od + j) (inr (omega (arith, tb .order-above)))) (a .passed j k) }
 
   pub levels-down : (w : List ℕ) (d i : ℕ) → Levels d i w → 0 < d → (i < n → ofGroup (place w i) all < d) → Levels (d - 1) 0 w
   levels-down w d i h z e = record {
@@ -376,5 +398,5 @@ module _ (areas : Areas) (all : List Edge) where
       h .stands .marked g b
       ∙ at-end n all (place w) (h .walk .tables .order) (all-map (λ e j. j .0) all (h .walk .tables .bounds)) (h .turns) i (h .here) g
 
-  pub levels-start : (w : List ℕ) (top : ℕ) → Tables areas all w → Stands 0 w → ((g : ℕ) → g < n → ofGroup g all ≤ top) → Levels top 0 w
+  pub levels-start : (w : List ℕ) (top : ℕ) → WalkTables w → RunStands 0 w → ((g : ℕ) → g < n → ofGroup g all ≤ top) → Levels top 0 w
   levels-start w top r s h = record { walk = record { tables = r; counts = s .counts }; turns = 0; stands = s; here = at-start n all (place w) (r .order) top h }

@@ -5,6 +5,7 @@ use crate::tests::work_needed;
 use cover_edges::first_bad_mark;
 use records::Refusal;
 use records::Tested;
+use records::and_then;
 use records::field_tested;
 ghost use mathlib.Core.Path.{_≡_};
 ghost use Prim.Native.Nat.{_/_, _≤_};
@@ -31,15 +32,9 @@ fn contents(old: &[u8], new: &[u8], groups: usize, metas: usize, given: &[u8]) -
     ensures { λ r. ⌜ r ≡ contentsTested (now (old .entry)) (now (new .entry)) groups metas (now (given .entry)) ⌝ }
 {
     let of_old = edges_tested(old, groups, metas);
-    let Tested::Passed = of_old else {
-        return of_old;
-    };
     let of_new = edges_tested(new, groups, metas);
-    let Tested::Passed = of_new else {
-        return of_new;
-    };
-    let bad = first_bad_mark(given);
-    field_tested(bad, given.len())
+    let of_given = field_tested(first_bad_mark(given), given.len());
+    and_then(of_old, and_then(of_new, of_given))
 }
 
 // The first refusal that applies before the update is made, where the work slice has so many words.

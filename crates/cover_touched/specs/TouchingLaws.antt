@@ -4,13 +4,13 @@ use native.Mathlib.Omega.{arith}
 use native.Mathlib.Numerals.{add-one}
 use mathlib.Core.Path.{_≡_, refl, sym, ap, _∙_, subst}
 use mathlib.Core.Bool.{Bool, true, false, cond, _&&_, true≢false, false≢true}
-use mathlib.Core.Logic.{inl, inr, ⊎-elim}
+use mathlib.Core.Logic.{inl, ⊎-elim}
 use mathlib.Core.List.{List, [], _∷_, _++_}
-use lib.ListN.{length, getD}
+use lib.ListN.{length}
 use lib.Dec.{eqb, ltb}
 use borrow.Author.Tests.{eqb-true, eq-eqb, ltb-true, lt-ltb, le-ltb}
 use Rattle.cover_joining.specs.Joining.{Forest, Held, Joined, nodes, edgeLinks}
-use Rattle.cover_differing.specs.Walking.{differing, atOld, atNew, nextOld, nextNew, Linked}
+use Rattle.cover_differing.specs.Walking.{differing, GroupsLinked}
 use Rattle.lists.specs.Tests.{same?, below?, both}
 use Rattle.lists.specs.Lists.{count, All}
 use Rattle.lists.specs.KeepLaws.{all-map, all-has, all-append, all-two, all-both}
@@ -19,11 +19,11 @@ use Rattle.cover_spec.specs.Update.{differs, touched}
 use Rattle.cover_spec.specs.CountLaws.{find}
 use Rattle.cover_spec.specs.ConnectedLaws.{here}
 use Rattle.cover_spec.specs.TouchedLaws.{Touched, touchedMeta, touched-to, touched-of, touched-linked, flags-touched}
-use Rattle.cover_edges.specs.Chains.{Out}
+use Rattle.lists.specs.FrameLaws.{Framed, framed-within}
 use Rattle.cover_edges.specs.Edges.{edgeAt, edgesTo}
 use Rattle.cover_edges.specs.RangeLaws.{InRange}
 use Rattle.cover_edges.specs.EdgeLaws.{edges-all}
-use Rattle.cover_touched.specs.Touching.{seeds, Told}
+use Rattle.cover_touched.specs.Touching.{seeds, PartsTell}
 use Rattle.cover_joining.specs.JoiningLaws.{joined-none, joined-then}
 use Rattle.cover_differing.specs.DifferingLaws.{differing-has, walkable-same}
 
@@ -174,17 +174,20 @@ module _ (old : List ℕ) (on : ℕ) (new : List ℕ) (nn groups metas : ℕ) (w
       (all-map (λ e r q. ap (λ (b : Bool). b && touches (1 + group e)) (lt-ltb (group e) groups (r .0 .0)) ∙ eq-eqb (h .rep (1 + group e)) 0 (sym (by-seed (group e) (r .0 .0) (differing-has olds news e (r .1 (sameEdge e) (rw (eq-eqb (group e) (group e) refl, eq-eqb (meta e) (meta e) refl))) q)) ∙ zero-top)) both-lists (all-two _ _ both-lists inside (all-has both-lists)))
       (λ x e. guarded x (ltb x groups) refl e) g
 
-  pub parts-told : Told olds news groups metas w
+  pub parts-told : PartsTell olds news groups metas w
   parts-told = record { forest = f; rep = h .rep; reps = h .reps; says = told }
 
 -- ---- one group's edges counted, taken off and swept
 
 -- a table that agrees outside of the nodes
-pub linked-same : {old new : List ℕ} {on nn groups metas : ℕ} (w w′ : List ℕ) → length w′ ≡ length w → ((i : ℕ) → Out i metas (nodes groups metas) → getD w′ i 0 ≡ getD w i 0) → Linked old on new nn groups metas w → Linked old on new nn groups metas w′
+pub linked-same : {old new : List ℕ} {on nn groups metas : ℕ} (w w′ : List ℕ) → length w′ ≡ length w → Framed metas (metas + nodes groups metas) w w′ → GroupsLinked old on new nn groups metas w → GroupsLinked old on new nn groups metas w′
 linked-same {old} {new} {on} {nn} {groups} {metas} w w′ e s k = record {
   groups-max = k .groups-max;
   metas-max = k .metas-max;
-  by-old = walkable-same w w′ (atOld groups metas) (nextOld groups metas) e (λ i l. s i (inr l)) (k .by-old);
-  by-new = walkable-same w w′ (atNew groups metas) (nextNew groups metas on) e (λ i l. s i (inr (omega arith))) (k .by-new);
+  by-old = walkable-same w w′ e (above (omega arith)) (k .by-old);
+  by-new = walkable-same w w′ e (above (omega arith)) (k .by-new);
   clean = λ m l. s m (inl l) ∙ k .clean m l;
 }
+  where
+    above : {a : ℕ} → metas + nodes groups metas ≤ a → Framed 0 a w w′
+    above h = framed-within 0 metas (metas + nodes groups metas) _ w w′ (omega arith) h s

@@ -11,7 +11,7 @@ ghost use lib.Dec.{eqb};
 ghost use Rattle.cover_joining.specs.Joining.{Forest, nodes};
 ghost use Rattle.cover_spec.specs.Cover.{Edge};
 ghost use Rattle.cover_edges.specs.Edges.{edgesTo};
-ghost use Rattle.cover_touched.specs.Touching.{Sized, Told, Mixed};
+ghost use Rattle.cover_touched.specs.Touching.{UpdateSized, PartsTell, Mixed};
 
 fn picked(low: usize, made: u8, kept: u8) -> u8
     ensures { λ r. ⌜ r ≡ cond (eqb low 0) made kept ⌝ }
@@ -23,7 +23,7 @@ fn picked(low: usize, made: u8, kept: u8) -> u8
 fn mix(given: &[u8], groups: usize, metas: usize, w: &mut [u32], k: usize, marks: &mut [u8])
     requires { ⌜ (groups ≤ 131072) × (metas ≤ 262144) × Forest (now w) metas (nodes groups metas) ⌝ }
     requires { ⌜ (k ≤ groups) × (k ≤ length (now given)) × (k ≤ length (now marks)) ⌝ }
-    ensures { λ _. ⌜ ((old new : List Edge) → Told old new groups metas (now (w .entry)) → Mixed old new (now (given .entry)) k (now (marks .entry)) (now (marks .exit))) ⌝ }
+    ensures { λ _. ⌜ ((old new : List Edge) → PartsTell old new groups metas (now (w .entry)) → Mixed old new (now (given .entry)) k (now (marks .entry)) (now (marks .exit))) ⌝ }
 {
     let size = 1 + groups + metas;
     let mut g = 0;
@@ -49,7 +49,7 @@ pub fn renew(
     marks: &mut [u8],
     w: &mut [u32],
 )
-    requires { ⌜ Sized (now old) on (now new) nn groups metas (length (now w)) ⌝ }
+    requires { ⌜ UpdateSized (now old) on (now new) nn groups metas (length (now w)) ⌝ }
     requires { ⌜ (k ≤ groups) × (k ≤ length (now given)) × (k ≤ length (now marks)) ⌝ }
     ensures { λ _. ⌜ Mixed (edgesTo (now (old .entry)) on) (edgesTo (now (new .entry)) nn) (now (given .entry)) k (now (marks .entry)) (now (marks .exit)) ⌝ }
     ensures { λ _. ⌜ now (w .exit) ≡ replicate (length (now (w .entry))) 0 ⌝ }

@@ -11,14 +11,14 @@ ghost use mathlib.Core.List.{_∷_};
 ghost use Prim.Native.Nat.{ℕ, _+_, _<_};
 ghost use lib.ListN.{length, getD};
 ghost use Rattle.cover_joining.specs.Joining.{Forest, Joined, nodes};
-ghost use Rattle.cover_differing.specs.Walking.{differing, Linked};
+ghost use Rattle.cover_differing.specs.Walking.{differing, GroupsLinked};
 ghost use Rattle.cover_edges.specs.Edges.{edgesTo};
-ghost use Rattle.cover_touched.specs.Touching.{seeds, Sized, Told};
+ghost use Rattle.cover_touched.specs.Touching.{seeds, UpdateSized, PartsTell};
 
 // Makes all tables: each node is a part of its own.
 fn set_up(old: &[u8], on: usize, new: &[u8], nn: usize, groups: usize, metas: usize, w: &mut [u32])
-    requires { ⌜ Sized (now old) on (now new) nn groups metas (length (now w)) ⌝ }
-    ensures { λ _. ⌜ Linked (now (old .entry)) on (now (new .entry)) nn groups metas (now (w .exit)) ⌝ }
+    requires { ⌜ UpdateSized (now old) on (now new) nn groups metas (length (now w)) ⌝ }
+    ensures { λ _. ⌜ GroupsLinked (now (old .entry)) on (now (new .entry)) nn groups metas (now (w .exit)) ⌝ }
     ensures { λ _. ⌜ ((x : ℕ) → x < nodes groups metas → getD (now (w .exit)) (metas + x) 0 ≡ x) ⌝ }
 {
     let size = 1 + groups + metas;
@@ -42,7 +42,7 @@ fn join_if(
     w: &mut [u32],
     g: usize,
 )
-    requires { ⌜ Linked (now old) on (now new) nn groups metas (now w) ⌝ }
+    requires { ⌜ GroupsLinked (now old) on (now new) nn groups metas (now w) ⌝ }
     requires { ⌜ Forest (now w) metas (nodes groups metas) ⌝ }
     requires { ⌜ g < groups ⌝ }
     ensures { λ _. ⌜ Joined (λ links. cond (differing (edgesTo (now (old .entry)) on) (edgesTo (now (new .entry)) nn) g) ((0, 1 + g) ∷ links) links) (now (w .entry)) (now (w .exit)) metas (nodes groups metas) ⌝ }
@@ -63,7 +63,7 @@ fn join_differing(
     metas: usize,
     w: &mut [u32],
 )
-    requires { ⌜ Linked (now old) on (now new) nn groups metas (now w) ⌝ }
+    requires { ⌜ GroupsLinked (now old) on (now new) nn groups metas (now w) ⌝ }
     requires { ⌜ Forest (now w) metas (nodes groups metas) ⌝ }
     ensures { λ _. ⌜ Joined (seeds (differing (edgesTo (now (old .entry)) on) (edgesTo (now (new .entry)) nn)) groups) (now (w .entry)) (now (w .exit)) metas (nodes groups metas) ⌝ }
 {
@@ -84,8 +84,8 @@ pub(crate) fn touch(
     metas: usize,
     w: &mut [u32],
 )
-    requires { ⌜ Sized (now old) on (now new) nn groups metas (length (now w)) ⌝ }
-    ensures { λ _. ⌜ Told (edgesTo (now (old .entry)) on) (edgesTo (now (new .entry)) nn) groups metas (now (w .exit)) ⌝ }
+    requires { ⌜ UpdateSized (now old) on (now new) nn groups metas (length (now w)) ⌝ }
+    ensures { λ _. ⌜ PartsTell (edgesTo (now (old .entry)) on) (edgesTo (now (new .entry)) nn) groups metas (now (w .exit)) ⌝ }
 {
     set_up(old, on, new, nn, groups, metas, w);
     join_edges(old, on, groups, metas, w, metas);

@@ -5,7 +5,7 @@ use mathlib.Core.List.{List}
 use Rattle.cover_spec.specs.Marks.{workNeeded}
 use Rattle.cover_edges.specs.RangeLaws.{InRange}
 
-pub record Fit (bs : List ℕ) (n groups metas marks work : ℕ) : Type 0 where
+pub record RunFits (bs : List ℕ) (n groups metas marks work : ℕ) : Type 0 where
   pub few : n ≤ 1048576
   pub inside : InRange bs n groups metas
   pub some : 1 ≤ groups

@@ -7,7 +7,7 @@ ghost use mathlib.Core.Path.{_≡_};
 ghost use lib.ListN.{length, replicate};
 ghost use Rattle.cover_spec.specs.Cover.{coverList};
 ghost use Rattle.cover_edges.specs.Edges.{edgesTo};
-ghost use Rattle.cover_walk.specs.Tables.{Fit};
+ghost use Rattle.cover_walk.specs.Tables.{RunFits};
 
 // The cover of n edge records, a mark for each group; the work slice is zeros then.
 pub fn cover_into(
@@ -18,7 +18,7 @@ pub fn cover_into(
     marks: &mut [u8],
     work: &mut [u32],
 )
-    requires { ⌜ Fit (now edges) n groups metas (length (now marks)) (length (now work)) ⌝ }
+    requires { ⌜ RunFits (now edges) n groups metas (length (now marks)) (length (now work)) ⌝ }
     ensures { λ _. ⌜ now (marks .exit) ≡ coverList groups (edgesTo (now (edges .entry)) n) ⌝ }
     ensures { λ _. ⌜ now (work .exit) ≡ replicate (length (now (work .entry))) 0 ⌝ }
 {

@@ -1,7 +1,8 @@
 // The levels, from the most edges down: at each the groups that have exactly so many edges left are taken, in their order.
-use cover_index::wide;
 use cover_tables::Areas;
+use cover_tables::size_at;
 use cover_taking::choose;
+use records::wide;
 ghost use Prim.Native.Nat.{ℕ, _+_, _-_, _<_};
 ghost use mathlib.Core.Path.{_≡_};
 ghost use mathlib.Core.Bool.{true, false};
@@ -30,9 +31,7 @@ fn more(edges: &[u8], n: usize, w: &[u32], areas: Areas, d: usize, i: usize) -> 
 {
     if i < areas.groups {
         let c = wide(w[areas.od + i]);
-        let a = wide(w[areas.go + c]);
-        let e = wide(w[areas.go + c + 1]);
-        d <= e - a
+        d <= size_at(w, areas.go + c)
     } else {
         false
     }

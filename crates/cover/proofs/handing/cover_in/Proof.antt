@@ -1,6 +1,9 @@
 -- `cover_in` meets its contract. Assumes nothing.
 use mathlib.Core.Path.{ap, _∙_}
-use lib.ListN.{length, take}
+use Prim.Native.Nat.{ℕ}
+use mathlib.Core.List.{List}
+use lib.ListN.{length}
+use lib.Seq.{sets}
 use Rattle.cover_spec.specs.ListedLaws.{length-cover}
 use Rattle.cover.specs.HandingLaws.{mid-front}
 use borrow.Author.Needs.{needs}
@@ -12,7 +15,7 @@ returns c =
     let a = c .before .before .before .before .before .before .before .before .before .before .before .before .before .before .before .before .before .args in
     let made = c .before .before .before .before .before .before .before .before .before .before .cover-into in
     let m = mid-front (a .groups) (a .all .now) (made .last .1 .1 .1 .1 .0) (ap length (made .ensures .0) ∙ length-cover (a .groups) _) in
-    (c .before .before .copy .ensures ∙ ap (take (length (a .marks .now))) (m ∙ made .ensures .0), made .ensures .1)
+    (c .before .before .put-bytes .ensures ∙ ap (λ (l : List ℕ). sets (a .marks .now) 0 l) (m ∙ made .ensures .0), made .ensures .1)
 
 pub cover-in-spec : {M : Type 1} → statement M
 cover-in-spec =

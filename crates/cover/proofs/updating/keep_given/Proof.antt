@@ -2,7 +2,7 @@ use Prim.Native.Nat.{_≤_, _<_}
 use native.Mathlib.Omega.{arith}
 use mathlib.Core.Logic.{⊎-elim}
 use Rattle.lists.specs.Tests.{below?}
-use Rattle.cover.specs.UpdatingLaws.{sized}
+use Rattle.cover.specs.UpdatingLaws.{update-sized}
 -- `keep_given` meets its contract. Assumes nothing.
 use borrow.Author.Needs.{needs}
 use Rattle.cover.proofs.updating.keep_given.Statement.{statement}
@@ -16,7 +16,7 @@ renew-requires : tie.Need-renew-requires
 renew-requires c κs =
     let st = c .before .before .before .before .before .before .before .before .before in
     let k = c .before .before .before .least .ensures in
-    (sized (st .pre) (positive (c .before .before)), (omega (arith, k), omega (arith, k, st .pre .as-many), omega (arith, k)))
+    (update-sized (st .pre) (positive (c .before .before)), (omega (arith, k), omega (arith, k, st .pre .as-many), omega (arith, k)))
 
 returns-2 : tie.Need-returns-2
 returns-2 c = (rw (c .before .before .before .before .before .before .before .before .least .ensures) at (c .before .before .before .before .renew .ensures .0), c .before .before .before .before .renew .ensures .1)

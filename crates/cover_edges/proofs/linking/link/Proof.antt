@@ -1,16 +1,17 @@
 -- `link` meets its contract. Assumes nothing.
-use Prim.Native.Nat.{ℕ, _-_, _≤_}
+use Prim.Native.Nat.{ℕ, _+_, _-_, _≤_}
 use native.Mathlib.Omega.{arith}
 use mathlib.Core.Path.{_≡_, refl, _∙_}
 use lib.ListN.{length, getD}
 use borrow.Author.Needs.{needs}
-use Rattle.cover_edges.specs.Chains.{Out, Chains}
+use Rattle.lists.specs.FrameLaws.{Out}
+use Rattle.cover_edges.specs.Chains.{Chains}
 use Rattle.cover_edges.specs.ChainLaws.{link-start, link-turn, link-rest}
 use Rattle.cover_edges.proofs.linking.link.Statement.{statement}
 use Rattle.cover_edges.proofs.linking.link.Tie as tie
 
 abbrev Inv-loop : tie.InvT-loop
-Inv-loop b n f w₀ size h nx i₀ w i = (i ≤ n) × (length w ≡ length w₀) × Chains w b f i size h nx × ((j : ℕ) → Out j h size → Out j nx n → getD w j 0 ≡ getD w₀ j 0)
+Inv-loop b n f w₀ size h nx i₀ w i = (i ≤ n) × (length w ≡ length w₀) × Chains w b f i size h nx × ((j : ℕ) → Out j h (h + size) → Out j nx (nx + n) → getD w j 0 ≡ getD w₀ j 0)
 
 abbrev μ-loop : tie.MeasureT-loop
 μ-loop b n f w₀ size h nx i₀ w i = n - i
@@ -42,9 +43,6 @@ loop-again c =
       link-rest (a .w .now) (lp .w) _ (a .edges .now) (a .f) (lp .i) (a .n) (a .size) (a .h) (a .nx) more inside (call .ensures) (lp .inv .3),
     )
 
-same-length : tie.Need-same-length Inv-loop μ-loop
-same-length c = c .before .loop .inv .1
-
 returns : tie.Need-returns Inv-loop μ-loop
 returns c =
     let a = c .before .before .before .before .args in
@@ -54,5 +52,5 @@ returns c =
 
 pub link-spec : {M : Type 1} → statement M
 link-spec =
-    tie.close (tie.spec Inv-loop μ-loop loop-holds link-one-requires (λ c. search needs) (λ c. search needs)
-    loop-again same-length returns)
+    tie.close (tie.spec Inv-loop μ-loop loop-holds link-one-requires (λ c. search needs) (λ c. search needs) loop-again
+    (λ c. c .before .loop .inv .1) returns)

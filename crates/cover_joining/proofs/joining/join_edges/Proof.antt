@@ -25,9 +25,6 @@ join-requires c κs =
     let inside = st .pre .0 .3 (lp .i) (c .before .before .before .loop-test .taken) in
     rw (c .before .before .u32-at .ensures, c .before .u32-at2 .ensures) (lp .inv .3 .forest, (omega (arith, inside), omega (arith, inside), omega arith))
 
-loop-less : tie.Need-loop-less Inv-loop μ-loop
-loop-less c = omega arith
-
 loop-again : tie.Need-loop-again Inv-loop μ-loop
 loop-again c =
     let a = c .before .before .before .before .before .before .before .before .before .before .args in
@@ -35,15 +32,12 @@ loop-again c =
     let e = rw (c .before .before .before .before .before .u32-at .ensures, c .before .before .before .before .u32-at2 .ensures) at (c .before .before .join .ensures) in
     (omega arith, refl, c .before .before .join .kept .0 ∙ lp .inv .2, edges-turn (a .groups) (a .edges .now) (a .w .now) (lp .w) (c .before .before .join .last .0) (a .p) (nodes (a .groups) (a .metas)) (lp .i) (lp .inv .3) e)
 
-same-length : tie.Need-same-length Inv-loop μ-loop
-same-length c = c .before .loop .inv .2
-
 returns : tie.Need-returns Inv-loop μ-loop
 returns c = let e : c .before .loop .i ≡ c .before .before .before .before .args .n = omega arith in rw (← e) (c .before .loop .inv .3)
 
 pub join-edges-spec : {M : Type 1} → statement M
 join-edges-spec =
-    tie.close (tie.spec Inv-loop μ-loop (λ c. search needs) (λ c. search needs) loop-holds (λ c. search needs)
-    (λ c κs. search needs) (λ c. search needs) (λ c. search needs) (λ c. search needs) (λ c κs. search needs)
-    (λ c. search needs) (λ c. search needs) (λ c. search needs) (λ c. search needs) join-requires
-    (λ c. search needs) loop-less loop-again same-length returns)
+    tie.close (tie.spec Inv-loop μ-loop (λ c. search needs) (λ c. search needs) loop-holds (λ c. search needs) (λ c κs. search needs)
+    (λ c. search needs) (λ c. search needs) (λ c. search needs) (λ c κs. search needs) (λ c. search needs) (λ c. search needs)
+    (λ c. search needs) (λ c. search needs) join-requires (λ c. search needs) (λ c. omega arith) loop-again (λ c. c .before .loop .inv .2)
+    returns)

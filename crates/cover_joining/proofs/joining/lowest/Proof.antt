@@ -18,9 +18,6 @@ abbrev μ-loop : tie.MeasureT-loop
 below : (c : tie.In-loop Inv-loop μ-loop) → getD (c .before .loop .w) (c .before .before .before .args .p + c .before .loop .up) 0 < c .before .loop .y
 below c = let a = c .before .before .before .args in let lp = c .before .loop in finding-less (a .w .now) (lp .w) (a .p) (a .n) (a .x) (lp .y) (lp .up) (getD (lp .w) (a .p + lp .up) 0) (lp .inv .1) (c .loop-test .taken) refl
 
-cast-up : tie.Need-cast-up Inv-loop μ-loop
-cast-up c = omega (arith, c .slice-known .given (c .before .args .p + c .before .args .x))
-
 loop-holds : tie.Need-loop-holds Inv-loop μ-loop
 loop-holds c = let a = c .before .args in (refl, finding-start (a .w .now) (a .p) (a .n) (a .x) _ (c .before .pre .0) (c .before .pre .1) refl)
 
@@ -39,9 +36,6 @@ slice-read-up-2 c = simp length-set (omega (arith, below (c .before .before), c 
 cast-up-2 : tie.Need-cast-up-2 Inv-loop μ-loop
 cast-up-2 c = omega (arith, c .slice-known3 .given (c .before .before .before .before .before .args .p + getD (c .before .before .before .loop .w) (c .before .before .before .before .before .args .p + c .before .before .before .loop .up) 0))
 
-loop-less : tie.Need-loop-less Inv-loop μ-loop
-loop-less c = below (c .before .before)
-
 loop-again : tie.Need-loop-again Inv-loop μ-loop
 loop-again c =
     let a = c .before .before .before .before .before .args in
@@ -54,7 +48,7 @@ returns c = let a = c .before .before .before .args in let lp = c .before .loop 
 
 pub lowest-spec : {M : Type 1} → statement M
 lowest-spec =
-    tie.close (tie.spec Inv-loop μ-loop (λ c. search needs) (λ c. search needs) (λ c. search needs) cast-up
-    loop-holds (λ c. search needs) (λ c. search needs) (λ c. search needs) (λ c. search needs) (λ c. search needs)
-    (λ c. search needs) cast-y add-up-2 mul-up-2 slice-read-up-2 cast-up-2 loop-less loop-again
-    (λ c. search needs) returns)
+    tie.close (tie.spec Inv-loop μ-loop (λ c. search needs) (λ c. search needs) (λ c. search needs)
+    (λ c. omega (arith, c .slice-known .given (c .before .args .p + c .before .args .x))) loop-holds (λ c. search needs) (λ c. search needs)
+    (λ c. search needs) (λ c. search needs) (λ c. search needs) (λ c. search needs) cast-y add-up-2 mul-up-2 slice-read-up-2 cast-up-2
+    (λ c. below (c .before .before)) loop-again (λ c. search needs) returns)

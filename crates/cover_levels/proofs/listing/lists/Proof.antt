@@ -1,27 +1,27 @@
 -- `lists` meets its contract. Assumes nothing.
-use native.Mathlib.Omega.{arith}
-use denote.Ref.{now}
 use borrow.Author.Needs.{needs}
-use Rattle.cover_levels.specs.PrepareLaws.{layout-small, group-regions, group-zeros, meta-regions, meta-zeros, listed, layout-kept}
+use Rattle.cover_levels.specs.PrepareLaws.{Layout, layout-kept, layout-small, group-sortable, meta-sortable, lists-made}
 use Rattle.cover_levels.proofs.listing.lists.Statement.{statement}
 use Rattle.cover_levels.proofs.listing.lists.Tie as tie
 
-add-index : tie.Need-add-index
-add-index c = let s = c .before .before .before .before .before .before .before .before in record { fits = layout-small (s .args .areas) (s .args .n) (now (s .args .w)) (s .pre .0) .0 }
+-- the layout, once the edges are gathered
+layout : (c : tie.After-gather) → Layout (c .before .before .before .before .before .before .before .before .args .areas) (c .before .before .before .before .before .before .before .before .args .n) (c .gather .last .1 .1 .0)
+layout c = layout-kept (c .before .before .before .before .before .before .before .before .args .w .now) _ (c .gather .kept .1 .1 .0) (c .before .before .before .before .before .before .before .before .pre .0)
 
-index-requires : tie.Need-index-requires
-index-requires c κs = let s = c .before .before .before .before .before .before .before .before in let g = c .before .before .before .before .gather in (group-regions (s .args .areas) (now (s .args .edges)) (s .args .n) (g .last .1 .1 .0) (layout-kept (s .args .areas) (s .args .n) (now (s .args .w)) (g .last .1 .1 .0) (g .kept .1 .1 .0) (s .pre .0)) (s .pre .1) (g .ensures), group-zeros (s .args .areas) (now (s .args .edges)) (s .args .n) (g .last .1 .1 .0) (layout-kept (s .args .areas) (s .args .n) (now (s .args .w)) (g .last .1 .1 .0) (g .kept .1 .1 .0) (s .pre .0)) (s .pre .1) (g .ensures))
+sort-by-keys-requires : tie.Need-sort-by-keys-requires
+sort-by-keys-requires c κs = group-sortable (layout (c .before .before .before)) (c .before .before .before .before .before .before .before .before .before .before .before .pre .1) (c .before .before .before .gather .ensures)
 
-add-index-2 : tie.Need-add-index-2
-add-index-2 c = let s = c .before .before .before .before .before .before .before .before .before .before .before .before .before in record { fits = layout-small (s .args .areas) (s .args .n) (now (s .args .w)) (s .pre .0) .0 }
-
-index-requires-2 : tie.Need-index-requires-2
-index-requires-2 c κs = let s = c .before .before .before .before .before .before .before .before .before .before .before .before .before in let g = c .before .before .before .before .before .before .before .before .before .gather in let x = c .before .before .before .before .index in (meta-regions (s .args .areas) (now (s .args .edges)) (s .args .n) (g .last .1 .1 .0) (layout-kept (s .args .areas) (s .args .n) (now (s .args .w)) (g .last .1 .1 .0) (g .kept .1 .1 .0) (s .pre .0)) (s .pre .1) (g .ensures) (x .last .0) (x .kept .0) (x .ensures), meta-zeros (s .args .areas) (now (s .args .edges)) (s .args .n) (g .last .1 .1 .0) (layout-kept (s .args .areas) (s .args .n) (now (s .args .w)) (g .last .1 .1 .0) (g .kept .1 .1 .0) (s .pre .0)) (s .pre .1) (g .ensures) (x .last .0) (x .kept .0) (x .ensures))
+sort-by-keys-requires-2 : tie.Need-sort-by-keys-requires-2
+sort-by-keys-requires-2 c κs = let x = c .before .before .before .sort-by-keys in meta-sortable (layout (c .before .before .before .before .before .before .before)) (c .before .before .before .before .before .before .before .before .before .before .before .before .before .before .before .pre .1) (c .before .before .before .before .before .before .before .gather .ensures) (x .ensures) (x .kept .0)
 
 returns : tie.Need-returns
-returns c = let s = c .before .before .before .before .before .before .before .before .before .before .before .before .before .before .before .before in let g = c .before .before .before .before .before .before .before .before .before .before .before .before .gather in let x = c .before .before .before .before .before .before .before .index in listed (s .args .areas) (now (s .args .edges)) (s .args .n) (g .last .1 .1 .0) (layout-kept (s .args .areas) (s .args .n) (now (s .args .w)) (g .last .1 .1 .0) (g .kept .1 .1 .0) (s .pre .0)) (s .pre .1) (g .ensures) (x .last .0) (x .kept .0) (x .ensures) (c .before .before .index2 .last .0) (c .before .before .index2 .ensures)
+returns c =
+    let x = c .before .before .before .before .before .before .sort-by-keys in
+    let y = c .before .before .sort-by-keys2 in
+    lists-made (layout (c .before .before .before .before .before .before .before .before .before .before)) (c .before .before .before .before .before .before .before .before .before .before .before .before .before .before .before .before .before .before .pre .1) (c .before .before .before .before .before .before .before .before .before .before .gather .ensures) (x .ensures) (x .kept .0) (y .ensures) (y .kept .0)
 
 pub lists-spec : {M : Type 1} → statement M
 lists-spec =
-    tie.close (tie.spec (λ c κs. search needs) add-index index-requires add-index-2 index-requires-2
-    (λ c. search needs) returns)
+    tie.close (tie.spec (λ c. record { fits = layout-small (c .before .before .before .pre .0) .0 })
+    (λ c. record { fits = layout-small (c .before .before .before .before .pre .0) .0 }) (λ c. search needs) (λ c. search needs)
+    (λ c κs. search needs) sort-by-keys-requires sort-by-keys-requires-2 (λ c. search needs) returns)

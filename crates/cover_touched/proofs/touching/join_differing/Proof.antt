@@ -4,7 +4,7 @@ use native.Mathlib.Omega.{arith}
 use mathlib.Core.Path.{_≡_, refl, _∙_}
 use lib.ListN.{length}
 use Rattle.cover_joining.specs.Joining.{Joined, nodes}
-use Rattle.cover_differing.specs.Walking.{differing, Linked}
+use Rattle.cover_differing.specs.Walking.{differing, GroupsLinked}
 use Rattle.cover_edges.specs.Edges.{edgesTo}
 use Rattle.cover_touched.specs.Touching.{seeds}
 use Rattle.cover_touched.specs.TouchingLaws.{seeds-start, seeds-turn, seeds-end, linked-same}
@@ -13,7 +13,7 @@ use Rattle.cover_touched.proofs.touching.join_differing.Statement.{stat
 use Rattle.cover_touched.proofs.touching.join_differing.Tie as tie
 
 abbrev Inv-loop : tie.InvT-loop
-Inv-loop old on new nn groups metas w₀ g₀ w g = (g ≤ groups) × (length w ≡ length w₀) × Linked old on new nn groups metas w × Joined (seeds (differing (edgesTo old on) (edgesTo new nn)) g) w₀ w metas (nodes groups metas)
+Inv-loop old on new nn groups metas w₀ g₀ w g = (g ≤ groups) × (length w ≡ length w₀) × GroupsLinked old on new nn groups metas w × Joined (seeds (differing (edgesTo old on) (edgesTo new nn)) g) w₀ w metas (nodes groups metas)
 
 abbrev μ-loop : tie.MeasureT-loop
 μ-loop old on new nn groups metas w₀ g₀ w g = groups - g
@@ -41,13 +41,10 @@ loop-again c =
       seeds-turn (differing (edgesTo (a .old .now) (a .on)) (edgesTo (a .new .now) (a .nn))) (a .w .now) (lp .w) next (a .metas) (nodes (a .groups) (a .metas)) (lp .g) (lp .inv .3) (call .ensures),
     )
 
-same-length : tie.Need-same-length Inv-loop μ-loop
-same-length c = c .before .loop .inv .1
-
 returns : tie.Need-returns Inv-loop μ-loop
 returns c = let a = c .before .before .before .before .before .args in let lp = c .before .loop in seeds-end (differing (edgesTo (a .old .now) (a .on)) (edgesTo (a .new .now) (a .nn))) (a .w .now) (lp .w) (a .metas) (nodes (a .groups) (a .metas)) (lp .g) (a .groups) (omega arith) (lp .inv .3)
 
 pub join-differing-spec : {M : Type 1} → statement M
 join-differing-spec =
-    tie.close (tie.spec Inv-loop μ-loop loop-holds join-if-requires (λ c. search needs) (λ c. search needs)
-    loop-again same-length returns)
+    tie.close (tie.spec Inv-loop μ-loop loop-holds join-if-requires (λ c. search needs) (λ c. search needs) loop-again
+    (λ c. c .before .loop .inv .1) returns)

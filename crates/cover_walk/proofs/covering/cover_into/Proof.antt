@@ -8,7 +8,7 @@ use borrow.Author.Needs.{needs}
 use Rattle.lists.specs.Lists.{bit}
 use Rattle.cover_spec.specs.Cover.{coverList}
 use Rattle.cover_spec.specs.ListedLaws.{listed-ext}
-use Rattle.cover_walk.specs.RunLaws.{room, nothing-marked}
+use Rattle.cover_walk.specs.RunLaws.{table-room, nothing-marked}
 use Rattle.cover_walk.proofs.covering.cover_into.Statement.{statement}
 use Rattle.cover_walk.proofs.covering.cover_into.Tie as tie
 
@@ -23,7 +23,7 @@ run-requires : tie.Need-run-requires
 run-requires c κs =
     let s = c .before .before .before .before .before in
     let p : 0 < s .args .n = omega (arith, c .before .if1 .left) in
-    let r = room (s .pre) p in
+    let r = table-room (s .pre) p in
     (s .pre .inside, p, s .pre .few, r .fits, r .narrow)
 
 returns-2 : tie.Need-returns-2

@@ -3,11 +3,6 @@ use borrow.Author.Tests.{eq-eqb, ne-eqb}
 use Rattle.cover_walk.proofs.marking.mark.Statement.{statement}
 use Rattle.cover_walk.proofs.marking.mark.Tie as tie
 
-returns : tie.Need-returns
-returns c = rw (eq-eqb (c .before .args .x) 1 (c .if1 .taken))
-
-returns-2 : tie.Need-returns-2
-returns-2 c = rw (ne-eqb (c .before .args .x) 1 (c .if1 .left))
-
 pub mark-spec : {M : Type 1} → statement M
-mark-spec = tie.close (tie.spec returns returns-2)
+mark-spec =
+    tie.close (tie.spec (λ c. rw (eq-eqb (c .before .args .x) 1 (c .if1 .taken))) (λ c. rw (ne-eqb (c .before .args .x) 1 (c .if1 .left))))

@@ -16,22 +16,13 @@ Inv-loop bs k w₀ areas top d₀ w d = (length w ≡ length w₀) × Levels are
 abbrev μ-loop : tie.MeasureT-loop
 μ-loop bs k w₀ areas top d₀ w d = d
 
-loop-holds : tie.Need-loop-holds Inv-loop μ-loop
-loop-holds c = (refl, c .before .before .pre)
-
-sweep-requires : tie.Need-sweep-requires Inv-loop μ-loop
-sweep-requires c κs = (c .before .before .loop .inv .1, omega arith)
-
 loop-again : tie.Need-loop-again Inv-loop μ-loop
 loop-again c = (c .before .before .sweep .kept .1 .1 .0 ∙ c .before .before .before .before .before .loop .inv .0, c .before .before .sweep .ensures)
-
-same-length : tie.Need-same-length Inv-loop μ-loop
-same-length c = c .before .loop .inv .0
 
 returns : tie.Need-returns Inv-loop μ-loop
 returns c = let s = c .before .before .before .before in levels-end (s .args .areas) (edgesTo (now (s .args .edges)) (s .args .n)) (c .before .loop .w) 0 (subst (λ (x : ℕ). Levels (s .args .areas) (edgesTo (now (s .args .edges)) (s .args .n)) x 0 (c .before .loop .w)) (omega arith) (c .before .loop .inv .1))
 
 pub descend-spec : {M : Type 1} → statement M
 descend-spec =
-    tie.close (tie.spec Inv-loop μ-loop loop-holds sweep-requires (λ c. search needs) (λ c. search needs)
-    loop-again same-length returns)
+    tie.close (tie.spec Inv-loop μ-loop (λ c. (refl, c .before .before .pre)) (λ c κs. (c .before .before .loop .inv .1, omega arith))
+    (λ c. search needs) (λ c. search needs) loop-again (λ c. c .before .loop .inv .0) returns)

@@ -11,24 +11,18 @@ use Rattle.cover_walk.proofs.walking.step.Statement.{statement}
 use Rattle.cover_walk.proofs.walking.step.Tie as tie
 
 inside : (c : tie.After-wide) → c .wide .result < length (now (c .before .before .before .before .before .args .w))
-inside c = let s = c .before .before .before .before .before in rw (c .wide .ensures) (group-inside (s .args .areas) (edgesTo (now (s .args .edges)) (s .args .n)) (now (s .args .w)) (s .args .d) (s .args .i) (s .pre .0) (s .pre .1))
-
-mul-wide-2 : tie.Need-mul-wide-2
-mul-wide-2 c = omega (arith, inside c)
-
-slice-read-wide-2 : tie.Need-slice-read-wide-2
-slice-read-wide-2 c = inside (c .before)
+inside c = let s = c .before .before .before .before .before in rw (c .wide .ensures .0) (group-inside (s .args .areas) (edgesTo (now (s .args .edges)) (s .args .n)) (now (s .args .w)) (s .args .d) (s .args .i) (s .pre .0) (s .pre .1))
 
 choose-requires : tie.Need-choose-requires
-choose-requires c κs = let s = c .before .before .before .before .before .before .before .before .before in (s .pre .0 .walk, rw (c .before .before .before .before .wide .ensures) (place-group (s .args .areas) (edgesTo (now (s .args .edges)) (s .args .n)) (now (s .args .w)) (s .args .d) (s .args .i) (s .pre .0) (s .pre .1)))
+choose-requires c κs = let s = c .before .before .before .before .before .before .before .before .before in (s .pre .0 .walk, rw (c .before .before .before .before .wide .ensures .0) (place-group (s .args .areas) (edgesTo (now (s .args .edges)) (s .args .n)) (now (s .args .w)) (s .args .d) (s .args .i) (s .pre .0) (s .pre .1)))
 
 returns : tie.Need-returns
-returns c = let s = c .before .before .before .before .before .before .before .before .before .before .before .before in levels-take (s .args .areas) (edgesTo (now (s .args .edges)) (s .args .n)) (now (s .args .w)) (s .args .d) (s .args .i) (s .pre .0) (s .pre .1) (s .pre .2) (ap (λ (x : ℕ). getD (now (s .args .w)) x 0) (sym (c .before .before .before .before .before .before .before .wide .ensures)) ∙ sym (c .before .before .before .before .before .wide2 .ensures) ∙ c .before .before .before .before .if1 .taken) (c .before .before .choose .last .1 .1 .0) (rw (← c .before .before .before .before .before .before .before .wide .ensures) (c .before .before .choose .ensures))
+returns c = let s = c .before .before .before .before .before .before .before .before .before .before .before .before in levels-take (s .args .areas) (edgesTo (now (s .args .edges)) (s .args .n)) (now (s .args .w)) (s .args .d) (s .args .i) (s .pre .0) (s .pre .1) (s .pre .2) (ap (λ (x : ℕ). getD (now (s .args .w)) x 0) (sym (c .before .before .before .before .before .before .before .wide .ensures .0)) ∙ sym (c .before .before .before .before .before .wide2 .ensures .0) ∙ c .before .before .before .before .if1 .taken) (c .before .before .choose .last .1 .1 .0) (rw (← c .before .before .before .before .before .before .before .wide .ensures .0) (c .before .before .choose .ensures))
 
 returns-2 : tie.Need-returns-2
-returns-2 c = let s = c .before .before .before .before .before .before .before .before in levels-pass (s .args .areas) (edgesTo (now (s .args .edges)) (s .args .n)) (now (s .args .w)) (s .args .d) (s .args .i) (s .pre .0) (s .pre .1) (λ q. c .if1 .left (c .before .wide2 .ensures ∙ ap (λ (x : ℕ). getD (now (s .args .w)) x 0) (c .before .before .before .wide .ensures) ∙ q))
+returns-2 c = let s = c .before .before .before .before .before .before .before .before in levels-pass (s .args .areas) (edgesTo (now (s .args .edges)) (s .args .n)) (now (s .args .w)) (s .args .d) (s .args .i) (s .pre .0) (s .pre .1) (λ q. c .if1 .left (c .before .wide2 .ensures .0 ∙ ap (λ (x : ℕ). getD (now (s .args .w)) x 0) (c .before .before .before .wide .ensures .0) ∙ q))
 
 pub step-spec : {M : Type 1} → statement M
 step-spec =
-    tie.close (tie.spec (λ c. search needs) (λ c. search needs) (λ c. search needs) (λ c κs. search needs)
-    mul-wide-2 slice-read-wide-2 (λ c κs. search needs) choose-requires (λ c. search needs) returns returns-2)
+    tie.close (tie.spec (λ c. search needs) (λ c. search needs) (λ c. search needs) (λ c κs. search needs) (λ c. omega (arith, inside c))
+    (λ c. inside (c .before)) (λ c κs. search needs) choose-requires (λ c. search needs) returns returns-2)

@@ -15,12 +15,6 @@ Inv-loop bs k w₀ areas d i₀ w i = (length w ≡ length w₀) × (i ≤ areas
 abbrev μ-loop : tie.MeasureT-loop
 μ-loop bs k w₀ areas d i₀ w i = areas .groups - i
 
-loop-holds : tie.Need-loop-holds Inv-loop μ-loop
-loop-holds c = (refl, omega arith, c .before .before .pre .0)
-
-more-requires : tie.Need-more-requires Inv-loop μ-loop
-more-requires c κs = c .before .loop .inv .2 .walk
-
 step-requires : tie.Need-step-requires Inv-loop μ-loop
 step-requires c κs = (c .before .before .before .before .loop .inv .2, c .before .before .more .ensures .0 (c .before .if1 .taken), c .before .before .before .before .before .before .before .pre .1)
 
@@ -33,23 +27,10 @@ loop-less c = omega (arith, c .before .before .before .before .before .more .ens
 loop-again : tie.Need-loop-again Inv-loop μ-loop
 loop-again c = (c .before .before .step .kept .1 .1 .0 ∙ c .before .before .before .before .before .before .before .loop .inv .0, omega (arith, c .before .before .before .before .before .more .ensures .0 (c .before .before .before .before .if1 .taken)), c .before .before .step .ensures)
 
-same-length : tie.Need-same-length Inv-loop μ-loop
-same-length c = c .before .before .before .loop .inv .0
-
 returns : tie.Need-returns Inv-loop μ-loop
 returns c = let s = c .before .before .before .before .before .before in levels-down (s .args .areas) (edgesTo (now (s .args .edges)) (s .args .n)) (c .before .before .before .loop .w) (s .args .d) (c .before .before .before .loop .i) (c .before .before .before .loop .inv .2) (s .pre .1) (c .before .more .ensures .1 (c .if1 .left))
 
 pub sweep-spec : {M : Type 1} → statement M
 sweep-spec =
-    tie.close
-    (tie.spec
-    Inv-loop
-    μ-loop
-    loop-holds
-    more-requires
-    step-requires
-    add-i
-    loop-less
-    loop-again
-    same-length
-    returns)
+    tie.close (tie.spec Inv-loop μ-loop (λ c. (refl, omega arith, c .before .before .pre .0)) (λ c κs. c .before .loop .inv .2 .walk)
+    step-requires add-i loop-less loop-again (λ c. c .before .before .before .loop .inv .0) returns)
