@@ -6,7 +6,7 @@ use mathlib.Core.List.{List, [], _∷_, _++_, flatten, map}
 use lib.ListN.{replicate}
 use Rattle.protein_groups_tests.specs.Testing.{firstBadPair, firstBadFlag}
 use Rattle.records.specs.Le.{le, numberAt}
-use Rattle.records.specs.Cases.{Case, Hold, refused}
+use Rattle.records.specs.Cases.{Case, Hold, refusedAs}
 use Rattle.records.specs.Outcome.{Outcome}
 use Rattle.records.specs.Refusals.{numberOf, placeOf}
 use Rattle.records.specs.Room.{written}
@@ -16,18 +16,18 @@ use Rattle.protein_groups_members.specs.Members.{memberBytes}
 use Rattle.protein_groups_spec.specs.ProteinGroups.{proteins, metas, groupsOf, grouping}
 use Rattle.protein_groups.specs.declared.grouping.Grouped.{Grouped}
 use Rattle.protein_groups.specs.declared.grouping.Grouped.the-variants.{Made, Refused}
-use Rattle.protein_groups.specs.ProteinGrouping.{groupOutcome}
+use Rattle.protein_groups.specs.ProteinGrouping.{proteinGroupsOutcome}
 
 -- groups, meta-peptides, edges, members; refusal 0 is none
 abbrev pub made : ℕ → ℕ → ℕ → ℕ → List ℕ
 made groups metas edges members = 0 ∷ 0 ∷ groups ∷ metas ∷ edges ∷ members ∷ []
 
-abbrev pub numbers : Grouped → List ℕ
-numbers (Made s) = made (s .groups) (s .metas) (s .edges) (s .members)
-numbers (Refused why) = refused (numberOf why) (placeOf why)
+abbrev pub groupedNumbers : Grouped → List ℕ
+groupedNumbers (Made s) = made (s .groups) (s .metas) (s .edges) (s .members)
+groupedNumbers (Refused why) = refusedAs (numberOf why) (placeOf why)
 
-abbrev pub told : Outcome Grouped → List (List ℕ)
-told o = numbers (o .answer) ∷ o .lent
+abbrev pub groupedTold : Outcome Grouped → List (List ℕ)
+groupedTold o = groupedNumbers (o .answer) ∷ o .lent
 
 pair : ℕ × ℕ → List ℕ
 pair q = le 4 (q .0) ++ le 4 (q .1)
@@ -38,7 +38,7 @@ member group protein decoy = le 4 group ++ (le 4 protein ++ (decoy ∷ 0 ∷ 0 �
 -- so many words of work memory that hold 7, so many bytes 170 for edges and 171 for members
 call : List ℕ → List ℕ → ℕ → ℕ → ℕ → ℕ → ℕ → List ℕ → List ℕ → List ℕ → List ℕ → Case
 call pairs flags peptides proteins words edges members answer work edges′ members′ = record {
-  got = told (groupOutcome pairs flags peptides proteins (replicate words 7) (replicate edges 170) (replicate members 171));
+  got = groupedTold (proteinGroupsOutcome pairs flags peptides proteins (replicate words 7) (replicate edges 170) (replicate members 171));
   want = answer ∷ work ∷ edges′ ∷ members′ ∷ [];
 }
 
@@ -72,23 +72,23 @@ table =
     ∷ call [] (0 ∷ 1 ∷ []) 2 0 8 1 1 (made 0 0 0 0) (replicate 8 0) (170 ∷ []) (171 ∷ [])
     ∷ call [] [] 0 0 0 0 0 (made 0 0 0 0) [] [] []
     -- 11: no room for the fourth edge, or for the third member; both lists hold what fits
-    ∷ call p10 flags4 4 13 156 31 36 (refused 11 0) (replicate 156 0) (pair (0, 0) ++ (pair (1, 0) ++ (pair (1, 1) ++ replicate 7 170))) (member 0 11 0 ++ (member 1 10 0 ++ member 2 12 0))
-    ∷ call p10 flags4 4 13 156 32 35 (refused 11 0) (replicate 156 0) (pair (0, 0) ++ (pair (1, 0) ++ (pair (1, 1) ++ pair (2, 1)))) (member 0 11 0 ++ (member 1 10 0 ++ replicate 11 171))
+    ∷ call p10 flags4 4 13 156 31 36 (refusedAs 11 0) (replicate 156 0) (pair (0, 0) ++ (pair (1, 0) ++ (pair (1, 1) ++ replicate 7 170))) (member 0 11 0 ++ (member 1 10 0 ++ member 2 12 0))
+    ∷ call p10 flags4 4 13 156 32 35 (refusedAs 11 0) (replicate 156 0) (pair (0, 0) ++ (pair (1, 0) ++ (pair (1, 1) ++ pair (2, 1)))) (member 0 11 0 ++ (member 1 10 0 ++ replicate 11 171))
     -- 1: 262,145 peptides, 65,537 proteins; before 8
-    ∷ kept [] [] 262145 0 0 0 0 (refused 1 0)
-    ∷ kept (0 ∷ []) [] 0 65537 0 0 0 (refused 1 0)
+    ∷ kept [] [] 262145 0 0 0 0 (refusedAs 1 0)
+    ∷ kept (0 ∷ []) [] 0 65537 0 0 0 (refusedAs 1 0)
     -- 8: a byte more than a pair, a flag too few, a flag too many; before 10
-    ∷ kept (0 ∷ two) (0 ∷ 0 ∷ []) 2 1 28 16 24 (refused 8 0)
-    ∷ kept two (0 ∷ []) 2 1 28 16 24 (refused 8 0)
-    ∷ kept two (0 ∷ 0 ∷ 0 ∷ []) 2 1 0 16 24 (refused 8 0)
+    ∷ kept (0 ∷ two) (0 ∷ 0 ∷ []) 2 1 28 16 24 (refusedAs 8 0)
+    ∷ kept two (0 ∷ []) 2 1 28 16 24 (refusedAs 8 0)
+    ∷ kept two (0 ∷ 0 ∷ 0 ∷ []) 2 1 0 16 24 (refusedAs 8 0)
     -- 10 with a word too few; before 9
-    ∷ kept two (0 ∷ 0 ∷ []) 2 1 27 16 24 (refused 10 0)
-    ∷ kept two (0 ∷ 2 ∷ []) 2 0 19 16 24 (refused 10 0)
+    ∷ kept two (0 ∷ 0 ∷ []) 2 1 27 16 24 (refusedAs 10 0)
+    ∷ kept two (0 ∷ 2 ∷ []) 2 0 19 16 24 (refusedAs 10 0)
     -- 9: at pair 1 no such peptide, or no such protein; at flag 1 a 2, after the pairs
-    ∷ kept two (0 ∷ []) 1 1 24 16 24 (refused 9 1)
-    ∷ kept (pairs ((0, 0) ∷ (1, 1) ∷ [])) (0 ∷ 2 ∷ []) 2 1 28 16 24 (refused 9 1)
-    ∷ kept (pairs ((0, 1) ∷ (1, 1) ∷ [])) (0 ∷ 2 ∷ []) 2 1 28 16 24 (refused 9 0)
-    ∷ kept two (0 ∷ 2 ∷ []) 2 1 28 16 24 (refused 9 1)
+    ∷ kept two (0 ∷ []) 1 1 24 16 24 (refusedAs 9 1)
+    ∷ kept (pairs ((0, 0) ∷ (1, 1) ∷ [])) (0 ∷ 2 ∷ []) 2 1 28 16 24 (refusedAs 9 1)
+    ∷ kept (pairs ((0, 1) ∷ (1, 1) ∷ [])) (0 ∷ 2 ∷ []) 2 1 28 16 24 (refusedAs 9 0)
+    ∷ kept two (0 ∷ 2 ∷ []) 2 1 28 16 24 (refusedAs 9 1)
     ∷ []
 
 pub cases : Hold table

@@ -20,19 +20,19 @@ sizesOf g = record { groups = g .groups; metas = g .metas; edges = length (g .ed
 
 -- how many groups, meta-peptides, edges and members there are, or 11: one of the two lists has no room; the work memory zero, and of
 -- both lists the first that fit
-abbrev pub listed : Groups → List ℕ → List ℕ → List ℕ → Outcome Grouped
-listed g work edges members =
+abbrev pub proteinsGrouped : Groups → List ℕ → List ℕ → List ℕ → Outcome Grouped
+proteinsGrouped g work edges members =
     let es = map edgeBytes (g .edges) in
     let ms = map memberBytes (g .members) in
     outcome (cond (fits 8 1048576 edges es && fits 12 131072 members ms) (Made (sizesOf g)) (No Room))
     (replicate (length work) 0 ∷ fitted 8 1048576 edges es ∷ fitted 12 131072 members ms ∷ [])
 
-abbrev pub groupOutcome : List ℕ → List ℕ → ℕ → ℕ → List ℕ → List ℕ → List ℕ → Outcome Grouped
-groupOutcome pairs flags peptides proteins work edges members =
+abbrev pub proteinGroupsOutcome : List ℕ → List ℕ → ℕ → ℕ → List ℕ → List ℕ → List ℕ → Outcome Grouped
+proteinGroupsOutcome pairs flags peptides proteins work edges members =
     unlessRefused (tested pairs flags peptides proteins (length work)) No (work ∷ edges ∷ members ∷ [])
-    (listed (grouping flags peptides (pairsIn pairs)) work edges members)
+    (proteinsGrouped (grouping flags peptides (pairsIn pairs)) work edges members)
 
 -- no second answer and no second contents meet the contract of `group_proteins`
-pub group-only : (pairs flags : List ℕ) (peptides proteins : ℕ) (work edges members : List ℕ) (r q : Grouped) (k l : List (List ℕ))
-    → outcome r k ≡ groupOutcome pairs flags peptides proteins work edges members → outcome q l ≡ groupOutcome pairs flags peptides proteins work edges members → (r ≡ q) × (k ≡ l)
-group-only pairs flags peptides proteins work edges members r q k l = only r q k l (groupOutcome pairs flags peptides proteins work edges members)
+pub protein-groups-only : (pairs flags : List ℕ) (peptides proteins : ℕ) (work edges members : List ℕ) (r q : Grouped) (k l : List (List ℕ))
+    → outcome r k ≡ proteinGroupsOutcome pairs flags peptides proteins work edges members → outcome q l ≡ proteinGroupsOutcome pairs flags peptides proteins work edges members → (r ≡ q) × (k ≡ l)
+protein-groups-only pairs flags peptides proteins work edges members r q k l = only r q k l (proteinGroupsOutcome pairs flags peptides proteins work edges members)

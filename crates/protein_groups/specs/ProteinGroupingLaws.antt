@@ -19,7 +19,7 @@ use Rattle.protein_groups_members.specs.Members.{Member, memberBytes}
 use Rattle.protein_groups_spec.specs.ProteinGroups.{Groups, shown, paired, proteins, metas, groupsOf, grouping}
 use Rattle.protein_groups.specs.declared.grouping.Grouped.{Grouped}
 use Rattle.protein_groups.specs.declared.grouping.Grouped.the-variants.{Made, Refused as No}
-use Rattle.protein_groups.specs.ProteinGrouping.{listed}
+use Rattle.protein_groups.specs.ProteinGrouping.{proteinsGrouped}
 
 -- ---- the answer
 
@@ -27,7 +27,7 @@ module _ (g : Groups) (work edges members : List ℕ) where
   pub left-listed : (es : List Edge) (ms : List Member) (groups metas e m : ℕ) (r : Grouped) → es ≡ g .edges → ms ≡ g .members → groups ≡ g .groups → metas ≡ g .metas
       → length es ≡ e → length ms ≡ m
       → r ≡ cond (leb e (min (length edges / 8) 1048576) && leb m (min (length members / 12) 131072)) (Made (record { groups = groups; metas = metas; edges = e; members = m })) (No Room)
-      → outcome r (replicate (length work) 0 ∷ fitted 8 1048576 edges (map edgeBytes es) ∷ fitted 12 131072 members (map memberBytes ms) ∷ []) ≡ listed g work edges members
+      → outcome r (replicate (length work) 0 ∷ fitted 8 1048576 edges (map edgeBytes es) ∷ fitted 12 131072 members (map memberBytes ms) ∷ []) ≡ proteinsGrouped g work edges members
   left-listed es ms groups metas e m r p q s t u v a =
       let x : length (map edgeBytes (g .edges)) ≡ e = length-map (g .edges) edgeBytes ∙ sym (ap length p) ∙ u in
       let y : length (map memberBytes (g .members)) ≡ m = length-map (g .members) memberBytes ∙ sym (ap length q) ∙ v in
@@ -52,7 +52,7 @@ unfolding grouping proteins metas groupsOf flatten
 none-grouped flags peptides = rw (none-shown flags 0 peptides, none-take 0 peptides)
 
 pub none-listed : (flags : List ℕ) (peptides : ℕ) (work edges members : List ℕ)
-    → outcome (Made (record { groups = 0; metas = 0; edges = 0; members = 0 })) (replicate (length work) 0 ∷ edges ∷ members ∷ []) ≡ listed (grouping flags peptides []) work edges members
+    → outcome (Made (record { groups = 0; metas = 0; edges = 0; members = 0 })) (replicate (length work) 0 ∷ edges ∷ members ∷ []) ≡ proteinsGrouped (grouping flags peptides []) work edges members
 none-listed flags peptides work edges members =
     let x : leb 0 (roomOf 8 1048576 edges) ≡ true = le-leb 0 (roomOf 8 1048576 edges) (omega arith) in
     let y : leb 0 (roomOf 12 131072 members) ≡ true = le-leb 0 (roomOf 12 131072 members) (omega arith) in

@@ -6,7 +6,7 @@ use mathlib.Core.List.{List, flatten, map}
 use native.Mathlib.Omega.{arith}
 use lib.ListN.{length, length-map}
 use Rattle.protein_groups_tests.specs.Testing.{tested}
-use Rattle.protein_groups_tests.specs.TestingLaws.{Ready, ready}
+use Rattle.protein_groups_tests.specs.TestingLaws.{PairsReady, pairs-ready}
 use Rattle.lists.specs.Lists.{In, upFrom, bit}
 use Rattle.lists.specs.RowLaws.{length-up, up-in}
 use Rattle.lists.specs.InLaws.{map-in}
@@ -18,9 +18,9 @@ use Rattle.protein_groups_members.specs.Members.{Member, memberBytes, firstBadM
 use Rattle.protein_groups_members.specs.MemberLaws.{members-accepted}
 use Rattle.protein_groups_spec.specs.ProteinGroups.{Pair, pairAt, pairsIn, Groups, grouping}
 use Rattle.protein_groups_spec.specs.Standing.{standing, membersOf, seenAs, showing, Reached}
-use Rattle.protein_groups_spec.specs.PackedGroups.{seen, packedGrouping}
+use Rattle.protein_groups_spec.specs.PackedGroups.{packedSeen, packedGrouping}
 use Rattle.protein_groups_spec.specs.PackingLaws.{packed-grouping}
-use Rattle.protein_groups_spec.specs.TheoremLaws.{Fit, all-members}
+use Rattle.protein_groups_spec.specs.TheoremLaws.{PairsFit, all-members}
 use Rattle.protein_groups_spec.specs.GroupingLaws as laws
 use Rattle.protein_groups_spec.specs.SizeLaws.{few-groups, few-metas, few-edges, few-members}
 
@@ -32,8 +32,8 @@ module _ (pairs flags : List ℕ) (peptides proteins words : ℕ) (p : tested pa
   abbrev G : Groups
   G = grouping flags peptides (pairsIn pairs)
 
-  known : Ready pairs flags peptides proteins words
-  known = ready pairs flags peptides proteins words p
+  known : PairsReady pairs flags peptides proteins words
+  known = pairs-ready pairs flags peptides proteins words p
 
   inside : (q : Pair) → In q qs → (q .peptide < peptides) × (q .protein < proteins)
   inside q i =
@@ -41,7 +41,7 @@ module _ (pairs flags : List ℕ) (peptides proteins words : ℕ) (p : tested pa
       let u = up-in k 0 (length pairs / 8) j in
       rw e (known .inside k (omega arith))
 
-  fit : Fit flags peptides qs
+  fit : PairsFit flags peptides qs
   fit = record { flag = λ i l. known .bits i; below = λ q i. inside q i .0 }
 
   as-packed : grouping flags peptides qs ≡ packedGrouping flags peptides qs
@@ -68,7 +68,7 @@ module _ (pairs flags : List ℕ) (peptides proteins words : ℕ) (p : tested pa
 
   -- ---- sizes
 
-  seen-below : (q : Pair) → In q qs → seen flags q < 2 * proteins
+  seen-below : (q : Pair) → In q qs → packedSeen flags q < 2 * proteins
   seen-below q i = omega (arith, inside q i .1, known .bits (q .peptide))
 
   pairs-count : length qs ≡ length pairs / 8

@@ -1,7 +1,9 @@
 // The groups of proteins, as records of lent buffers.
+use crate::arranging::Stands;
 use crate::arranging::hand_out;
 use crate::arranging::set_up;
 use protein_groups_tables::group_in;
+use protein_groups_tables::keys_at;
 use protein_groups_tests::tested;
 use records::Refusal;
 use records::Tested;
@@ -10,14 +12,13 @@ use records::room_for;
 ghost use mathlib.Core.Path.{_≡_};
 ghost use mathlib.Core.Bool.{cond, _&&_};
 ghost use mathlib.Core.List.{[], _∷_};
-ghost use Prim.Native.Nat.{_+_, _*_, _/_, _≤_, min};
+ghost use Prim.Native.Nat.{_/_, _≤_, min};
 ghost use lib.Dec.{leb};
 ghost use lib.ListN.{length};
-ghost use Rattle.protein_groups_tests.specs.TestingLaws.{Ready};
+ghost use Rattle.protein_groups_tests.specs.TestingLaws.{PairsReady};
 ghost use Rattle.records.specs.Outcome.{outcome};
 ghost use Rattle.protein_groups_spec.specs.ProteinGroups.{pairsIn, grouping};
-ghost use Rattle.protein_groups_tables.specs.Placed.{keysAt};
-ghost use Rattle.protein_groups.specs.ProteinGrouping.{listed, groupOutcome};
+ghost use Rattle.protein_groups.specs.ProteinGrouping.{proteinsGrouped, proteinGroupsOutcome};
 
 // How many groups, meta-peptides, edges and members there are.
 pub struct Sizes {
@@ -54,15 +55,6 @@ fn answer(groups: u32, metas: u32, e: usize, m: usize, edges: usize, members: us
     }
 }
 
-// Where n pairs are placed in the work memory.
-fn keys_at(k: usize, peptides: u32, n: usize) -> usize
-    requires { ⌜ (k ≤ 131072) × (n ≤ 1048576) ⌝ }
-    ensures { λ r. ⌜ r ≡ keysAt k peptides n ⌝ }
-{
-    let m = peptides as usize;
-    4 * k + 3 * m + n + 4
-}
-
 // Groups at least one pair, all in order.
 fn group_some(
     pairs: &[u8],
@@ -73,8 +65,8 @@ fn group_some(
     edges: &mut [u8],
     members: &mut [u8],
 ) -> Grouped
-    requires { ⌜ Ready (now pairs) (now flags) peptides proteins (length (now work)) × (8 ≤ length (now pairs)) ⌝ }
-    ensures { λ r. ⌜ outcome r (now (work .exit) ∷ now (edges .exit) ∷ now (members .exit) ∷ []) ≡ listed (grouping (now (flags .entry)) peptides (pairsIn (now (pairs .entry)))) (now (work .entry)) (now (edges .entry)) (now (members .entry)) ⌝ }
+    requires { ⌜ PairsReady (now pairs) (now flags) peptides proteins (length (now work)) × (8 ≤ length (now pairs)) ⌝ }
+    ensures { λ r. ⌜ outcome r (now (work .exit) ∷ now (edges .exit) ∷ now (members .exit) ∷ []) ≡ proteinsGrouped (grouping (now (flags .entry)) peptides (pairsIn (now (pairs .entry)))) (now (work .entry)) (now (edges .entry)) (now (members .entry)) ⌝ }
 {
     let n = pairs.len() / 8;
     let left = proteins as usize;
@@ -84,7 +76,15 @@ fn group_some(
     let open = members.len();
     set_up(pairs, flags, work, a, n);
     let made = group_in(work, k, peptides, n);
-    hand_out(work, a, a + n, made.edges, k, made.members, edges, members);
+    let stands = Stands {
+        metas: a,
+        groups: a + n,
+        edges: made.edges,
+        order: k,
+        ranks: 2 * k,
+        members: made.members,
+    };
+    hand_out(work, stands, edges, members);
     answer(
         made.groups,
         made.metas,
@@ -105,8 +105,8 @@ fn group_passed(
     edges: &mut [u8],
     members: &mut [u8],
 ) -> Grouped
-    requires { ⌜ Ready (now pairs) (now flags) peptides proteins (length (now work)) ⌝ }
-    ensures { λ r. ⌜ outcome r (now (work .exit) ∷ now (edges .exit) ∷ now (members .exit) ∷ []) ≡ listed (grouping (now (flags .entry)) peptides (pairsIn (now (pairs .entry)))) (now (work .entry)) (now (edges .entry)) (now (members .entry)) ⌝ }
+    requires { ⌜ PairsReady (now pairs) (now flags) peptides proteins (length (now work)) ⌝ }
+    ensures { λ r. ⌜ outcome r (now (work .exit) ∷ now (edges .exit) ∷ now (members .exit) ∷ []) ≡ proteinsGrouped (grouping (now (flags .entry)) peptides (pairsIn (now (pairs .entry)))) (now (work .entry)) (now (edges .entry)) (now (members .entry)) ⌝ }
 {
     if pairs.len() < 8 {
         clear(work);
@@ -131,7 +131,7 @@ pub fn group_proteins(
     edges: &mut [u8],
     members: &mut [u8],
 ) -> Grouped
-    ensures { λ r. ⌜ outcome r (now (work .exit) ∷ now (edges .exit) ∷ now (members .exit) ∷ []) ≡ groupOutcome (now (pairs .entry)) (now (flags .entry)) peptides proteins (now (work .entry)) (now (edges .entry)) (now (members .entry)) ⌝ }
+    ensures { λ r. ⌜ outcome r (now (work .exit) ∷ now (edges .exit) ∷ now (members .exit) ∷ []) ≡ proteinGroupsOutcome (now (pairs .entry)) (now (flags .entry)) peptides proteins (now (work .entry)) (now (edges .entry)) (now (members .entry)) ⌝ }
 {
     let found = tested(pairs, flags, peptides, proteins, work.len());
     match found {

@@ -1,22 +1,20 @@
 -- Records written one after the other. Assumes nothing.
 use Prim.Native.Nat.{ℕ, suc, _+_, _-_, _/_, _%_, _≤_, _<_}
-use mathlib.Core.Path.{_≡_, sym, ap, _∙_}
+use mathlib.Core.Path.{_≡_, refl, sym, ap, _∙_}
 use mathlib.Core.List.{List, [], _∷_, _++_, map}
 use native.Mathlib.Omega.{arith}
 use native.Mathlib.Numerals.{add-one}
 use lib.ListN.{length}
 use lib.Seq.{sets}
 use Rattle.protein_groups_spec.specs.Rows.{memberOf}
-use Rattle.protein_groups_members.specs.MemberLaws.{sized-members}
-use Rattle.cover_edges.specs.BackLaws.{sized-edges}
 use Rattle.lists.specs.Lists.{upFrom}
 use Rattle.records.specs.Le.{le}
 use Rattle.records.specs.LeLaws.{sets-append}
 use Rattle.records.specs.Room.{fitted}
-use Rattle.records.specs.StoreLaws.{stored, storedFrom, stored-all}
-use Rattle.cover_spec.specs.Cover.{Edge}
+use Rattle.records.specs.RoomLaws.{Sized}
+use Rattle.records.specs.StoreLaws.{stored, storedFrom, stored-all, length-stored}
 use Rattle.cover_edges.specs.Edges.{edgeBytes}
-use Rattle.protein_groups_members.specs.Members.{Member, memberBytes}
+use Rattle.protein_groups_members.specs.Members.{memberBytes}
 
 -- ---- a record's bytes, number by number
 
@@ -41,23 +39,26 @@ member-stored out k g x =
 
 -- ---- turns of a writer: record i is made by f of what g gives at i
 
-module _ {A : Type 0} (size limit : ℕ) (f : A → List ℕ) (g : ℕ → A) (n : ℕ) where
-  pub writes-start : (out : List ℕ) → storedFrom size limit out 0 (map f (map g (upFrom 0 (n - 0)))) ≡ storedFrom size limit out 0 (map f (map g (upFrom 0 n)))
-  writes-start out = let z : n - 0 ≡ n = omega arith in ap (λ (k : ℕ). storedFrom size limit out 0 (map f (map g (upFrom 0 k)))) z
+-- the first i of n are written
+pub record WrittenTo {A : Type 0} (size limit : ℕ) (f : A → List ℕ) (g : ℕ → A) (n : ℕ) (old out : List ℕ) (i : ℕ) : Type 0 where
+  pub few : i ≤ n
+  pub same-length : length out ≡ length old
+  pub coming : storedFrom size limit out i (map f (map g (upFrom i (n - i)))) ≡ storedFrom size limit old 0 (map f (map g (upFrom 0 n)))
 
-  pub writes-more : (out : List ℕ) (i : ℕ) → i < n
-      → storedFrom size limit (stored size limit out i (f (g i))) (i + 1) (map f (map g (upFrom (i + 1) (n - (i + 1))))) ≡ storedFrom size limit out i (map f (map g (upFrom i (n - i))))
-  writes-more out i h =
-      let z : n - i ≡ suc (n - suc i) = omega arith in
-      rw (add-one i) (ap (λ (k : ℕ). storedFrom size limit out i (map f (map g (upFrom i k)))) (sym z))
+module _ {A : Type 0} (size limit : ℕ) (f : A → List ℕ) (g : ℕ → A) (n : ℕ) (old : List ℕ) where
+  pub writing-none : WrittenTo size limit f g n old old 0
+  writing-none = record { few = omega arith; same-length = refl; coming = (let z : n - 0 ≡ n = omega arith in ap (λ (k : ℕ). storedFrom size limit old 0 (map f (map g (upFrom 0 k)))) z) }
 
-  pub writes-end : (out : List ℕ) (i : ℕ) → n ≤ i → storedFrom size limit out i (map f (map g (upFrom i (n - i)))) ≡ out
-  writes-end out i h = let z : n - i ≡ 0 = omega arith in ap (λ (k : ℕ). storedFrom size limit out i (map f (map g (upFrom i k)))) z
+  pub writing-more : (out : List ℕ) (i : ℕ) → i < n → WrittenTo size limit f g n old out i → WrittenTo size limit f g n old (stored size limit out i (f (g i))) (i + 1)
+  writing-more out i h p = record {
+    few = omega arith;
+    same-length = length-stored size limit out i (f (g i)) ∙ p .same-length;
+    coming =
+        (let z : n - i ≡ suc (n - suc i) = omega arith in
+        rw (add-one i) (ap (λ (k : ℕ). storedFrom size limit out i (map f (map g (upFrom i k)))) (sym z)) ∙ p .coming);
+  }
 
--- ---- what a writer leaves
-
-pub edges-fitted : (out : List ℕ) (es : List Edge) → storedFrom 8 1048576 out 0 (map edgeBytes es) ≡ fitted 8 1048576 out (map edgeBytes es)
-edges-fitted out es = stored-all 8 1048576 out (map edgeBytes es) (sized-edges es)
-
-pub members-fitted : (out : List ℕ) (ms : List Member) → storedFrom 12 131072 out 0 (map memberBytes ms) ≡ fitted 12 131072 out (map memberBytes ms)
-members-fitted out ms = stored-all 12 131072 out (map memberBytes ms) (sized-members ms)
+  pub writing-end : (out : List ℕ) (i : ℕ) → Sized size (map f (map g (upFrom 0 n))) → n ≤ i → WrittenTo size limit f g n old out i → out ≡ fitted size limit old (map f (map g (upFrom 0 n)))
+  writing-end out i sized h p =
+      let z : n - i ≡ 0 = omega arith in
+      sym (ap (λ (k : ℕ). storedFrom size limit out i (map f (map g (upFrom i k)))) z) ∙ p .coming ∙ stored-all size limit old (map f (map g (upFrom 0 n))) sized

@@ -19,9 +19,9 @@ use Rattle.records.specs.SearchLaws.{seek-passes, seek-to}
 use Rattle.protein_groups_members.specs.Members.{Member, memberAt, membersIn, memberBytes, goodMember, badMember, firstBadMember}
 
 -- the numbers of all members fit their fields
-abbrev pub Storable : List Member → Type 0
-Storable [] = Unit {0}
-Storable (m ∷ ms) = ((m .group < 4294967296) × (m .protein < 4294967296)) × Storable ms
+abbrev pub StorableMember : List Member → Type 0
+StorableMember [] = Unit {0}
+StorableMember (m ∷ ms) = ((m .group < 4294967296) × (m .protein < 4294967296)) × StorableMember ms
 
 pub length-member : (m : Member) → length (memberBytes m) ≡ 12
 unfolding memberBytes
@@ -52,7 +52,7 @@ from-later : (m : Member) (rest : List ℕ) (a n : ℕ) → map (memberAt (membe
 from-later m rest a zero = refl
 from-later m rest a (suc n) = rw (later-member m rest a, from-later m rest (suc a) n)
 
-all-members : (ms : List Member) → Storable ms → map (memberAt (flatten (map memberBytes ms))) (upFrom 0 (length ms)) ≡ ms
+all-members : (ms : List Member) → StorableMember ms → map (memberAt (flatten (map memberBytes ms))) (upFrom 0 (length ms)) ≡ ms
 unfolding flatten
 all-members [] h = refl
 all-members (m ∷ ms) h =
@@ -62,7 +62,7 @@ pub count-members : (ms : List Member) → length (flatten (map memberBytes ms))
 count-members ms = let e : length (flatten (map memberBytes ms)) ≡ 12 * length ms = length-flatten 12 (map memberBytes ms) (sized-members ms) ∙ ap (λ (n : ℕ). 12 * n) (length-map ms memberBytes) in omega arith
 
 -- THE LAW
-pub members-back : (ms : List Member) → Storable ms → membersIn (flatten (map memberBytes ms)) ≡ ms
+pub members-back : (ms : List Member) → StorableMember ms → membersIn (flatten (map memberBytes ms)) ≡ ms
 members-back ms h = rw (count-members ms) (all-members ms h)
 
 -- ---- members in range are accepted
@@ -72,7 +72,7 @@ abbrev pub Ranged : ℕ → ℕ → List Member → Type 0
 Ranged groups proteins [] = Unit {0}
 Ranged groups proteins (m ∷ ms) = ((m .group < groups) × (m .protein < proteins) × (m .decoy ≤ 1)) × Ranged groups proteins ms
 
-pub ranged-storable : (groups proteins : ℕ) → groups ≤ 4294967296 → proteins ≤ 4294967296 → (ms : List Member) → Ranged groups proteins ms → Storable ms
+pub ranged-storable : (groups proteins : ℕ) → groups ≤ 4294967296 → proteins ≤ 4294967296 → (ms : List Member) → Ranged groups proteins ms → StorableMember ms
 ranged-storable groups proteins g p [] h = tt
 ranged-storable groups proteins g p (m ∷ ms) h = let r = h .0 in ((omega arith, omega arith), ranged-storable groups proteins g p ms (h .1))
 

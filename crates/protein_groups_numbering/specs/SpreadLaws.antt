@@ -1,6 +1,7 @@
 -- The leaders' texts spread out in a lent slice. Assumes nothing.
 use mathlib.Core.Path.{_≡_, refl, sym, ap, _∙_}
 use mathlib.Core.Bool.{Bool, true, false}
+use mathlib.Core.Logic.{inl, inr}
 use mathlib.Core.List.{List, [], _∷_, _++_, append-nil, append-assoc}
 use Prim.Native.Nat.{ℕ, _+_, _-_, _≤_, _<_}
 use native.Mathlib.Numerals.{add-one}
@@ -9,36 +10,35 @@ use borrow.Author.Tests.{ltb-true, ltb-false, eq-eqb, ne-eqb}
 use lib.Dec.{ltb}
 use lib.ListN.{length, getD, drop, set, length-set, length-append, replicate, length-replicate, getD-replicate, drop-of-length-le, length-map}
 use lib.Seq.{slice, slice-empty, length-slice, drop-cons, getD-set-same, getD-set-other, ext-getD}
+use Rattle.lists.specs.FrameLaws.{Out, Framed, framed-none}
 use Rattle.sorting_spec.specs.PartLaws.{at-slice, slice-same, slice-join}
 use Rattle.cover_spec.specs.Cover.{Edge}
 use Rattle.protein_groups_spec.specs.CountingLaws.{along, metasIn, groupsIn}
 use Rattle.protein_groups_spec.specs.LeaderLaws.{spreadBy}
+use Rattle.protein_groups_numbering.specs.declared.plan.Plan.{Plan}
+use Rattle.protein_groups_numbering.specs.SliceLaws.{slice-long, out-more}
+
+-- ---- one run copied
 
 -- w has w₀'s `len` numbers from `from` on from a on, and g as often from b on
-pub record Copied (w₀ w : List ℕ) (from len a b g : ℕ) : Type 0 where
+pub record RunCopied (w₀ w : List ℕ) (from len a b g : ℕ) : Type 0 where
   pub keys : (j : ℕ) → j < len → getD w (a + j) 0 ≡ getD w₀ (from + j) 0
   pub values : (j : ℕ) → j < len → getD w (b + j) 0 ≡ g
-  pub before : (j : ℕ) → j < a → getD w j 0 ≡ getD w₀ j 0
-  pub between : (j : ℕ) → a + len ≤ j → j < b → getD w j 0 ≡ getD w₀ j 0
-  pub after : (j : ℕ) → b + len ≤ j → getD w j 0 ≡ getD w₀ j 0
+  pub rest : (j : ℕ) → Out j a (a + len) → Out j b (b + len) → getD w j 0 ≡ getD w₀ j 0
 
-pub copy-none : (w : List ℕ) (from a b g : ℕ) → Copied w w from 0 a b g
-copy-none w from a b g = record {
+pub run-copied-none : (w : List ℕ) (from a b g : ℕ) → RunCopied w w from 0 a b g
+run-copied-none w from a b g = record {
   keys = λ j h. let f : ⊥ = omega arith in absurd f;
   values = λ j h. let f : ⊥ = omega arith in absurd f;
-  before = λ j h. refl;
-  between = λ j h k. refl;
-  after = λ j h. refl;
+  rest = λ j x y. refl;
 }
 
-pub copy-one : (w₀ w : List ℕ) (from i len a b g v : ℕ) → i < len → from + len ≤ a → a + len ≤ b → b + len ≤ length w → v ≡ getD w (from + i) 0 → Copied w₀ w from i a b g
-    → Copied w₀ (set (set w (a + i) v) (b + i) g) from (i + 1) a b g
-copy-one w₀ w from i len a b g v o₁ o₂ o₃ o₄ e p = record {
+pub run-copied-more : (w₀ w : List ℕ) (from i len a b g v : ℕ) → i < len → from + len ≤ a → a + len ≤ b → b + len ≤ length w → v ≡ getD w (from + i) 0 → RunCopied w₀ w from i a b g
+    → RunCopied w₀ (set (set w (a + i) v) (b + i) g) from (i + 1) a b g
+run-copied-more w₀ w from i len a b g v o₁ o₂ o₃ o₄ e p = record {
   keys = λ j h. keys-go j h (ltb j i) refl;
   values = λ j h. values-go j h (ltb j i) refl;
-  before = λ j h. other j (λ (z : j ≡ b + i). let f : ⊥ = omega arith in f) (λ (z : j ≡ a + i). let f : ⊥ = omega arith in f) ∙ p .before j h;
-  between = λ j h k. other j (λ (z : j ≡ b + i). let f : ⊥ = omega arith in f) (λ (z : j ≡ a + i). let f : ⊥ = omega arith in f) ∙ p .between j (omega arith) k;
-  after = λ j h. other j (λ (z : j ≡ b + i). let f : ⊥ = omega arith in f) (λ (z : j ≡ a + i). let f : ⊥ = omega arith in f) ∙ p .after j (omega arith);
+  rest = λ j x y. other j (out-more j b i y .1) (out-more j a i x .1) ∙ p .rest j (out-more j a i x .0) (out-more j b i y .0);
 }
   where
     other : (j : ℕ) → (j ≡ b + i → ⊥) → (j ≡ a + i → ⊥) → getD (set (set w (a + i) v) (b + i) g) j 0 ≡ getD w j 0
@@ -54,7 +54,7 @@ copy-one w₀ w from i len a b g v o₁ o₂ o₃ o₄ e p = record {
         (getD-set-other (set w (a + i) v) (b + i) (a + i) g 0 (λ (z : a + i ≡ b + i). let f : ⊥ = omega arith in f)
         ∙ getD-set-same w (a + i) v 0 (omega arith)
         ∙ e
-        ∙ p .before (from + i) (omega arith))
+        ∙ p .rest (from + i) (inl (omega arith)) (inl (omega arith)))
 
     values-go : (j : ℕ) → j < i + 1 → (t : Bool) → ltb j i ≡ t → getD (set (set w (a + i) v) (b + i) g) (b + j) 0 ≡ g
     values-go j h true q =
@@ -64,49 +64,97 @@ copy-one w₀ w from i len a b g v o₁ o₂ o₃ o₄ e p = record {
         let u : j ≡ i = omega (arith, ltb-false j i q) in
         rw u (getD-set-same (set w (a + i) v) (b + i) g 0 (rw (length-set w (a + i) v) (omega arith)))
 
+-- ---- what stands where
+
 -- x's text: the boundaries stand from e on, the lists from f on
 abbrev pub textAt : List ℕ → ℕ → ℕ → ℕ → List ℕ
 textAt w e f x = slice (f + getD w (e + x) 0) (f + getD w (e + x + 1) 0) w
 
--- what spreading asks: t things in order from o on, their runs' numbers from r on, all of them and their texts before a
-pub record Spreadable (w : List ℕ) (o r t e f a b n : ℕ) : Type 0 where
-  pub order : o + t ≤ a
-  pub ranks : r + t ≤ a
-  pub keys : a + n ≤ b
-  pub fits : b + n ≤ length w
+-- the texts of a plan, its first t things and their runs' numbers, and its first k keys and values
+abbrev pub planText : Plan → List ℕ → ℕ → List ℕ
+planText p w = textAt w (p .bounds) (p .texts)
+
+abbrev pub thingsTo : Plan → ℕ → List ℕ → List ℕ
+thingsTo p t w = slice (p .things) (p .things + t) w
+
+abbrev pub runsTo : Plan → ℕ → List ℕ → List ℕ
+runsTo p t w = slice (p .runs) (p .runs + t) w
+
+abbrev pub keysTo : Plan → ℕ → List ℕ → List ℕ
+keysTo p k w = slice (p .keys) (p .keys + k) w
+
+abbrev pub valuesTo : Plan → ℕ → List ℕ → List ℕ
+valuesTo p k w = slice (p .values) (p .values + k) w
+
+-- the thing at place j, and where its text begins and ends
+abbrev pub thingAt : Plan → List ℕ → ℕ → ℕ
+thingAt p w j = getD w (p .things + j) 0
+
+abbrev pub lowAt : Plan → List ℕ → ℕ → ℕ
+lowAt p w j = getD w (p .bounds + thingAt p w j) 0
+
+abbrev pub highAt : Plan → List ℕ → ℕ → ℕ
+highAt p w j = getD w (p .bounds + thingAt p w j + 1) 0
+
+-- ---- one text spread
+
+-- what it asks: the thing and its text stand before the keys, and there is room behind k keys and values
+pub record TextAsked (w : List ℕ) (p : Plan) (j k : ℕ) : Type 0 where
+  pub thing : p .things + j < p .keys
+  pub bounds : p .bounds + thingAt p w j + 1 < p .keys
+  pub rises : lowAt p w j ≤ highAt p w j
+  pub ends : p .texts + highAt p w j ≤ p .keys
+  pub keys : p .keys + (k + (highAt p w j - lowAt p w j)) ≤ p .values
+  pub fits : p .values + (k + (highAt p w j - lowAt p w j)) ≤ length w
+
+pub record TextSpread (w₀ w : List ℕ) (p : Plan) (j k g r : ℕ) : Type 0 where
+  pub size : r ≡ highAt p w₀ j - lowAt p w₀ j
+  pub copied : RunCopied w₀ w (p .texts + lowAt p w₀ j) (highAt p w₀ j - lowAt p w₀ j) (p .keys + k) (p .values + k) g
+
+-- ---- all runs spread
+
+-- what is spread
+abbrev pub spreadOf : Plan → ℕ → List ℕ → List Edge
+spreadOf p t w = spreadBy (planText p w) 0 (runsTo p t w) (thingsTo p t w)
+
+-- what is still to be spread at the j-th thing, where so many runs were seen
+abbrev spreadFrom : Plan → ℕ → List ℕ → ℕ → ℕ → List Edge
+spreadFrom p t w seen j = spreadBy (planText p w) seen (drop j (runsTo p t w)) (drop j (thingsTo p t w))
+
+-- what spreading asks: t things in order, their runs' numbers and their texts, all before the keys
+pub record Spreadable (w : List ℕ) (p : Plan) (t : ℕ) : Type 0 where
+  pub order : p .things + t ≤ p .keys
+  pub ranks : p .runs + t ≤ p .keys
+  pub keys : p .keys + p .count ≤ p .values
+  pub fits : p .values + p .count ≤ length w
   pub few : t < 4294967296
-  pub bounds : (j : ℕ) → j < t → e + getD w (o + j) 0 + 1 < a
-  pub rises : (j : ℕ) → j < t → getD w (e + getD w (o + j) 0) 0 ≤ getD w (e + getD w (o + j) 0 + 1) 0
-  pub ends : (j : ℕ) → j < t → f + getD w (e + getD w (o + j) 0 + 1) 0 ≤ a
-  pub room : length (spreadBy (textAt w e f) 0 (slice r (r + t) w) (slice o (o + t) w)) ≤ n
+  pub bounds : (j : ℕ) → j < t → p .bounds + thingAt p w j + 1 < p .keys
+  pub rises : (j : ℕ) → j < t → lowAt p w j ≤ highAt p w j
+  pub ends : (j : ℕ) → j < t → p .texts + highAt p w j ≤ p .keys
+  pub room : length (spreadOf p t w) ≤ p .count
 
 -- THE RESULT: k keys and values
-pub record Spread (w₀ w : List ℕ) (o r t e f a b n k : ℕ) : Type 0 where
-  pub few : k ≤ n
-  pub keys : slice a (a + k) w ≡ metasIn (spreadBy (textAt w₀ e f) 0 (slice r (r + t) w₀) (slice o (o + t) w₀))
-  pub values : slice b (b + k) w ≡ groupsIn (spreadBy (textAt w₀ e f) 0 (slice r (r + t) w₀) (slice o (o + t) w₀))
-  pub before : (j : ℕ) → j < a → getD w j 0 ≡ getD w₀ j 0
-  pub after : (j : ℕ) → b + n ≤ j → getD w j 0 ≡ getD w₀ j 0
+pub record RunsSpread (w₀ w : List ℕ) (p : Plan) (t k : ℕ) : Type 0 where
+  pub few : k ≤ p .count
+  pub keys : keysTo p k w ≡ metasIn (spreadOf p t w₀)
+  pub values : valuesTo p k w ≡ groupsIn (spreadOf p t w₀)
+  pub rest : Framed (p .keys) (p .values + p .count) w₀ w
 
 -- the first j things passed
-pub record Spreading (w₀ w : List ℕ) (o r t e f a b n j seen k : ℕ) : Type 0 where
-  pub few : k ≤ n
+pub record Spreading (w₀ w : List ℕ) (p : Plan) (t j seen k : ℕ) : Type 0 where
+  pub few : k ≤ p .count
   pub count : seen ≤ j
-  pub keys : slice a (a + k) w ++ metasIn (spreadBy (textAt w₀ e f) seen (drop j (slice r (r + t) w₀)) (drop j (slice o (o + t) w₀)))
-      ≡ metasIn (spreadBy (textAt w₀ e f) 0 (slice r (r + t) w₀) (slice o (o + t) w₀))
-  pub values : slice b (b + k) w ++ groupsIn (spreadBy (textAt w₀ e f) seen (drop j (slice r (r + t) w₀)) (drop j (slice o (o + t) w₀)))
-      ≡ groupsIn (spreadBy (textAt w₀ e f) 0 (slice r (r + t) w₀) (slice o (o + t) w₀))
-  pub before : (j : ℕ) → j < a → getD w j 0 ≡ getD w₀ j 0
-  pub after : (j : ℕ) → b + n ≤ j → getD w j 0 ≡ getD w₀ j 0
+  pub keys : keysTo p k w ++ metasIn (spreadFrom p t w₀ seen j) ≡ metasIn (spreadOf p t w₀)
+  pub values : valuesTo p k w ++ groupsIn (spreadFrom p t w₀ seen j) ≡ groupsIn (spreadOf p t w₀)
+  pub rest : Framed (p .keys) (p .values + p .count) w₀ w
 
-pub spread-none : (w : List ℕ) (o r t e f a b n : ℕ) → Spreading w w o r t e f a b n 0 0 0
-spread-none w o r t e f a b n = record {
+pub spreading-none : (w : List ℕ) (p : Plan) (t : ℕ) → Spreading w w p t 0 0 0
+spreading-none w p t = record {
   few = omega arith;
   count = omega arith;
-  keys = let u : a + 0 ≡ a = omega arith in rw (u, slice-empty a w);
-  values = let u : b + 0 ≡ b = omega arith in rw (u, slice-empty b w);
-  before = λ j h. refl;
-  after = λ j h. refl;
+  keys = let u : p .keys + 0 ≡ p .keys = omega arith in rw (u, slice-empty (p .keys) w);
+  values = let u : p .values + 0 ≡ p .values = omega arith in rw (u, slice-empty (p .values) w);
+  rest = framed-none (p .keys) (p .values + p .count) w;
 }
 
 -- keys and values of what is along, and of two parts
@@ -126,168 +174,157 @@ groups-along : (g : ℕ) (l : List ℕ) → groupsIn (along g l) ≡ replicate (
 groups-along g [] = refl
 groups-along g (x ∷ xs) = ap (λ (l : List ℕ). g ∷ l) (groups-along g xs)
 
-module _ (w₀ w : List ℕ) (o r t e f a b n j seen k : ℕ) (len : length w ≡ length w₀) (q : Spreadable w₀ o r t e f a b n) (h : j < t) (p : Spreading w₀ w o r t e f a b n j seen k) where
+-- k numbers from a on, and d more that were written behind them
+grown : (a k d : ℕ) (w w₁ more : List ℕ) → length w₁ ≡ length w → a + (k + d) ≤ length w₁ → length more ≡ d
+    → ((i : ℕ) → i < d → getD w₁ (a + k + i) 0 ≡ getD more i 0) → ((i : ℕ) → a ≤ i → i < a + k → getD w₁ i 0 ≡ getD w i 0)
+    → slice a (a + (k + d)) w₁ ≡ slice a (a + k) w ++ more
+grown a k d w w₁ more len fits long new old =
+    sym (slice-join a (a + k) (a + (k + d)) w₁ (omega arith) (omega arith) fits)
+    ∙ ap (λ (l : List ℕ). l ++ slice (a + k) (a + (k + d)) w₁) (slice-same a (a + k) w₁ w (omega arith) (omega arith) old)
+    ∙ ap (λ (l : List ℕ). slice a (a + k) w ++ l)
+    (ext-getD 0 (slice (a + k) (a + (k + d)) w₁) more (long₁ ∙ sym long)
+    (λ i y. let v : i < d = omega (arith, long₁) in at-slice (a + k) (a + (k + d)) w₁ i (omega arith) ∙ new i v))
+  where
+    long₁ : length (slice (a + k) (a + (k + d)) w₁) ≡ d
+    long₁ = length-slice (a + k) (a + (k + d)) w₁ fits ∙ (let u : a + (k + d) - (a + k) ≡ d = omega arith in u)
+
+module _ (w₀ w : List ℕ) (p : Plan) (t j seen k : ℕ) (len : length w ≡ length w₀) (q : Spreadable w₀ p t) (h : j < t) (s : Spreading w₀ w p t j seen k) where
   abbrev rs : List ℕ
-  rs = slice r (r + t) w₀
+  rs = runsTo p t w₀
 
   abbrev os : List ℕ
-  os = slice o (o + t) w₀
+  os = thingsTo p t w₀
 
   abbrev g : ℕ
-  g = getD w₀ (r + j) 0
+  g = getD w₀ (p .runs + j) 0
 
   abbrev x : ℕ
-  x = getD w₀ (o + j) 0
+  x = thingAt p w₀ j
 
   abbrev lo : ℕ
-  lo = getD w₀ (e + x) 0
+  lo = lowAt p w₀ j
 
   abbrev hi : ℕ
-  hi = getD w₀ (e + x + 1) 0
+  hi = highAt p w₀ j
 
-  pub read-g : getD w (r + j) 0 ≡ g
-  read-g = p .before (r + j) (omega (arith, q .ranks))
+  pub read-run : getD w (p .runs + j) 0 ≡ g
+  read-run = s .rest (p .runs + j) (inl (omega (arith, q .ranks)))
 
-  pub read-x : getD w (o + j) 0 ≡ x
-  read-x = p .before (o + j) (omega (arith, q .order))
+  read-thing : thingAt p w j ≡ x
+  read-thing = s .rest (p .things + j) (inl (omega (arith, q .order)))
 
-  pub read-lo : getD w (e + x) 0 ≡ lo
-  read-lo = p .before (e + x) (omega (arith, q .bounds j h))
+  read-low : lowAt p w j ≡ lo
+  read-low = rw read-thing (s .rest (p .bounds + x) (inl (omega (arith, q .bounds j h))))
 
-  pub read-hi : getD w (e + x + 1) 0 ≡ hi
-  read-hi = p .before (e + x + 1) (omega (arith, q .bounds j h))
+  read-high : highAt p w j ≡ hi
+  read-high = rw read-thing (s .rest (p .bounds + x + 1) (inl (q .bounds j h)))
 
   long-r : length rs ≡ t
-  long-r = length-slice r (r + t) w₀ (omega (arith, q .ranks, q .keys, q .fits)) ∙ (let u : r + t - r ≡ t = omega arith in u)
+  long-r = slice-long (p .runs) t w₀ (omega (arith, q .ranks, q .keys, q .fits))
 
   long-o : length os ≡ t
-  long-o = length-slice o (o + t) w₀ (omega (arith, q .order, q .keys, q .fits)) ∙ (let u : o + t - o ≡ t = omega arith in u)
+  long-o = slice-long (p .things) t w₀ (omega (arith, q .order, q .keys, q .fits))
 
   next-r : drop j rs ≡ g ∷ drop (j + 1) rs
-  next-r = drop-cons rs j 0 (omega (arith, long-r)) ∙ rw (add-one j, at-slice r (r + t) w₀ j (omega arith))
+  next-r = drop-cons rs j 0 (omega (arith, long-r)) ∙ rw (add-one j, at-slice (p .runs) (p .runs + t) w₀ j (omega arith))
 
   next-o : drop j os ≡ x ∷ drop (j + 1) os
-  next-o = drop-cons os j 0 (omega (arith, long-o)) ∙ rw (add-one j, at-slice o (o + t) w₀ j (omega arith))
+  next-o = drop-cons os j 0 (omega (arith, long-o)) ∙ rw (add-one j, at-slice (p .things) (p .things + t) w₀ j (omega arith))
 
   -- no leader
-  pub spread-skip : (g ≡ seen → ⊥) → Spreading w₀ w o r t e f a b n (j + 1) seen k
-  spread-skip z =
-      let u : spreadBy (textAt w₀ e f) seen (drop j rs) (drop j os) ≡ spreadBy (textAt w₀ e f) seen (drop (j + 1) rs) (drop (j + 1) os) = rw (next-r, next-o, ne-eqb g seen z) in
+  pub spreading-skip : (g ≡ seen → ⊥) → Spreading w₀ w p t (j + 1) seen k
+  spreading-skip z =
+      let u : spreadFrom p t w₀ seen j ≡ spreadFrom p t w₀ seen (j + 1) = rw (next-r, next-o, ne-eqb g seen z) in
       record {
-        few = p .few;
-        count = omega (arith, p .count);
-        keys = rw u at (p .keys);
-        values = rw u at (p .values);
-        before = p .before;
-        after = p .after;
+        few = s .few;
+        count = omega (arith, s .count);
+        keys = rw u at (s .keys);
+        values = rw u at (s .values);
+        rest = s .rest;
       }
 
   -- a leader
   module _ (z : g ≡ seen) where
-    rest : List Edge
-    rest = spreadBy (textAt w₀ e f) (seen + 1) (drop (j + 1) rs) (drop (j + 1) os)
+    abbrev A : List ℕ
+    A = planText p w₀ x
 
-    leads : spreadBy (textAt w₀ e f) seen (drop j rs) (drop j os) ≡ along g (textAt w₀ e f x) ++ spreadBy (textAt w₀ e f) (seen + 1) (drop (j + 1) rs) (drop (j + 1) os)
+    abbrev R : List Edge
+    R = spreadFrom p t w₀ (seen + 1) (j + 1)
+
+    leads : spreadFrom p t w₀ seen j ≡ along g A ++ R
     leads = rw (next-r, next-o, eq-eqb g seen z)
 
-    long-text : length (textAt w₀ e f x) ≡ hi - lo
+    long-text : length A ≡ hi - lo
     long-text =
-        length-slice (f + lo) (f + hi) w₀ (omega (arith, q .ends j h, q .keys, q .fits))
-        ∙ (let u : (f + hi) - (f + lo) ≡ hi - lo = omega (arith, q .rises j h) in u)
+        length-slice (p .texts + lo) (p .texts + hi) w₀ (omega (arith, q .ends j h, q .keys, q .fits))
+        ∙ (let u : (p .texts + hi) - (p .texts + lo) ≡ hi - lo = omega (arith, q .rises j h) in u)
 
-    long-a : length (slice a (a + k) w) ≡ k
-    long-a = length-slice a (a + k) w (omega (arith, p .few, q .keys, q .fits)) ∙ (let u : a + k - a ≡ k = omega arith in u)
+    long-keys : length (keysTo p k w) ≡ k
+    long-keys = slice-long (p .keys) k w (omega (arith, s .few, q .keys, q .fits))
+
+    keys-lead : keysTo p k w ++ (A ++ metasIn R) ≡ metasIn (spreadOf p t w₀)
+    keys-lead = rw (leads, metas-append (along g A) R, metas-along g A) at (s .keys)
+
+    values-lead : valuesTo p k w ++ (replicate (length A) g ++ groupsIn R) ≡ groupsIn (spreadOf p t w₀)
+    values-lead = rw (leads, groups-append (along g A) R, groups-along g A) at (s .values)
 
     -- there is room
-    pub enough : k + (hi - lo) ≤ n
+    enough : k + (hi - lo) ≤ p .count
     enough =
-        let A = textAt w₀ e f x in
-        let R = spreadBy (textAt w₀ e f) (seen + 1) (drop (j + 1) rs) (drop (j + 1) os) in
-        let E : slice a (a + k) w ++ (A ++ metasIn R) ≡ metasIn (spreadBy (textAt w₀ e f) 0 rs os) =
-        (rw (leads, metas-append (along g A) R, metas-along g A) at (p .keys)) in
-        omega (arith, ap length E, length-append (slice a (a + k) w) (A ++ metasIn R), length-append A (metasIn R), long-a, long-text, length-map (spreadBy (textAt w₀ e f) 0 rs os) (λ (e : Edge). e .1), q .room)
+        omega (arith, ap length keys-lead, length-append (keysTo p k w) (A ++ metasIn R), length-append A (metasIn R), long-keys, long-text, length-map (spreadOf p t w₀) (λ (e : Edge). e .1), q .room)
 
-    pub spread-one : (w₁ : List ℕ) → length w₁ ≡ length w → Copied w w₁ (f + lo) (hi - lo) (a + k) (b + k) g
-        → Spreading w₀ w₁ o r t e f a b n (j + 1) (seen + 1) (k + (hi - lo))
-    spread-one w₁ len₁ d = record {
-      few = enough;
-      count = omega (arith, p .count);
-      keys = keys-go;
-      values = values-go;
-      before = λ i y. d .before i (omega arith) ∙ p .before i y;
-      after = λ i y. d .after i (omega (arith, enough)) ∙ p .after i y;
+    pub text-asked : TextAsked w p j k
+    text-asked = record {
+      thing = omega (arith, q .order);
+      bounds = rw read-thing (q .bounds j h);
+      rises = rw (read-low, read-high) (q .rises j h);
+      ends = rw read-high (q .ends j h);
+      keys = rw (read-low, read-high) (omega (arith, enough, q .keys));
+      fits = rw (read-low, read-high) (omega (arith, enough, q .fits));
     }
-      where
-        A : List ℕ
-        A = textAt w₀ e f x
 
-        R : List Edge
-        R = spreadBy (textAt w₀ e f) (seen + 1) (drop (j + 1) rs) (drop (j + 1) os)
+    module _ (w₁ : List ℕ) (r : ℕ) (len₁ : length w₁ ≡ length w) (d : TextSpread w w₁ p j k (getD w (p .runs + j) 0) r) where
+      size : r ≡ hi - lo
+      size = rw (read-low, read-high) at (d .size)
 
-        part-a : slice (a + k) (a + (k + (hi - lo))) w₁ ≡ textAt w₀ e f x
-        part-a =
-            ext-getD 0 (slice (a + k) (a + (k + (hi - lo))) w₁) (textAt w₀ e f x)
-            (length-slice (a + k) (a + (k + (hi - lo))) w₁ (omega (arith, enough, q .keys, q .fits)) ∙ (let u : a + (k + (hi - lo)) - (a + k) ≡ hi - lo = omega arith in u) ∙ sym long-text)
-            (λ i y.
-            let v : i < hi - lo = omega (arith, length-slice (a + k) (a + (k + (hi - lo))) w₁ (omega (arith, enough, q .keys, q .fits))) in
-            at-slice (a + k) (a + (k + (hi - lo))) w₁ i (omega arith)
-            ∙ d .keys i v
-            ∙ p .before (f + lo + i) (omega (arith, q .ends j h))
-            ∙ sym (at-slice (f + lo) (f + hi) w₀ i (omega arith)))
+      copied : RunCopied w w₁ (p .texts + lo) r (p .keys + k) (p .values + k) g
+      copied = rw size (rw (read-low, read-high, read-run) at (d .copied))
 
-        front-a : slice a (a + k) w₁ ≡ slice a (a + k) w
-        front-a = slice-same a (a + k) w₁ w (omega (arith, enough, q .keys, q .fits)) (omega (arith, enough, q .keys, q .fits)) (λ i y v. d .before i v)
+      keys-more : keysTo p (k + r) w₁ ≡ keysTo p k w ++ A
+      keys-more =
+          grown (p .keys) k r w w₁ A len₁ (omega (arith, size, enough, q .keys, q .fits)) (long-text ∙ sym size)
+          (λ i v.
+          copied .keys i v
+          ∙ s .rest (p .texts + lo + i) (inl (omega (arith, size, q .ends j h)))
+          ∙ sym (at-slice (p .texts + lo) (p .texts + hi) w₀ i (omega (arith, size))))
+          (λ i y v. copied .rest i (inl v) (inl (omega (arith, size, enough, q .keys))))
 
-        joined-a : slice a (a + (k + (hi - lo))) w₁ ≡ slice a (a + k) w ++ (textAt w₀ e f x)
-        joined-a =
-            sym (slice-join a (a + k) (a + (k + (hi - lo))) w₁ (omega arith) (omega arith) (omega (arith, enough, q .keys, q .fits)))
-            ∙ ap (λ (l : List ℕ). l ++ slice (a + k) (a + (k + (hi - lo))) w₁) front-a
-            ∙ ap (λ (l : List ℕ). slice a (a + k) w ++ l) part-a
+      values-more : valuesTo p (k + r) w₁ ≡ valuesTo p k w ++ replicate (length A) g
+      values-more =
+          grown (p .values) k r w w₁ (replicate (length A) g) len₁ (omega (arith, size, enough, q .fits)) (length-replicate (length A) g ∙ long-text ∙ sym size)
+          (λ i v. copied .values i v ∙ sym (getD-replicate (length A) i g 0 (omega (arith, size, long-text))))
+          (λ i y v. copied .rest i (inr (omega (arith, size, enough, q .keys))) (inl v))
 
-        keys-go : slice a (a + (k + (hi - lo))) w₁ ++ metasIn (spreadBy (textAt w₀ e f) (seen + 1) (drop (j + 1) rs) (drop (j + 1) os)) ≡ metasIn (spreadBy (textAt w₀ e f) 0 rs os)
-        keys-go =
-            ap (λ (l : List ℕ). l ++ metasIn (spreadBy (textAt w₀ e f) (seen + 1) (drop (j + 1) rs) (drop (j + 1) os)))
-            joined-a
-            ∙ append-assoc (slice a (a + k) w) (textAt w₀ e f x) (metasIn (spreadBy (textAt w₀ e f) (seen + 1) (drop (j + 1) rs) (drop (j + 1) os)))
-            ∙ (rw (leads, metas-append (along g (textAt w₀ e f x)) (spreadBy (textAt w₀ e f) (seen + 1) (drop (j + 1) rs) (drop (j + 1) os)), metas-along g (textAt w₀ e f x)) at (p .keys))
+      rest-more : Framed (p .keys) (p .values + p .count) w w₁
+      rest-more i (inl y) = copied .rest i (inl (omega arith)) (inl (omega (arith, q .keys)))
+      rest-more i (inr y) = copied .rest i (inr (omega (arith, size, enough, q .keys))) (inr (omega (arith, size, enough)))
 
-        part-b : slice (b + k) (b + (k + (hi - lo))) w₁ ≡ replicate (length (textAt w₀ e f x)) g
-        part-b =
-            rw long-text
-            (ext-getD 0 (slice (b + k) (b + (k + (hi - lo))) w₁) (replicate (hi - lo) g)
-            (length-slice (b + k) (b + (k + (hi - lo))) w₁ (omega (arith, enough, q .keys, q .fits)) ∙ (let u : b + (k + (hi - lo)) - (b + k) ≡ hi - lo = omega arith in u) ∙ sym (length-replicate (hi - lo) g))
-            (λ i y.
-            let v : i < hi - lo = omega (arith, length-slice (b + k) (b + (k + (hi - lo))) w₁ (omega (arith, enough, q .keys, q .fits))) in
-            at-slice (b + k) (b + (k + (hi - lo))) w₁ i (omega arith)
-            ∙ d .values i v
-            ∙ sym (getD-replicate (hi - lo) i g 0 v)))
+      pub spreading-more : Spreading w₀ w₁ p t (j + 1) (seen + 1) (k + r)
+      spreading-more = record {
+        few = omega (arith, size, enough);
+        count = omega (arith, s .count);
+        keys = ap (λ (l : List ℕ). l ++ metasIn R) keys-more ∙ append-assoc (keysTo p k w) A (metasIn R) ∙ keys-lead;
+        values = ap (λ (l : List ℕ). l ++ groupsIn R) values-more ∙ append-assoc (valuesTo p k w) (replicate (length A) g) (groupsIn R) ∙ values-lead;
+        rest = λ i y. rest-more i y ∙ s .rest i y;
+      }
 
-        front-b : slice b (b + k) w₁ ≡ slice b (b + k) w
-        front-b =
-            slice-same b (b + k) w₁ w (omega (arith, enough, q .keys, q .fits)) (omega (arith, enough, q .keys, q .fits))
-            (λ i y v. d .between i (omega (arith, enough, q .keys)) v)
-
-        joined-b : slice b (b + (k + (hi - lo))) w₁ ≡ slice b (b + k) w ++ (replicate (length (textAt w₀ e f x)) g)
-        joined-b =
-            sym (slice-join b (b + k) (b + (k + (hi - lo))) w₁ (omega arith) (omega arith) (omega (arith, enough, q .keys, q .fits)))
-            ∙ ap (λ (l : List ℕ). l ++ slice (b + k) (b + (k + (hi - lo))) w₁) front-b
-            ∙ ap (λ (l : List ℕ). slice b (b + k) w ++ l) part-b
-
-        values-go : slice b (b + (k + (hi - lo))) w₁ ++ groupsIn (spreadBy (textAt w₀ e f) (seen + 1) (drop (j + 1) rs) (drop (j + 1) os)) ≡ groupsIn (spreadBy (textAt w₀ e f) 0 rs os)
-        values-go =
-            ap (λ (l : List ℕ). l ++ groupsIn (spreadBy (textAt w₀ e f) (seen + 1) (drop (j + 1) rs) (drop (j + 1) os)))
-            joined-b
-            ∙ append-assoc (slice b (b + k) w) (replicate (length (textAt w₀ e f x)) g) (groupsIn (spreadBy (textAt w₀ e f) (seen + 1) (drop (j + 1) rs) (drop (j + 1) os)))
-            ∙ (rw (leads, groups-append (along g (textAt w₀ e f x)) (spreadBy (textAt w₀ e f) (seen + 1) (drop (j + 1) rs) (drop (j + 1) os)), groups-along g (textAt w₀ e f x)) at (p .values))
-
-pub spread-end : (w₀ w : List ℕ) (o r t e f a b n j seen k : ℕ) → Spreadable w₀ o r t e f a b n → j ≡ t → Spreading w₀ w o r t e f a b n j seen k → Spread w₀ w o r t e f a b n k
-spread-end w₀ w o r t e f a b n j seen k q z p =
-    let long : length (slice r (r + t) w₀) ≤ j = omega (arith, length-slice r (r + t) w₀ (omega (arith, q .ranks, q .keys, q .fits))) in
-    let u : drop j (slice r (r + t) w₀) ≡ [] = drop-of-length-le (slice r (r + t) w₀) {i = j} long in
+pub spreading-end : (w₀ w : List ℕ) (p : Plan) (t j seen k : ℕ) → Spreadable w₀ p t → j ≡ t → Spreading w₀ w p t j seen k → RunsSpread w₀ w p t k
+spreading-end w₀ w p t j seen k q z s =
+    let long : length (runsTo p t w₀) ≤ j = omega (arith, slice-long (p .runs) t w₀ (omega (arith, q .ranks, q .keys, q .fits))) in
+    let u : drop j (runsTo p t w₀) ≡ [] = drop-of-length-le (runsTo p t w₀) {i = j} long in
     record {
-      few = p .few;
-      keys = sym (append-nil (slice a (a + k) w)) ∙ (rw u at (p .keys));
-      values = sym (append-nil (slice b (b + k) w)) ∙ (rw u at (p .values));
-      before = p .before;
-      after = p .after;
+      few = s .few;
+      keys = sym (append-nil (keysTo p k w)) ∙ (rw u at (s .keys));
+      values = sym (append-nil (valuesTo p k w)) ∙ (rw u at (s .values));
+      rest = s .rest;
     }

@@ -6,49 +6,46 @@ use mathlib.Core.List.{List, _∷_, map}
 use native.Mathlib.Omega.{arith}
 use lib.ListN.{length, getD, set, length-set}
 use lib.Seq.{slice, slice-empty, slice-cons, getD-set-same, getD-set-other}
-use Rattle.lists.specs.Tests.{same?, below?}
+use Rattle.lists.specs.Tests.{same?}
 use Rattle.lists.specs.Lists.{upFrom}
-use Rattle.cover_edges.specs.Chains.{Out}
+use Rattle.lists.specs.FrameLaws.{Framed, framed-none, framed-then, framed-set}
 use Rattle.protein_groups_spec.specs.ProteinGroups.{Pair, pairAt}
-use Rattle.protein_groups_spec.specs.PackedGroups.{seen}
-use Rattle.protein_groups_place.specs.Placing.{Laid}
+use Rattle.protein_groups_spec.specs.PackedGroups.{packedSeen}
+use Rattle.protein_groups_place.specs.Placing.{PairsLaid}
 
 module _ (pairs flags : List ℕ) (a n : ℕ) where
-  pub laid-none : (w : List ℕ) → Laid pairs flags a n 0 w w
-  laid-none w = record { peptides = λ j h. absurd (omega arith); shown = λ j h. absurd (omega arith); rest = λ j h. refl; same-length = refl }
+  pub laid-none : (w : List ℕ) → PairsLaid pairs flags a n 0 w w
+  laid-none w = record { peptides = λ j h. absurd (omega arith); shown = λ j h. absurd (omega arith); rest = framed-none a (a + n + n) w; same-length = refl }
 
-  pub laid-more : (i : ℕ) (old w : List ℕ) → i < n → a + n + n ≤ length old → Laid pairs flags a n i old w
-      → Laid pairs flags a n (i + 1) old (set (set w (a + i) (pairAt pairs i .peptide)) (a + n + i) (seen flags (pairAt pairs i)))
+  pub laid-more : (i : ℕ) (old w : List ℕ) → i < n → a + n + n ≤ length old → PairsLaid pairs flags a n i old w
+      → PairsLaid pairs flags a n (i + 1) old (set (set w (a + i) (pairAt pairs i .peptide)) (a + n + i) (packedSeen flags (pairAt pairs i)))
   laid-more i old w h fits l = record { peptides = ps; shown = ss; rest = rs; same-length = simp length-set (l .same-length) }
     where
       p : ℕ
       p = pairAt pairs i .peptide
 
       s : ℕ
-      s = seen flags (pairAt pairs i)
+      s = packedSeen flags (pairAt pairs i)
 
       x : List ℕ
       x = set w (a + i) p
-
-      less : (j : ℕ) → j < i + 1 → (j ≡ i → ⊥) → j < i
-      less j m q = ⊎-elim (λ (y : j < i). y) (λ (y : i ≤ j). absurd (q (omega arith))) (below? j i)
 
       ps : (j : ℕ) → j < i + 1 → getD (set x (a + n + i) s) (a + j) 0 ≡ pairAt pairs j .peptide
       ps j m =
           getD-set-other x (a + n + i) (a + j) s 0 (λ z. omega arith)
           ∙ ⊎-elim (λ (q : j ≡ i). rw q (getD-set-same w (a + i) p 0 (omega (arith, l .same-length))))
-          (λ (q : j ≡ i → ⊥). getD-set-other w (a + i) (a + j) p 0 (λ z. q (omega arith)) ∙ l .peptides j (less j m q)) (same? j i)
+          (λ (q : j ≡ i → ⊥). getD-set-other w (a + i) (a + j) p 0 (λ z. q (omega arith)) ∙ l .peptides j (omega (arith, q))) (same? j i)
 
-      ss : (j : ℕ) → j < i + 1 → getD (set x (a + n + i) s) (a + n + j) 0 ≡ seen flags (pairAt pairs j)
+      ss : (j : ℕ) → j < i + 1 → getD (set x (a + n + i) s) (a + n + j) 0 ≡ packedSeen flags (pairAt pairs j)
       ss j m =
           ⊎-elim (λ (q : j ≡ i). rw q (getD-set-same x (a + n + i) s 0 (rw length-set (omega (arith, l .same-length)))))
-          (λ (q : j ≡ i → ⊥). getD-set-other x (a + n + i) (a + n + j) s 0 (λ z. q (omega arith)) ∙ getD-set-other w (a + i) (a + n + j) p 0 (λ z. omega arith) ∙ l .shown j (less j m q)) (same? j i)
+          (λ (q : j ≡ i → ⊥). getD-set-other x (a + n + i) (a + n + j) s 0 (λ z. q (omega arith)) ∙ getD-set-other w (a + i) (a + n + j) p 0 (λ z. omega arith) ∙ l .shown j (omega (arith, q))) (same? j i)
 
-      rs : (j : ℕ) → Out j a (n + n) → getD (set x (a + n + i) s) j 0 ≡ getD old j 0
-      rs j o =
-          getD-set-other x (a + n + i) j s 0 (λ z. ⊎-elim (λ (y : j < a). omega arith) (λ (y : a + (n + n) ≤ j). omega arith) o)
-          ∙ getD-set-other w (a + i) j p 0 (λ z. ⊎-elim (λ (y : j < a). omega arith) (λ (y : a + (n + n) ≤ j). omega arith) o)
-          ∙ l .rest j o
+      rs : Framed a (a + n + n) old (set x (a + n + i) s)
+      rs =
+          framed-then a (a + n + n) old x (set x (a + n + i) s)
+          (framed-then a (a + n + n) old w x (l .rest) (framed-set a (a + n + n) (a + i) p w (omega arith) (omega arith)))
+          (framed-set a (a + n + n) (a + n + i) s x (omega arith) (omega arith))
 
 -- a stretch by its numbers
 pub slice-is : {A : Type 0} (f : A → ℕ) (g : ℕ → A) (w : List ℕ) (a j n : ℕ) → a + n ≤ length w → ((i : ℕ) → i < n → getD w (a + i) 0 ≡ f (g (j + i)))
@@ -66,9 +63,9 @@ slice-is f g w a j (suc n) h e =
     ∙ ap (λ (k : ℕ). k ∷ slice (suc a) (suc a + n) w) first
     ∙ ap (λ (l : List ℕ). f (g j) ∷ l) (slice-is f g w (suc a) (suc j) n (omega arith) next)
 
-module _ (pairs flags : List ℕ) (a n : ℕ) (old w : List ℕ) (fits : a + n + n ≤ length old) (l : Laid pairs flags a n n old w) where
+module _ (pairs flags : List ℕ) (a n : ℕ) (old w : List ℕ) (fits : a + n + n ≤ length old) (l : PairsLaid pairs flags a n n old w) where
   pub laid-peptides : slice a (a + n) w ≡ map (λ (q : Pair). q .peptide) (map (pairAt pairs) (upFrom 0 n))
   laid-peptides = slice-is (λ (q : Pair). q .peptide) (pairAt pairs) w a 0 n (omega (arith, l .same-length)) (λ i h. let z : 0 + i ≡ i = omega arith in rw z (l .peptides i h))
 
-  pub laid-shown : slice (a + n) (a + n + n) w ≡ map (seen flags) (map (pairAt pairs) (upFrom 0 n))
-  laid-shown = slice-is (seen flags) (pairAt pairs) w (a + n) 0 n (omega (arith, l .same-length)) (λ i h. let z : 0 + i ≡ i = omega arith in rw z (l .shown i h))
+  pub laid-shown : slice (a + n) (a + n + n) w ≡ map (packedSeen flags) (map (pairAt pairs) (upFrom 0 n))
+  laid-shown = slice-is (packedSeen flags) (pairAt pairs) w (a + n) 0 n (omega (arith, l .same-length)) (λ i h. let z : 0 + i ≡ i = omega arith in rw z (l .shown i h))

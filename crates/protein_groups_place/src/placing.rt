@@ -6,8 +6,8 @@ ghost use Prim.Native.Nat.{ℕ, _+_, _*_, _≤_, _<_};
 ghost use lib.ListN.{length, set};
 ghost use Rattle.records.specs.Le.{numberAt};
 ghost use Rattle.protein_groups_spec.specs.ProteinGroups.{pairAt};
-ghost use Rattle.protein_groups_spec.specs.PackedGroups.{seen};
-ghost use Rattle.protein_groups_place.specs.Placing.{Laid};
+ghost use Rattle.protein_groups_spec.specs.PackedGroups.{packedSeen};
+ghost use Rattle.protein_groups_place.specs.Placing.{PairsLaid};
 
 // What a pair shows: a protein seen from a target and a decoy peptide is two.
 fn shown(protein: u32, flag: u8) -> u32
@@ -20,7 +20,7 @@ fn shown(protein: u32, flag: u8) -> u32
 // Places pair i of n.
 fn place_pair(pairs: &[u8], flags: &[u8], w: &mut [u32], a: usize, n: usize, i: usize)
     requires { ⌜ (i < n) × (n ≤ 1048576) × (a + n + n ≤ length (now w)) × (numberAt 4 (now pairs) (8 * i + 4) < 65536) ⌝ }
-    ensures { λ _. ⌜ now (w .exit) ≡ set (set (now (w .entry)) (a + i) (pairAt (now (pairs .entry)) i .peptide)) (a + n + i) (seen (now (flags .entry)) (pairAt (now (pairs .entry)) i)) ⌝ }
+    ensures { λ _. ⌜ now (w .exit) ≡ set (set (now (w .entry)) (a + i) (pairAt (now (pairs .entry)) i .peptide)) (a + n + i) (packedSeen (now (flags .entry)) (pairAt (now (pairs .entry)) i)) ⌝ }
 {
     let peptide = u32_at(pairs, 8 * i);
     let protein = u32_at(pairs, 8 * i + 4);
@@ -34,7 +34,7 @@ fn place_pair(pairs: &[u8], flags: &[u8], w: &mut [u32], a: usize, n: usize, i: 
 // Places n pairs: their peptides from w[a] on, and what they show from w[a + n] on.
 pub fn place_pairs(pairs: &[u8], flags: &[u8], w: &mut [u32], a: usize, n: usize)
     requires { ⌜ (n ≤ 1048576) × (a + n + n ≤ length (now w)) × ((i : ℕ) → i < n → numberAt 4 (now pairs) (8 * i + 4) < 65536) ⌝ }
-    ensures { λ _. ⌜ Laid (now (pairs .entry)) (now (flags .entry)) a n n (now (w .entry)) (now (w .exit)) ⌝ }
+    ensures { λ _. ⌜ PairsLaid (now (pairs .entry)) (now (flags .entry)) a n n (now (w .entry)) (now (w .exit)) ⌝ }
 {
     let mut i = 0;
     while i < n {

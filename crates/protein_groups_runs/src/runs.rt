@@ -1,13 +1,15 @@
 // Things sorted by their texts, and the texts of their runs spread out.
-use sorting_counting::wide;
+use protein_groups_numbering::Plan;
+use protein_groups_numbering::spread_runs;
+use records::wide;
 use sorting_runs::Numbered;
 use sorting_texts::By;
 ghost use Prim.Native.Nat.{_+_, _<_, _≤_};
 ghost use lib.ListN.{length};
 ghost use Rattle.protein_groups_runs.specs.TakerLaws.{Takers};
-ghost use Rattle.protein_groups_runs.specs.OrderingLaws.{Ordered};
-ghost use Rattle.protein_groups_runs.specs.ThingLaws.{Tables, Things, Ran};
-ghost use Rattle.protein_groups_runs.specs.MetaLaws.{Distinct};
+ghost use Rattle.protein_groups_runs.specs.OrderingLaws.{RunsOrdered};
+ghost use Rattle.protein_groups_runs.specs.ThingLaws.{PlanFits, Things, Ran};
+ghost use Rattle.protein_groups_runs.specs.MetaLaws.{DistinctSpread};
 
 // The numbers of the m stretches that are not empty, to w[o..]; answers how many.
 fn takers(w: &mut [u32], e: usize, m: u32, o: usize) -> usize
@@ -32,7 +34,7 @@ fn takers(w: &mut [u32], e: usize, m: u32, o: usize) -> usize
 // their runs from w[s] on. Answers how many runs there are.
 fn order_runs(w: &mut [u32], o: usize, t: usize, s: usize, e: usize, base: u32) -> u32
     requires { ⌜ (o + t ≤ s) × (s + t ≤ e) × (e ≤ length (now w)) × (t < 4294967296) ⌝ }
-    ensures { λ r. ⌜ Ordered (now (w .entry)) (now (w .exit)) o t s e (e + base) r ⌝ }
+    ensures { λ r. ⌜ RunsOrdered (now (w .entry)) (now (w .exit)) o t s e (e + base) r ⌝ }
 {
     let hi = o + t;
     sorting_merge::sort_range(By::Numbers(base), b"", w, o, hi, s, e);
@@ -49,44 +51,23 @@ pub struct Runs {
     pub count: u32,
 }
 
-// Sorts the t things from w[o] on, each below m, by their texts, numbers their runs from w[s] on and spreads the runs' texts out.
-pub fn runs_of(
-    w: &mut [u32],
-    o: usize,
-    t: usize,
-    s: usize,
-    c: usize,
-    m: usize,
-    l: usize,
-    a: usize,
-    b: usize,
-    n: usize,
-) -> Runs
-    requires { ⌜ Things (now w) o t s c m l a b n ⌝ }
-    ensures { λ r. ⌜ Ran (now (w .entry)) (now (w .exit)) o t s c l a b n (r .entries) (r .count) ⌝ }
+// Sorts t things by their texts, numbers their runs and spreads the runs' texts out.
+pub fn runs_of(w: &mut [u32], plan: Plan, t: usize) -> Runs
+    requires { ⌜ Things (now w) plan t ⌝ }
+    ensures { λ r. ⌜ Ran (now (w .entry)) (now (w .exit)) plan t (r .entries) (r .count) ⌝ }
 {
-    let base = (l - c) as u32;
-    let count = order_runs(w, o, t, s, c, base);
-    let entries = protein_groups_numbering::spread_runs(w, o, s, t, c, l, a, b, n);
+    let base = (plan.texts - plan.bounds) as u32;
+    let count = order_runs(w, plan.things, t, plan.runs, plan.bounds, base);
+    let entries = spread_runs(w, plan, t);
     Runs { entries, count }
 }
 
-// The distinct texts of the m stretches from w[l] on that are not empty, whose boundaries stand from w[c] on, in order and spread out:
-// what they hold to w[a..], and their numbers to w[b..]. w[o..c] is work memory.
-pub fn distinct_runs(
-    w: &mut [u32],
-    o: usize,
-    s: usize,
-    c: usize,
-    m: u32,
-    l: usize,
-    a: usize,
-    b: usize,
-    n: usize,
-) -> Runs
-    requires { ⌜ Tables (now w) o m s c m l a b n ⌝ }
-    ensures { λ r. ⌜ Distinct (now (w .entry)) (now (w .exit)) o c m l a b n (r .entries) (r .count) ⌝ }
+// The distinct texts of the plan's stretches that are not empty, in order and spread out: what they hold as keys, and their numbers as
+// values. The things and their runs are work memory.
+pub fn distinct_runs(w: &mut [u32], plan: Plan) -> Runs
+    requires { ⌜ PlanFits (now w) plan (plan .kinds) ⌝ }
+    ensures { λ r. ⌜ DistinctSpread (now (w .entry)) (now (w .exit)) plan (r .entries) (r .count) ⌝ }
 {
-    let t = takers(w, c, m, o);
-    runs_of(w, o, t, s, c, wide(m), l, a, b, n)
+    let t = takers(w, plan.bounds, plan.kinds, plan.things);
+    runs_of(w, plan, t)
 }

@@ -11,7 +11,7 @@ use lib.ListN.{length, getD, replicate}
 use Rattle.lists.specs.Tests.{below?, clash, iff}
 use Rattle.lists.specs.Lists.{In, same, bit, times, count}
 use Rattle.lists.specs.SameLaws.{same-refl}
-use Rattle.lists.specs.FirstLaws.{place, times-append, getD-place}
+use Rattle.lists.specs.FirstLaws.{firstAt, times-append, getD-place}
 use Rattle.lists.specs.InLaws.{is-in, map-in, keep-in, in-getD, some-in, times-in}
 use Rattle.lists.specs.KeepLaws.{count-times}
 use Rattle.sorting_spec.specs.Sort.{sorted}
@@ -21,9 +21,9 @@ use Rattle.sorting_spec.specs.LexLaws.{lex-trans, lex-antisym, lex-refl, by-lis
 use Rattle.sorting_spec.specs.Distinct.{onceAfter, once, distinct}
 use Rattle.protein_groups_members.specs.Members.{Member}
 use Rattle.protein_groups_spec.specs.ProteinGroups.{Pair, pairsOf, up, listFrom}
-use Rattle.protein_groups_spec.specs.PackedGroups.{shown, seen, proteins, metas, evidence, member}
+use Rattle.protein_groups_spec.specs.PackedGroups.{packedShown, packedSeen, packedProteins, packedMetas, packedEvidence, packedMember}
 use Rattle.protein_groups_spec.specs.Standing.{showing}
-use Rattle.protein_groups_spec.specs.TheoremLaws.{Fit, replicate-in, list-in, place-found, in-found, in-shown, own-meta, meta-has, taking-has, pair-is}
+use Rattle.protein_groups_spec.specs.TheoremLaws.{PairsFit, replicate-in, list-in, place-in-found, in-found, in-shown, own-meta, meta-has, taking-has, pair-is}
 
 -- ---- distinct lists rise, so each stands at one place
 
@@ -105,12 +105,12 @@ count-alike : {A : Type 0} (p q : A → Bool) → ((x : A) → p x ≡ q x) → 
 count-alike p q h [] = refl
 count-alike p q h (x ∷ xs) = rw (h x, count-alike p q h xs)
 
-shown-times : (flags : List ℕ) (c p : ℕ) (qs : List Pair) → times c (shown flags qs p) ≡ count (λ (q : Pair). eqb (q .peptide) p && eqb (seen flags q) c) qs
+shown-times : (flags : List ℕ) (c p : ℕ) (qs : List Pair) → times c (packedShown flags qs p) ≡ count (λ (q : Pair). eqb (q .peptide) p && eqb (packedSeen flags q) c) qs
 shown-times flags c p [] = refl
-shown-times flags c p (q ∷ qs) = go (eqb (q .peptide) p) (eqb (seen flags q) c) refl (shown-times flags c p qs)
+shown-times flags c p (q ∷ qs) = go (eqb (q .peptide) p) (eqb (packedSeen flags q) c) refl (shown-times flags c p qs)
   where
-    go : (t u : Bool) → eqb (seen flags q) c ≡ u → times c (shown flags qs p) ≡ count (λ (q : Pair). eqb (q .peptide) p && eqb (seen flags q) c) qs
-        → times c (map (seen flags) (cond t (q ∷ pairsOf qs p) (pairsOf qs p))) ≡ bit (t && u) + count (λ (q : Pair). eqb (q .peptide) p && eqb (seen flags q) c) qs
+    go : (t u : Bool) → eqb (packedSeen flags q) c ≡ u → times c (packedShown flags qs p) ≡ count (λ (q : Pair). eqb (q .peptide) p && eqb (packedSeen flags q) c) qs
+        → times c (map (packedSeen flags) (cond t (q ∷ pairsOf qs p) (pairsOf qs p))) ≡ bit (t && u) + count (λ (q : Pair). eqb (q .peptide) p && eqb (packedSeen flags q) c) qs
     go true true e r = rw e (omega arith)
     go true false e r = rw e (omega arith)
     go false u e r = omega arith
@@ -121,55 +121,55 @@ nothing (x ∷ xs) h = absurd (omega arith)
 
 module _ (flags : List ℕ) (peptides : ℕ) (qs : List Pair) where
   abbrev ps : List ℕ
-  ps = proteins flags peptides qs
+  ps = packedProteins flags peptides qs
 
   abbrev ms : List (List ℕ)
-  ms = metas (proteins flags peptides qs) flags peptides qs
+  ms = packedMetas (packedProteins flags peptides qs) flags peptides qs
 
-  found-is : (y j : ℕ) → In y ps → j < length ps → eqb (place y ps) j ≡ eqb y (getD ps j 0)
+  found-is : (y j : ℕ) → In y ps → j < length ps → eqb (firstAt y ps) j ≡ eqb y (getD ps j 0)
   found-is y j i h =
-      iff (eqb (place y ps) j) (eqb y (getD ps j 0))
-      (λ e. eq-eqb y (getD ps j 0) (sym (getD-place y ps i) ∙ ap (λ (k : ℕ). getD ps k 0) (eqb-true (place y ps) j e)))
-      (λ e. eq-eqb (place y ps) j (ap (λ (x : ℕ). place x ps) (eqb-true y (getD ps j 0) e) ∙ place-found flags peptides qs j h))
+      iff (eqb (firstAt y ps) j) (eqb y (getD ps j 0))
+      (λ e. eq-eqb y (getD ps j 0) (sym (getD-place y ps i) ∙ ap (λ (k : ℕ). getD ps k 0) (eqb-true (firstAt y ps) j e)))
+      (λ e. eq-eqb (firstAt y ps) j (ap (λ (x : ℕ). firstAt x ps) (eqb-true y (getD ps j 0) e) ∙ place-in-found flags peptides qs j h))
 
-  places-times : (j : ℕ) → j < length ps → (l : List ℕ) → ((y : ℕ) → In y l → In y ps) → times j (map (λ (y : ℕ). place y ps) l) ≡ times (getD ps j 0) l
+  places-times : (j : ℕ) → j < length ps → (l : List ℕ) → ((y : ℕ) → In y l → In y ps) → times j (map (λ (y : ℕ). firstAt y ps) l) ≡ times (getD ps j 0) l
   places-times j h [] f = refl
   places-times j h (y ∷ ys) f = rw (found-is y j (f y (inl refl)) h, places-times j h ys (λ x i. f x (inr i)))
 
-  shown-found : (p : ℕ) → p < peptides → (y : ℕ) → In y (shown flags qs p) → In y ps
+  shown-found : (p : ℕ) → p < peptides → (y : ℕ) → In y (packedShown flags qs p) → In y ps
   shown-found p l y h =
-      let (q, i, z) = map-in (seen flags) y (pairsOf qs p) h in
+      let (q, i, z) = map-in (packedSeen flags) y (pairsOf qs p) h in
       let (j, e) = keep-in q (λ (r : Pair). eqb (r .peptide) p) qs i in
       let x : q .peptide ≡ p = eqb-true (q .peptide) p e in
-      is-in {k = ps} (sym z) refl (in-found flags peptides qs (seen flags q) (in-shown flags qs q 0 peptides j (omega arith) (omega arith)))
+      is-in {k = ps} (sym z) refl (in-found flags peptides qs (packedSeen flags q) (in-shown flags qs q 0 peptides j (omega arith) (omega arith)))
 
-  evidence-times : (j p : ℕ) → j < length ps → p < peptides → times j (evidence ps flags qs p) ≡ count (λ (q : Pair). eqb (q .peptide) p && eqb (seen flags q) (getD ps j 0)) qs
+  evidence-times : (j p : ℕ) → j < length ps → p < peptides → times j (packedEvidence ps flags qs p) ≡ count (λ (q : Pair). eqb (q .peptide) p && eqb (packedSeen flags q) (getD ps j 0)) qs
   evidence-times j p h l =
-      times-sorted j (map (λ (y : ℕ). place y ps) (shown flags qs p))
-      ∙ places-times j h (shown flags qs p) (shown-found p l)
+      times-sorted j (map (λ (y : ℕ). firstAt y ps) (packedShown flags qs p))
+      ∙ places-times j h (packedShown flags qs p) (shown-found p l)
       ∙ shown-times flags (getD ps j 0) p qs
 
   -- proteins with one list stand equally often in each evidence
-  list-evidence : (j k p : ℕ) → p < peptides → listFrom 0 ms j ≡ listFrom 0 ms k → times j (evidence ps flags qs p) ≡ times k (evidence ps flags qs p)
+  list-evidence : (j k p : ℕ) → p < peptides → listFrom 0 ms j ≡ listFrom 0 ms k → times j (packedEvidence ps flags qs p) ≡ times k (packedEvidence ps flags qs p)
   list-evidence j k p l e = ⊎-elim some none (below? 0 (length (pairsOf qs p)))
     where
-      none : length (pairsOf qs p) ≤ 0 → times j (evidence ps flags qs p) ≡ times k (evidence ps flags qs p)
+      none : length (pairsOf qs p) ≤ 0 → times j (packedEvidence ps flags qs p) ≡ times k (packedEvidence ps flags qs p)
       none h = let z : pairsOf qs p ≡ [] = nothing (pairsOf qs p) h in rw z
 
-      at : (m : ℕ) → m < length ms → getD ms m [] ≡ evidence ps flags qs p → times j (evidence ps flags qs p) ≡ times k (evidence ps flags qs p)
+      at : (m : ℕ) → m < length ms → getD ms m [] ≡ packedEvidence ps flags qs p → times j (packedEvidence ps flags qs p) ≡ times k (packedEvidence ps flags qs p)
       at m h z =
           ap (times j) (sym z) ∙ sym (list-times 0 m ms j h) ∙ ap (times (0 + m)) e ∙ list-times 0 m ms k h ∙ ap (times k) z
 
-      some : 0 < length (pairsOf qs p) → times j (evidence ps flags qs p) ≡ times k (evidence ps flags qs p)
+      some : 0 < length (pairsOf qs p) → times j (packedEvidence ps flags qs p) ≡ times k (packedEvidence ps flags qs p)
       some h =
           let (q, i) = some-in (pairsOf qs p) h in
           let (u, y) = keep-in q (λ (r : Pair). eqb (r .peptide) p) qs i in
           let x : q .peptide ≡ p = eqb-true (q .peptide) p y in
           let (m, b, z) = own-meta flags peptides qs q u (omega arith) in
-          at m b (z ∙ ap (evidence ps flags qs) x)
+          at m b (z ∙ ap (packedEvidence ps flags qs) x)
 
   -- proteins that stand equally often in each evidence have one list
-  evidence-list : (j k : ℕ) → ((p : ℕ) → p < peptides → times j (evidence ps flags qs p) ≡ times k (evidence ps flags qs p)) → listFrom 0 ms j ≡ listFrom 0 ms k
+  evidence-list : (j k : ℕ) → ((p : ℕ) → p < peptides → times j (packedEvidence ps flags qs p) ≡ times k (packedEvidence ps flags qs p)) → listFrom 0 ms j ≡ listFrom 0 ms k
   evidence-list j k h = lists-alike 0 ms j k one
     where
       one : (i : ℕ) → i < length ms → times j (getD ms i []) ≡ times k (getD ms i [])
@@ -178,23 +178,23 @@ module _ (flags : List ℕ) (peptides : ℕ) (qs : List Pair) where
           let (q, s, z, b) = taking-has flags peptides qs p t in
           ap (times j) e ∙ h p b ∙ sym (ap (times k) e)
 
-  module _ (fit : Fit flags peptides qs) where
+  module _ (fit : PairsFit flags peptides qs) where
     -- a peptide shows a member as often as the member's place stands in its evidence
-    showing-times : (m : Member) (g k p : ℕ) → m ≡ member ps g k → k < length ps → p < peptides → showing flags qs p m ≡ times k (evidence ps flags qs p)
+    showing-times : (m : Member) (g k p : ℕ) → m ≡ packedMember ps g k → k < length ps → p < peptides → showing flags qs p m ≡ times k (packedEvidence ps flags qs p)
     showing-times m g k p e h l =
         ap (showing flags qs p) e
-        ∙ count-alike (λ (q : Pair). eqb (q .peptide) p && (eqb (q .protein) (x / 2) && eqb (getD flags (q .peptide) 0) (x % 2))) (λ (q : Pair). eqb (q .peptide) p && eqb (seen flags q) x) one qs
+        ∙ count-alike (λ (q : Pair). eqb (q .peptide) p && (eqb (q .protein) (x / 2) && eqb (getD flags (q .peptide) 0) (x % 2))) (λ (q : Pair). eqb (q .peptide) p && eqb (packedSeen flags q) x) one qs
         ∙ sym (evidence-times k p h l)
       where
         x : ℕ
         x = getD ps k 0
 
-        one : (q : Pair) → (eqb (q .peptide) p && (eqb (q .protein) (x / 2) && eqb (getD flags (q .peptide) 0) (x % 2))) ≡ (eqb (q .peptide) p && eqb (seen flags q) x)
+        one : (q : Pair) → (eqb (q .peptide) p && (eqb (q .protein) (x / 2) && eqb (getD flags (q .peptide) 0) (x % 2))) ≡ (eqb (q .peptide) p && eqb (packedSeen flags q) x)
         one q =
             let z : x / 2 * 2 + x % 2 ≡ x = omega arith in
-            ap (λ (t : Bool). eqb (q .peptide) p && t) (pair-is flags peptides qs fit q (x / 2) (x % 2) (omega arith) ∙ ap (eqb (seen flags q)) z)
+            ap (λ (t : Bool). eqb (q .peptide) p && t) (pair-is flags peptides qs fit q (x / 2) (x % 2) (omega arith) ∙ ap (eqb (packedSeen flags q)) z)
 
-    module _ (m n : Member) (g h j k : ℕ) (a : m ≡ member ps g j) (b : n ≡ member ps h k) (c : j < length ps) (d : k < length ps) where
+    module _ (m n : Member) (g h j k : ℕ) (a : m ≡ packedMember ps g j) (b : n ≡ packedMember ps h k) (c : j < length ps) (d : k < length ps) where
       pub list-showing : listFrom 0 ms j ≡ listFrom 0 ms k → (p : ℕ) → p < peptides → showing flags qs p m ≡ showing flags qs p n
       list-showing e p l = showing-times m g j p a c l ∙ list-evidence j k p l e ∙ sym (showing-times n h k p b d l)
 

@@ -34,24 +34,24 @@ module _ {A : Type 0} (f : ℕ → ℕ → A) where
   walkBy (g ∷ gs) (x ∷ xs) = f g x ∷ walkBy gs xs
 
   -- lists, each with its number, from g on
-  abbrev pub tagged : ℕ → List (List ℕ) → List A
-  tagged g [] = []
-  tagged g (r ∷ rs) = map (f g) r ++ tagged (suc g) rs
+  abbrev pub runsTagged : ℕ → List (List ℕ) → List A
+  runsTagged g [] = []
+  runsTagged g (r ∷ rs) = map (f g) r ++ runsTagged (suc g) rs
 
-  walk-from : (le : ℕ → ℕ → Bool) (g p : ℕ) (xs : List ℕ) → f g p ∷ walkBy (numbersFrom le g p xs) xs ≡ tagged g (runsOf le (p ∷ xs))
+  walk-from : (le : ℕ → ℕ → Bool) (g p : ℕ) (xs : List ℕ) → f g p ∷ walkBy (numbersFrom le g p xs) xs ≡ runsTagged g (runsOf le (p ∷ xs))
   walk-from le g p [] = refl
   walk-from le g p (x ∷ xs) =
-      ap (λ (l : List A). f g p ∷ l) (walk-from le (next le g p x) x xs ∙ ap (tagged (next le g p x)) (run-behind le x xs))
+      ap (λ (l : List A). f g p ∷ l) (walk-from le (next le g p x) x xs ∙ ap (runsTagged (next le g p x)) (run-behind le x xs))
       ∙ go (le x p)
-      ∙ sym (ap (λ (rs : List (List ℕ)). tagged g (joined le p rs)) (run-behind le x xs))
+      ∙ sym (ap (λ (rs : List (List ℕ)). runsTagged g (joined le p rs)) (run-behind le x xs))
     where
       go : (t : Bool)
-          → f g p ∷ tagged (cond t g (g + 1)) ((x ∷ take (equalsAfter le x xs) xs) ∷ runsOf le (drop (equalsAfter le x xs) xs))
-          ≡ tagged g (cond t ((p ∷ x ∷ take (equalsAfter le x xs) xs) ∷ runsOf le (drop (equalsAfter le x xs) xs)) ((p ∷ []) ∷ (x ∷ take (equalsAfter le x xs) xs) ∷ runsOf le (drop (equalsAfter le x xs) xs)))
+          → f g p ∷ runsTagged (cond t g (g + 1)) ((x ∷ take (equalsAfter le x xs) xs) ∷ runsOf le (drop (equalsAfter le x xs) xs))
+          ≡ runsTagged g (cond t ((p ∷ x ∷ take (equalsAfter le x xs) xs) ∷ runsOf le (drop (equalsAfter le x xs) xs)) ((p ∷ []) ∷ (x ∷ take (equalsAfter le x xs) xs) ∷ runsOf le (drop (equalsAfter le x xs) xs)))
       go true = refl
       go false = rw (add-one g)
 
-  pub walk-runs : (le : ℕ → ℕ → Bool) (s : List ℕ) → walkBy (runNumbers le s) s ≡ tagged 0 (runsOf le s)
+  pub walk-runs : (le : ℕ → ℕ → Bool) (s : List ℕ) → walkBy (runNumbers le s) s ≡ runsTagged 0 (runsOf le s)
   walk-runs le [] = refl
   walk-runs le (x ∷ xs) = walk-from le 0 x xs
 
@@ -76,8 +76,8 @@ distinct-in d ls h = sorted-in lexLe d ls (go (sorted lexLe ls) h)
     go (m ∷ ms) (inr k) = inr (once-after-in d m ms k)
 
 module _ (text : ℕ → List ℕ) where
-  abbrev pub le : ℕ → ℕ → Bool
-  le a b = lexLe (text a) (text b)
+  abbrev pub leTexts : ℕ → ℕ → Bool
+  leTexts a b = lexLe (text a) (text b)
 
   -- the texts of the first of each run, by the numbers of the runs; `seen` is the next number
   abbrev pub spreadBy : ℕ → List ℕ → List ℕ → List Edge
@@ -86,11 +86,11 @@ module _ (text : ℕ → List ℕ) where
   spreadBy seen (g ∷ gs) (x ∷ xs) = cond (eqb g seen) (along g (text x) ++ spreadBy (seen + 1) gs xs) (spreadBy seen gs xs)
 
   -- of sorted things
-  abbrev pub spread : List ℕ → List Edge
-  spread s = spreadBy 0 (runNumbers le s) s
+  abbrev pub spreadSorted : List ℕ → List Edge
+  spreadSorted s = spreadBy 0 (runNumbers leTexts s) s
 
-  abbrev pub walk : {A : Type 0} → (ℕ → ℕ → A) → List ℕ → List A
-  walk f s = walkBy f (runNumbers le s) s
+  abbrev pub walkSorted : {A : Type 0} → (ℕ → ℕ → A) → List ℕ → List A
+  walkSorted f s = walkBy f (runNumbers leTexts s) s
 
   -- the first of each run
   abbrev headed : ℕ → List (List ℕ) → List Edge
@@ -98,21 +98,21 @@ module _ (text : ℕ → List ℕ) where
   headed g ([] ∷ rs) = headed (suc g) rs
   headed g ((x ∷ r) ∷ rs) = along g (text x) ++ headed (suc g) rs
 
-  spread-from : (g p : ℕ) (xs : List ℕ) → spreadBy (g + 1) (numbersFrom le g p xs) xs ≡ headed (suc g) (runsOf le (drop (equalsAfter le p xs) xs))
+  spread-from : (g p : ℕ) (xs : List ℕ) → spreadBy (g + 1) (numbersFrom leTexts g p xs) xs ≡ headed (suc g) (runsOf leTexts (drop (equalsAfter leTexts p xs) xs))
   spread-from g p [] = refl
-  spread-from g p (x ∷ xs) = go (le x p) (λ k. spread-from k x xs)
+  spread-from g p (x ∷ xs) = go (leTexts x p) (λ k. spread-from k x xs)
     where
-      go : (t : Bool) → ((k : ℕ) → spreadBy (k + 1) (numbersFrom le k x xs) xs ≡ headed (suc k) (runsOf le (drop (equalsAfter le x xs) xs)))
-          → cond (eqb (cond t g (g + 1)) (g + 1)) (along (cond t g (g + 1)) (text x) ++ spreadBy (g + 1 + 1) (numbersFrom le (cond t g (g + 1)) x xs) xs) (spreadBy (g + 1) (numbersFrom le (cond t g (g + 1)) x xs) xs)
-          ≡ headed (suc g) (runsOf le (drop (cond t (suc (equalsAfter le x xs)) 0) (x ∷ xs)))
+      go : (t : Bool) → ((k : ℕ) → spreadBy (k + 1) (numbersFrom leTexts k x xs) xs ≡ headed (suc k) (runsOf leTexts (drop (equalsAfter leTexts x xs) xs)))
+          → cond (eqb (cond t g (g + 1)) (g + 1)) (along (cond t g (g + 1)) (text x) ++ spreadBy (g + 1 + 1) (numbersFrom leTexts (cond t g (g + 1)) x xs) xs) (spreadBy (g + 1) (numbersFrom leTexts (cond t g (g + 1)) x xs) xs)
+          ≡ headed (suc g) (runsOf leTexts (drop (cond t (suc (equalsAfter leTexts x xs)) 0) (x ∷ xs)))
       go true r = rw (ne-eqb g (g + 1) (λ (z : g ≡ g + 1). let f : ⊥ = omega arith in f)) (r g)
       go false r =
-          rw (eq-eqb (g + 1) (g + 1) refl, run-behind le x xs)
+          rw (eq-eqb (g + 1) (g + 1) refl, run-behind leTexts x xs)
           (ap (λ (l : List Edge). along (g + 1) (text x) ++ l) (r (g + 1)) ∙ rw (add-one g))
 
-  spread-runs : (s : List ℕ) → spread s ≡ headed 0 (runsOf le s)
+  spread-runs : (s : List ℕ) → spreadSorted s ≡ headed 0 (runsOf leTexts s)
   spread-runs [] = refl
-  spread-runs (x ∷ xs) = ap (λ (l : List Edge). along 0 (text x) ++ l) (spread-from 0 x xs) ∙ sym (ap (headed 0) (run-behind le x xs))
+  spread-runs (x ∷ xs) = ap (λ (l : List Edge). along 0 (text x) ++ l) (spread-from 0 x xs) ∙ sym (ap (headed 0) (run-behind leTexts x xs))
 
   -- of the things that have a text, the first has it
   first-has : (g : ℕ) (d : List ℕ) (rs : List (List ℕ)) (ns : List ℕ) → In d (map text ns) → headed g (keep (λ n. same (text n) d) ns ∷ rs) ≡ along g d ++ headed (suc g) rs
@@ -133,18 +133,18 @@ module _ (text : ℕ → List ℕ) where
       ∙ ap (λ (l : List Edge). along g d ++ l) (headed-edges ns (suc g) ds (λ k q. h k (inr q)))
 
   -- THE LAW of the edges
-  pub edges-spread : (ns : List ℕ) → edgesFrom 0 (distinct (map text ns)) ≡ spread (sorted le ns)
+  pub edges-spread : (ns : List ℕ) → edgesFrom 0 (distinct (map text ns)) ≡ spreadSorted (sorted leTexts ns)
   edges-spread ns =
       sym (
-      spread-runs (sorted le ns)
+      spread-runs (sorted leTexts ns)
       ∙ ap (headed 0) (runs-distinct text ns)
       ∙ headed-edges ns 0 (distinct (map text ns)) (λ d q. distinct-in d (map text ns) q)
       )
 
   -- THE LAW of what is gathered
   pub gathered-walk : {A : Type 0} (f : ℕ → ℕ → A) (ns : List ℕ)
-      → tagged f 0 (map (λ k. keep (λ n. same (text n) k) ns) (distinct (map text ns))) ≡ walk f (sorted le ns)
-  gathered-walk f ns = ap (tagged f 0) (sym (runs-distinct text ns)) ∙ sym (walk-runs f le (sorted le ns))
+      → runsTagged f 0 (map (λ k. keep (λ n. same (text n) k) ns) (distinct (map text ns))) ≡ walkSorted f (sorted leTexts ns)
+  gathered-walk f ns = ap (runsTagged f 0) (sym (runs-distinct text ns)) ∙ sym (walk-runs f leTexts (sorted leTexts ns))
 
   -- the lengths of all texts
   abbrev pub total : List ℕ → ℕ

@@ -3,7 +3,7 @@
 use Prim.Native.Nat.{ℕ, suc, _+_, _*_, _/_, _%_}
 use mathlib.Core.List.{List, [], _∷_, _++_, flatten, map}
 use lib.ListN.{length, getD}
-use Rattle.lists.specs.FirstLaws.{place, firsts}
+use Rattle.lists.specs.FirstLaws.{firstAt, firstOnes}
 use Rattle.lists.specs.Lists.{upFrom, keep, same}
 use Rattle.sorting_spec.specs.Sort.{sorted}
 use Rattle.sorting_spec.specs.Distinct.{distinct}
@@ -11,41 +11,41 @@ use Rattle.protein_groups_members.specs.Members.{Member}
 use Rattle.protein_groups_spec.specs.ProteinGroups.{Pair, pairsOf, taking, up, listFrom, edgesFrom, Groups}
 
 -- a protein's number twice, and one more from a decoy
-abbrev pub seen : List ℕ → Pair → ℕ
-seen flags q = q .protein * 2 + getD flags (q .peptide) 0
+abbrev pub packedSeen : List ℕ → Pair → ℕ
+packedSeen flags q = q .protein * 2 + getD flags (q .peptide) 0
 
-abbrev pub shown : List ℕ → List Pair → ℕ → List ℕ
-shown flags qs p = map (seen flags) (pairsOf qs p)
+abbrev pub packedShown : List ℕ → List Pair → ℕ → List ℕ
+packedShown flags qs p = map (packedSeen flags) (pairsOf qs p)
 
-unfoldable pub proteins : List ℕ → ℕ → List Pair → List ℕ
+unfoldable pub packedProteins : List ℕ → ℕ → List Pair → List ℕ
 unfolding flatten
-proteins flags peptides qs = firsts [] (flatten (map (shown flags qs) (upFrom 0 peptides)))
+packedProteins flags peptides qs = firstOnes [] (flatten (map (packedShown flags qs) (upFrom 0 peptides)))
 
-abbrev pub evidence : List ℕ → List ℕ → List Pair → ℕ → List ℕ
-evidence ps flags qs p = sorted up (map (λ (k : ℕ). place k ps) (shown flags qs p))
+abbrev pub packedEvidence : List ℕ → List ℕ → List Pair → ℕ → List ℕ
+packedEvidence ps flags qs p = sorted up (map (λ (k : ℕ). firstAt k ps) (packedShown flags qs p))
 
-unfoldable pub metas : List ℕ → List ℕ → ℕ → List Pair → List (List ℕ)
-metas ps flags peptides qs = distinct (map (evidence ps flags qs) (taking peptides qs))
+unfoldable pub packedMetas : List ℕ → List ℕ → ℕ → List Pair → List (List ℕ)
+packedMetas ps flags peptides qs = distinct (map (packedEvidence ps flags qs) (taking peptides qs))
 
 -- the list of meta-peptides of each protein, by its number
 abbrev pub lists : List (List ℕ) → ℕ → List (List ℕ)
 lists ms n = map (listFrom 0 ms) (upFrom 0 n)
 
 -- the member of the protein with number k
-abbrev pub member : List ℕ → ℕ → ℕ → Member
-member ps g k = record { group = g; protein = getD ps k 0 / 2; decoy = getD ps k 0 % 2 }
+abbrev pub packedMember : List ℕ → ℕ → ℕ → Member
+packedMember ps g k = record { group = g; protein = getD ps k 0 / 2; decoy = getD ps k 0 % 2 }
 
-abbrev pub membersFrom : List ℕ → List (List ℕ) → ℕ → List (List ℕ) → List Member
-membersFrom ps ms g [] = []
-membersFrom ps ms g (l ∷ ls) =
-    map (member ps g) (keep (λ (k : ℕ). same (listFrom 0 ms k) l) (upFrom 0 (length ps))) ++ membersFrom ps ms (suc g) ls
+abbrev pub packedMembers : List ℕ → List (List ℕ) → ℕ → List (List ℕ) → List Member
+packedMembers ps ms g [] = []
+packedMembers ps ms g (l ∷ ls) =
+    map (packedMember ps g) (keep (λ (k : ℕ). same (listFrom 0 ms k) l) (upFrom 0 (length ps))) ++ packedMembers ps ms (suc g) ls
 
-unfoldable pub groupsOf : List ℕ → List (List ℕ) → Groups
-groupsOf ps ms =
+unfoldable pub packedGroups : List ℕ → List (List ℕ) → Groups
+packedGroups ps ms =
     let ls = distinct (lists ms (length ps)) in
-    record { edges = edgesFrom 0 ls; members = membersFrom ps ms 0 ls; groups = length ls; metas = length ms }
+    record { edges = edgesFrom 0 ls; members = packedMembers ps ms 0 ls; groups = length ls; metas = length ms }
 
 unfoldable pub packedGrouping : List ℕ → ℕ → List Pair → Groups
 packedGrouping flags peptides qs =
-    let ps = proteins flags peptides qs in
-    groupsOf ps (metas ps flags peptides qs)
+    let ps = packedProteins flags peptides qs in
+    packedGroups ps (packedMetas ps flags peptides qs)

@@ -10,7 +10,7 @@ use lib.ListN.{length, getD, length-map}
 use Rattle.sorting_spec.specs.RunLaws.{length-numbers}
 use Rattle.lists.specs.Lists.{In, upFrom, keep, same, times}
 use Rattle.lists.specs.RowLaws.{length-up}
-use Rattle.lists.specs.FirstLaws.{place, at-most}
+use Rattle.lists.specs.FirstLaws.{firstAt, at-most}
 use Rattle.lists.specs.KeyLaws.{ofKey, below, below-suc, below-most, under-of}
 use Rattle.sorting_spec.specs.Sort.{sorted}
 use Rattle.sorting_spec.specs.SortLaws.{length-sorted}
@@ -19,11 +19,11 @@ use Rattle.sorting_spec.specs.Runs.{runNumbers}
 use Rattle.sorting_spec.specs.Distinct.{onceAfter, once, distinct}
 use Rattle.cover_spec.specs.Cover.{Edge}
 use Rattle.protein_groups_spec.specs.ProteinGroups.{Pair, pairsOf, paired, taking, up, listFrom, edgesFrom, Groups}
-use Rattle.protein_groups_spec.specs.PackedGroups.{seen, shown, proteins, evidence, metas, lists, member, groupsOf, packedGrouping}
+use Rattle.protein_groups_spec.specs.PackedGroups.{packedSeen, packedShown, packedProteins, packedEvidence, packedMetas, lists, packedMember, packedGroups, packedGrouping}
 use Rattle.protein_groups_spec.specs.CountingLaws.{metasIn, groupsIn, list-chosen}
-use Rattle.protein_groups_spec.specs.LeaderLaws.{le, total, total-sorted, total-keep, spread-most, edges-spread}
+use Rattle.protein_groups_spec.specs.LeaderLaws.{leTexts, total, total-sorted, total-keep, spread-most, edges-spread}
 use Rattle.protein_groups_spec.specs.ReadingLaws.{read-walk}
-use Rattle.protein_groups_spec.specs.WholeLaws.{peptidesOf, times-pairs, whole}
+use Rattle.protein_groups_spec.specs.WholeLaws.{peptidesOf, times-pairs, whole-packed}
 use Rattle.protein_groups_spec.specs.TheoremLaws.{found-once, member-seen}
 
 -- ---- what is left of a list is no longer than it
@@ -73,7 +73,7 @@ module _ (text : ℕ → List ℕ) (ks : List ℕ) (each : (k : ℕ) → length 
 few-spread : (text : ℕ → List ℕ) (ns : List ℕ) → length (edgesFrom 0 (distinct (map text ns))) ≤ total text ns
 few-spread text ns =
     rw (edges-spread text ns)
-    (omega (arith, spread-most text 0 (runNumbers (le text) (sorted (le text) ns)) (sorted (le text) ns), total-sorted text (le text) ns))
+    (omega (arith, spread-most text 0 (runNumbers (leTexts text) (sorted (leTexts text) ns)) (sorted (leTexts text) ns), total-sorted text (leTexts text) ns))
 
 -- ---- the grouping
 
@@ -82,65 +82,65 @@ module _ (flags : List ℕ) (peptides : ℕ) (qs : List Pair) where
   G = packedGrouping flags peptides qs
 
   abbrev ps : List ℕ
-  ps = proteins flags peptides qs
+  ps = packedProteins flags peptides qs
 
   abbrev ms : List (List ℕ)
-  ms = metas (proteins flags peptides qs) flags peptides qs
+  ms = packedMetas (packedProteins flags peptides qs) flags peptides qs
 
-  few-found : (n : ℕ) → ((q : Pair) → In q qs → seen flags q < n) → length ps ≤ n
+  few-found : (n : ℕ) → ((q : Pair) → In q qs → packedSeen flags q < n) → length ps ≤ n
   few-found n b =
       at-most n ps (record {
         under = under-of n ps (λ i h. let (q, j, e) = member-seen flags peptides qs i h in rw e (b q j));
         single = found-once flags peptides qs;
       })
 
-  pub few-groups : (n : ℕ) → ((q : Pair) → In q qs → seen flags q < n) → G .groups ≤ n
-  unfolding packedGrouping groupsOf
+  pub few-groups : (n : ℕ) → ((q : Pair) → In q qs → packedSeen flags q < n) → G .groups ≤ n
+  unfolding packedGrouping packedGroups
   few-groups n b = omega (arith, few-found n b, few-distinct (lists ms (length ps)), length-map (upFrom 0 (length ps)) (listFrom 0 ms), length-up 0 (length ps))
 
   -- the proteins by their lists, and the numbers of their groups
   abbrev order : List ℕ
-  order = sorted (le (listFrom 0 ms)) (upFrom 0 (length ps))
+  order = sorted (leTexts (listFrom 0 ms)) (upFrom 0 (length ps))
 
   abbrev numbers : List ℕ
-  numbers = runNumbers (le (listFrom 0 ms)) order
+  numbers = runNumbers (leTexts (listFrom 0 ms)) order
 
-  pub few-members : (n : ℕ) → ((q : Pair) → In q qs → seen flags q < n) → length (G .members) ≤ n
+  pub few-members : (n : ℕ) → ((q : Pair) → In q qs → packedSeen flags q < n) → length (G .members) ≤ n
   unfolding packedGrouping
   few-members n b =
-      let same : length numbers ≡ length order = length-numbers (le (listFrom 0 ms)) order in
-      let long : length order ≡ length ps = length-sorted (le (listFrom 0 ms)) (upFrom 0 (length ps)) ∙ length-up 0 (length ps) in
+      let same : length numbers ≡ length order = length-numbers (leTexts (listFrom 0 ms)) order in
+      let long : length order ≡ length ps = length-sorted (leTexts (listFrom 0 ms)) (upFrom 0 (length ps)) ∙ length-up 0 (length ps) in
       let walked : length (G .members) ≡ length numbers =
-      ap (λ (g : Groups). length (g .members)) (whole ps ms (listFrom 0 ms) (λ k h. refl))
-      ∙ ap length (sym (read-walk (member ps) numbers order same))
-      ∙ length-map (upFrom 0 (length numbers)) (λ (i : ℕ). member ps (getD numbers i 0) (getD order i 0))
+      ap (λ (g : Groups). length (g .members)) (whole-packed ps ms (listFrom 0 ms) (λ k h. refl))
+      ∙ ap length (sym (read-walk (packedMember ps) numbers order same))
+      ∙ length-map (upFrom 0 (length numbers)) (λ (i : ℕ). packedMember ps (getD numbers i 0) (getD order i 0))
       ∙ length-up 0 (length numbers) in
       omega (arith, few-found n b)
 
   pub few-metas : G .metas ≤ peptides
-  unfolding packedGrouping groupsOf metas
-  few-metas = omega (arith, few-distinct (map (evidence ps flags qs) (taking peptides qs)), length-map (taking peptides qs) (evidence ps flags qs), few-kept (paired qs) 0 peptides)
+  unfolding packedGrouping packedGroups packedMetas
+  few-metas = omega (arith, few-distinct (map (packedEvidence ps flags qs) (taking peptides qs)), length-map (taking peptides qs) (packedEvidence ps flags qs), few-kept (paired qs) 0 peptides)
 
-  long-evidence : (p : ℕ) → length (evidence ps flags qs p) ≤ times p (peptidesOf qs)
+  long-evidence : (p : ℕ) → length (packedEvidence ps flags qs p) ≤ times p (peptidesOf qs)
   long-evidence p =
-      omega (arith, length-sorted up (map (λ (k : ℕ). place k ps) (shown flags qs p)), length-map (shown flags qs p) (λ (k : ℕ). place k ps), length-map (pairsOf qs p) (seen flags), times-pairs qs p)
+      omega (arith, length-sorted up (map (λ (k : ℕ). firstAt k ps) (packedShown flags qs p)), length-map (packedShown flags qs p) (λ (k : ℕ). firstAt k ps), length-map (pairsOf qs p) (packedSeen flags), times-pairs qs p)
 
   long-list : (k : ℕ) → length (listFrom 0 ms k) ≤ times k (metasIn (edgesFrom 0 ms))
   long-list k = rw (list-chosen k 0 ms) (few-chosen k (metasIn (edgesFrom 0 ms)) (groupsIn (edgesFrom 0 ms)))
 
   few-entries : length (edgesFrom 0 ms) ≤ length qs
-  unfolding metas
+  unfolding packedMetas
   few-entries =
       omega (
         arith,
-        few-spread (evidence ps flags qs) (taking peptides qs),
-        total-keep (evidence ps flags qs) (paired qs) (upFrom 0 peptides),
-        total-most (evidence ps flags qs) (peptidesOf qs) long-evidence peptides,
+        few-spread (packedEvidence ps flags qs) (taking peptides qs),
+        total-keep (packedEvidence ps flags qs) (paired qs) (upFrom 0 peptides),
+        total-most (packedEvidence ps flags qs) (peptidesOf qs) long-evidence peptides,
         length-map qs (λ (q : Pair). q .peptide),
       )
 
   pub few-edges : length (G .edges) ≤ length qs
-  unfolding packedGrouping groupsOf
+  unfolding packedGrouping packedGroups
   few-edges =
       omega (
         arith,

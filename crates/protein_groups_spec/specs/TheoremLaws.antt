@@ -1,4 +1,4 @@
--- Lemmas of the theorems: what stands in a list and how often, what `firsts` and `distinct` hold, and where members and edges come
+-- Lemmas of the theorems: what stands in a list and how often, what `firstOnes` and `distinct` hold, and where members and edges come
 -- from. Assumes nothing.
 use mathlib.Core.Path.{_≡_, refl, sym, ap, _∙_, subst}
 use mathlib.Core.Bool.{Bool, true, false, cond, _&&_, _||_}
@@ -12,12 +12,12 @@ use lib.Dec.{eqb}
 use lib.ListN.{length, getD, replicate, List·getD-eq-default}
 use Rattle.sorting_spec.specs.RunLaws.{length-numbers}
 use Rattle.lists.specs.KeepLaws.{count-times}
-use Rattle.lists.specs.InLaws.{in-left, in-right, in-append, in-keep, keep-in, in-map, map-in, in-getD, getD-in, is-in, in-some, some-in, has-in, in-has, in-times, times-in, count-in, in-count}
+use Rattle.lists.specs.InLaws.{in-left, in-right, in-append, in-keep, keep-in, in-map, map-in, in-getD, getD-in, is-in, in-some, some-in, occurs-in, in-occurs, in-times, times-in, count-in, in-count}
 use Rattle.lists.specs.Tests.{below?, clash, iff}
-use Rattle.lists.specs.Lists.{In, upFrom, keep, same, bit, count, All, has, times}
+use Rattle.lists.specs.Lists.{In, upFrom, keep, same, bit, count, All, occurs, times}
 use Rattle.lists.specs.RowLaws.{in-up, up-in}
 use Rattle.lists.specs.SameLaws.{same-refl, same-eq}
-use Rattle.lists.specs.FirstLaws.{place, firsts, place-lt, has-append, times-append, place-at, getD-place}
+use Rattle.lists.specs.FirstLaws.{firstAt, firstOnes, place-lt, occurs-append, times-append, place-at, getD-place}
 use Rattle.sorting_spec.specs.Sort.{sorted}
 use Rattle.sorting_spec.specs.SortLaws.{in-sorted, sorted-in, count-sorted}
 use Rattle.sorting_spec.specs.Lex.{lexLe}
@@ -27,12 +27,12 @@ use Rattle.cover_spec.specs.Cover.{Edge}
 use Rattle.protein_groups_members.specs.Members.{Member}
 use Rattle.protein_groups_members.specs.MemberLaws.{Ranged}
 use Rattle.protein_groups_spec.specs.ProteinGroups.{Pair, pairsOf, paired, taking, up, listFrom, edgesFrom}
-use Rattle.protein_groups_spec.specs.PackedGroups.{shown, seen, proteins, metas, evidence, lists, member, membersFrom, groupsOf, packedGrouping}
+use Rattle.protein_groups_spec.specs.PackedGroups.{packedShown, packedSeen, packedProteins, packedMetas, packedEvidence, lists, packedMember, packedMembers, packedGroups, packedGrouping}
 use Rattle.protein_groups_spec.specs.Standing.{standing, seenAs}
-use Rattle.protein_groups_spec.specs.LeaderLaws.{walkBy, tagged, gathered-walk, distinct-in, le}
+use Rattle.protein_groups_spec.specs.LeaderLaws.{walkBy, runsTagged, gathered-walk, distinct-in, leTexts}
 
 -- what is asked of the lists: flags are 0 or 1, and a pair's peptide is below the number of peptides
-pub record Fit (flags : List ℕ) (peptides : ℕ) (qs : List Pair) : Type 0 where
+pub record PairsFit (flags : List ℕ) (peptides : ℕ) (qs : List Pair) : Type 0 where
   pub flag : (i : ℕ) → i < length flags → getD flags i 0 ≤ 1
   pub below : (q : Pair) → In q qs → q .peptide < peptides
 
@@ -56,19 +56,19 @@ count-walk f t u h (g ∷ gs) (x ∷ xs) e = rw (h g x, count-walk f t u h gs xs
 
 -- c stands once in f where it stands in it
 abbrev Single : ℕ → List ℕ → Type 0
-Single c f = times c f ≡ bit (has c f)
+Single c f = times c f ≡ bit (occurs c f)
 
 -- after x is seen c stands once in what is found, where it stood in it or is x
-single-next : (c x : ℕ) (f : List ℕ) → Single c f → Single c (cond (has x f) f (f ++ (x ∷ []))) × (has c (cond (has x f) f (f ++ (x ∷ []))) ≡ (has c f || eqb x c))
-single-next c x f s = go (has x f) (eqb x c) (has c f) refl refl refl
+single-next : (c x : ℕ) (f : List ℕ) → Single c f → Single c (cond (occurs x f) f (f ++ (x ∷ []))) × (occurs c (cond (occurs x f) f (f ++ (x ∷ []))) ≡ (occurs c f || eqb x c))
+single-next c x f s = go (occurs x f) (eqb x c) (occurs c f) refl refl refl
   where
-    go : (t u v : Bool) → has x f ≡ t → eqb x c ≡ u → has c f ≡ v → Single c (cond t f (f ++ (x ∷ []))) × (has c (cond t f (f ++ (x ∷ []))) ≡ (v || u))
+    go : (t u v : Bool) → occurs x f ≡ t → eqb x c ≡ u → occurs c f ≡ v → Single c (cond t f (f ++ (x ∷ []))) × (occurs c (cond t f (f ++ (x ∷ []))) ≡ (v || u))
     go true u true p q r = (s, r)
     go true false false p q r = (s, r)
     go true true false p q r = let z : x ≡ c = eqb-true x c q in clash (rw z at p) r
     go false false v p q r =
         let n : times c (x ∷ []) ≡ 0 = rw q in
-        let m : has c (f ++ (x ∷ [])) ≡ (v || false) = has-append c f (x ∷ []) ∙ rw (q, r) in
+        let m : occurs c (f ++ (x ∷ [])) ≡ (v || false) = occurs-append c f (x ∷ []) ∙ rw (q, r) in
         (times-append c f (x ∷ []) ∙ rw (n, s, m, r) (bits v), m)
       where
         bits : (v : Bool) → bit v + 0 ≡ bit (v || false)
@@ -77,27 +77,27 @@ single-next c x f s = go (has x f) (eqb x c) (has c f) refl refl refl
     go false true true p q r = let z : x ≡ c = eqb-true x c q in clash (rw (sym z) at r) p
     go false true false p q r =
         let n : times c (x ∷ []) ≡ 1 = rw q in
-        let m : has c (f ++ (x ∷ [])) ≡ true = has-append c f (x ∷ []) ∙ rw (q, r) in
+        let m : occurs c (f ++ (x ∷ [])) ≡ true = occurs-append c f (x ∷ []) ∙ rw (q, r) in
         (times-append c f (x ∷ []) ∙ rw (n, s, m, r), m)
 
-pub single-firsts : (c : ℕ) (f l : List ℕ) → Single c f → times c (firsts f l) ≡ bit (has c f || has c l)
-single-firsts c f [] s = s ∙ go (has c f)
+pub single-firsts : (c : ℕ) (f l : List ℕ) → Single c f → times c (firstOnes f l) ≡ bit (occurs c f || occurs c l)
+single-firsts c f [] s = s ∙ go (occurs c f)
   where
     go : (v : Bool) → bit v ≡ bit (v || false)
     go true = refl
     go false = refl
 single-firsts c f (x ∷ xs) s =
     let n = single-next c x f s in
-    single-firsts c (cond (has x f) f (f ++ (x ∷ []))) xs (n .0) ∙ rw (n .1) (go (has c f) (eqb x c))
+    single-firsts c (cond (occurs x f) f (f ++ (x ∷ []))) xs (n .0) ∙ rw (n .1) (go (occurs c f) (eqb x c))
   where
-    go : (v u : Bool) → bit ((v || u) || has c xs) ≡ bit (v || cond u true (has c xs))
+    go : (v u : Bool) → bit ((v || u) || occurs c xs) ≡ bit (v || cond u true (occurs c xs))
     go true u = refl
     go false true = refl
     go false false = refl
 
-pub firsts-in : (x : ℕ) (f l : List ℕ) → In x (firsts f l) → In x f ⊎ In x l
+pub firsts-in : (x : ℕ) (f l : List ℕ) → In x (firstOnes f l) → In x f ⊎ In x l
 firsts-in x f [] h = inl h
-firsts-in x f (y ∷ ys) h = ⊎-elim (λ i. go (has y f) i) (λ i. inr (inr i)) (firsts-in x (cond (has y f) f (f ++ (y ∷ []))) ys h)
+firsts-in x f (y ∷ ys) h = ⊎-elim (λ i. go (occurs y f) i) (λ i. inr (inr i)) (firsts-in x (cond (occurs y f) f (f ++ (y ∷ []))) ys h)
   where
     last : In x f ⊎ In x (y ∷ []) → In x f ⊎ In x (y ∷ ys)
     last (inl i) = inl i
@@ -111,19 +111,19 @@ firsts-in x f (y ∷ ys) h = ⊎-elim (λ i. go (has y f) i) (λ i. inr (inr i))
 -- ---- what the pairs show
 
 module _ (flags : List ℕ) (qs : List Pair) where
-  pub shown-in : (x a n : ℕ) → In x (flatten (map (shown flags qs) (upFrom a n))) → (q : Pair) × In q qs × (x ≡ seen flags q) × (q .peptide < a + n)
+  pub shown-in : (x a n : ℕ) → In x (flatten (map (packedShown flags qs) (upFrom a n))) → (q : Pair) × In q qs × (x ≡ packedSeen flags q) × (q .peptide < a + n)
   unfolding flatten
   shown-in x a zero h = absurd h
-  shown-in x a (suc n) h = ⊎-elim here (λ i. let (q, j, e, l) = shown-in x (suc a) n i in (q, j, e, omega arith)) (in-append x (shown flags qs a) (flatten (map (shown flags qs) (upFrom (suc a) n))) h)
+  shown-in x a (suc n) h = ⊎-elim here (λ i. let (q, j, e, l) = shown-in x (suc a) n i in (q, j, e, omega arith)) (in-append x (packedShown flags qs a) (flatten (map (packedShown flags qs) (upFrom (suc a) n))) h)
     where
-      here : In x (shown flags qs a) → (q : Pair) × In q qs × (x ≡ seen flags q) × (q .peptide < a + suc n)
+      here : In x (packedShown flags qs a) → (q : Pair) × In q qs × (x ≡ packedSeen flags q) × (q .peptide < a + suc n)
       here i =
-          let (q, j, e) = map-in (seen flags) x (pairsOf qs a) i in
+          let (q, j, e) = map-in (packedSeen flags) x (pairsOf qs a) i in
           let k = keep-in q (λ (q : Pair). eqb (q .peptide) a) qs j in
           let z : q .peptide ≡ a = eqb-true (q .peptide) a (k .1) in
           (q, k .0, e, omega arith)
 
-  pub in-shown : (q : Pair) (a n : ℕ) → In q qs → a ≤ q .peptide → q .peptide < a + n → In (seen flags q) (flatten (map (shown flags qs) (upFrom a n)))
+  pub in-shown : (q : Pair) (a n : ℕ) → In q qs → a ≤ q .peptide → q .peptide < a + n → In (packedSeen flags q) (flatten (map (packedShown flags qs) (upFrom a n)))
   unfolding flatten
   in-shown q a zero i l h = absurd (omega arith)
   in-shown q a (suc n) i l h = go (eqb (q .peptide) a) refl (in-shown q (suc a) n i)
@@ -131,18 +131,18 @@ module _ (flags : List ℕ) (qs : List Pair) where
       after : (q .peptide ≡ a → ⊥) → suc a ≤ q .peptide
       after d = ⊎-elim (λ (z : a < q .peptide). omega arith) (λ (z : q .peptide ≤ a). absurd (d (omega arith))) (below? a (q .peptide))
 
-      go : (t : Bool) → eqb (q .peptide) a ≡ t → (suc a ≤ q .peptide → q .peptide < suc a + n → In (seen flags q) (flatten (map (shown flags qs) (upFrom (suc a) n))))
-          → In (seen flags q) (shown flags qs a ++ flatten (map (shown flags qs) (upFrom (suc a) n)))
-      go true e r = in-left (seen flags q) (shown flags qs a) (flatten (map (shown flags qs) (upFrom (suc a) n))) (in-map (seen flags) q (pairsOf qs a) (in-keep q (λ (q : Pair). eqb (q .peptide) a) qs i e))
+      go : (t : Bool) → eqb (q .peptide) a ≡ t → (suc a ≤ q .peptide → q .peptide < suc a + n → In (packedSeen flags q) (flatten (map (packedShown flags qs) (upFrom (suc a) n))))
+          → In (packedSeen flags q) (packedShown flags qs a ++ flatten (map (packedShown flags qs) (upFrom (suc a) n)))
+      go true e r = in-left (packedSeen flags q) (packedShown flags qs a) (flatten (map (packedShown flags qs) (upFrom (suc a) n))) (in-map (packedSeen flags) q (pairsOf qs a) (in-keep q (λ (q : Pair). eqb (q .peptide) a) qs i e))
       go false e r =
-          in-right (seen flags q) (shown flags qs a) (flatten (map (shown flags qs) (upFrom (suc a) n)))
+          in-right (packedSeen flags q) (packedShown flags qs a) (flatten (map (packedShown flags qs) (upFrom (suc a) n)))
           (r (after (eqb-false (q .peptide) a e)) (omega arith))
 
 -- ---- a number seen as protein and flag
 
 -- a protein's number twice, and its flag
-pub halves : (x p f : ℕ) → f ≤ 1 → (eqb (x / 2) p && eqb (x % 2) f) ≡ eqb x (p * 2 + f)
-halves x p f h = go (eqb (x / 2) p) (eqb (x % 2) f) refl refl
+pub halves-pack : (x p f : ℕ) → f ≤ 1 → (eqb (x / 2) p && eqb (x % 2) f) ≡ eqb x (p * 2 + f)
+halves-pack x p f h = go (eqb (x / 2) p) (eqb (x % 2) f) refl refl
   where
     go : (t u : Bool) → eqb (x / 2) p ≡ t → eqb (x % 2) f ≡ u → (t && u) ≡ eqb x (p * 2 + f)
     go true true a b = sym (eq-eqb x (p * 2 + f) (omega (arith, eqb-true (x / 2) p a, eqb-true (x % 2) f b)))
@@ -154,7 +154,7 @@ flag-le flags h i =
     ⊎-elim (λ (l : i < length flags). h i l) (λ (l : length flags ≤ i). let e : getD flags i 0 ≡ 0 = List·getD-eq-default flags 0 l in omega arith) (below? i (length flags))
 
 -- the protein and the flag of what is seen
-pub seen-is : (flags : List ℕ) → ((i : ℕ) → i < length flags → getD flags i 0 ≤ 1) → (q : Pair) (p x : ℕ) → q .peptide ≡ p → x ≡ seen flags q
+pub seen-is : (flags : List ℕ) → ((i : ℕ) → i < length flags → getD flags i 0 ≤ 1) → (q : Pair) (p x : ℕ) → q .peptide ≡ p → x ≡ packedSeen flags q
     → (x / 2 ≡ q .protein) × (x % 2 ≡ getD flags p 0)
 seen-is flags h q p x e z =
     let l : getD flags (q .peptide) 0 ≤ 1 = flag-le flags h (q .peptide) in
@@ -238,42 +238,42 @@ module _ (ps : List ℕ) (ms : List (List ℕ)) where
   abbrev having : List ℕ → List ℕ
   having l = keep (λ (k : ℕ). same (listFrom 0 ms k) l) (upFrom 0 (length ps))
 
-  pub member-in : (m : Member) (g : ℕ) (ls : List (List ℕ)) → In m (membersFrom ps ms g ls)
-      → (i : ℕ) × (i < length ls) × ((k : ℕ) × (k < length ps) × (listFrom 0 ms k ≡ getD ls i []) × (m ≡ member ps (g + i) k))
+  pub member-in : (m : Member) (g : ℕ) (ls : List (List ℕ)) → In m (packedMembers ps ms g ls)
+      → (i : ℕ) × (i < length ls) × ((k : ℕ) × (k < length ps) × (listFrom 0 ms k ≡ getD ls i []) × (m ≡ packedMember ps (g + i) k))
   member-in m g [] h = absurd h
   member-in m g (l ∷ ls) h =
-      ⊎-elim here (λ i. later (member-in m (suc g) ls i)) (in-append m (map (member ps g) (having l)) (membersFrom ps ms (suc g) ls) h)
+      ⊎-elim here (λ i. later (member-in m (suc g) ls i)) (in-append m (map (packedMember ps g) (having l)) (packedMembers ps ms (suc g) ls) h)
     where
-      here : In m (map (member ps g) (having l)) → (i : ℕ) × (i < suc (length ls)) × ((k : ℕ) × (k < length ps) × (listFrom 0 ms k ≡ getD (l ∷ ls) i []) × (m ≡ member ps (g + i) k))
+      here : In m (map (packedMember ps g) (having l)) → (i : ℕ) × (i < suc (length ls)) × ((k : ℕ) × (k < length ps) × (listFrom 0 ms k ≡ getD (l ∷ ls) i []) × (m ≡ packedMember ps (g + i) k))
       here i =
-          let (k, j, z) = map-in (member ps g) m (having l) i in
+          let (k, j, z) = map-in (packedMember ps g) m (having l) i in
           let (u, s) = keep-in k (λ (k : ℕ). same (listFrom 0 ms k) l) (upFrom 0 (length ps)) j in
           let v = up-in k 0 (length ps) u in
           let y : g ≡ g + 0 = omega arith in
-          (0, omega arith, (k, omega arith, same-eq (listFrom 0 ms k) l s, z ∙ ap (λ (n : ℕ). member ps n k) y))
+          (0, omega arith, (k, omega arith, same-eq (listFrom 0 ms k) l s, z ∙ ap (λ (n : ℕ). packedMember ps n k) y))
 
-      later : (i : ℕ) × (i < length ls) × ((k : ℕ) × (k < length ps) × (listFrom 0 ms k ≡ getD ls i []) × (m ≡ member ps (suc g + i) k))
-          → (i : ℕ) × (i < suc (length ls)) × ((k : ℕ) × (k < length ps) × (listFrom 0 ms k ≡ getD (l ∷ ls) i []) × (m ≡ member ps (g + i) k))
+      later : (i : ℕ) × (i < length ls) × ((k : ℕ) × (k < length ps) × (listFrom 0 ms k ≡ getD ls i []) × (m ≡ packedMember ps (suc g + i) k))
+          → (i : ℕ) × (i < suc (length ls)) × ((k : ℕ) × (k < length ps) × (listFrom 0 ms k ≡ getD (l ∷ ls) i []) × (m ≡ packedMember ps (g + i) k))
       later r =
           let (i, b, (k, c, e, z)) = r in
           let y : suc g + i ≡ g + suc i = omega arith in
-          (suc i, omega arith, (k, c, e, z ∙ ap (λ (n : ℕ). member ps n k) y))
+          (suc i, omega arith, (k, c, e, z ∙ ap (λ (n : ℕ). packedMember ps n k) y))
 
   -- the members are what is gathered for each list
-  pub members-tagged : (g : ℕ) (ls : List (List ℕ)) → membersFrom ps ms g ls ≡ tagged (member ps) g (map (λ l. keep (λ k. same (listFrom 0 ms k) l) (upFrom 0 (length ps))) ls)
+  pub members-tagged : (g : ℕ) (ls : List (List ℕ)) → packedMembers ps ms g ls ≡ runsTagged (packedMember ps) g (map (λ l. keep (λ k. same (listFrom 0 ms k) l) (upFrom 0 (length ps))) ls)
   members-tagged g [] = refl
-  members-tagged g (l ∷ ls) = ap (λ (s : List Member). map (member ps g) (having l) ++ s) (members-tagged (suc g) ls)
+  members-tagged g (l ∷ ls) = ap (λ (s : List Member). map (packedMember ps g) (having l) ++ s) (members-tagged (suc g) ls)
 
-  pub in-member : (k g i : ℕ) (ls : List (List ℕ)) → k < length ps → i < length ls → listFrom 0 ms k ≡ getD ls i [] → In (member ps (g + i) k) (membersFrom ps ms g ls)
+  pub in-member : (k g i : ℕ) (ls : List (List ℕ)) → k < length ps → i < length ls → listFrom 0 ms k ≡ getD ls i [] → In (packedMember ps (g + i) k) (packedMembers ps ms g ls)
   in-member k g i [] b l h = absurd (omega arith)
   in-member k g zero (d ∷ ls) b l h =
       let z : g + 0 ≡ g = omega arith in
       let s : same (listFrom 0 ms k) d ≡ true = rw h (same-refl d) in
       let j : In k (having d) = in-keep k (λ (k : ℕ). same (listFrom 0 ms k) d) (upFrom 0 (length ps)) (in-up k 0 (length ps) (omega arith) (omega arith)) s in
-      rw z (in-left (member ps g k) (map (member ps g) (having d)) (membersFrom ps ms (suc g) ls) (in-map (member ps g) k (having d) j))
+      rw z (in-left (packedMember ps g k) (map (packedMember ps g) (having d)) (packedMembers ps ms (suc g) ls) (in-map (packedMember ps g) k (having d) j))
   in-member k g (suc i) (d ∷ ls) b l h =
       let z : g + suc i ≡ suc g + i = omega arith in
-      rw z (in-right (member ps (suc g + i) k) (map (member ps g) (having d)) (membersFrom ps ms (suc g) ls) (in-member k (suc g) i ls b (omega arith) h))
+      rw z (in-right (packedMember ps (suc g + i) k) (map (packedMember ps g) (having d)) (packedMembers ps ms (suc g) ls) (in-member k (suc g) i ls b (omega arith) h))
 
 -- ---- the grouping
 
@@ -296,69 +296,69 @@ all-edges P (e ∷ l) h = (h e (inl refl), all-edges P l (λ d i. h d (inr i)))
 
 module _ (flags : List ℕ) (peptides : ℕ) (qs : List Pair) where
   abbrev all : List ℕ
-  all = flatten (map (shown flags qs) (upFrom 0 peptides))
+  all = flatten (map (packedShown flags qs) (upFrom 0 peptides))
 
   abbrev ps : List ℕ
-  ps = proteins flags peptides qs
+  ps = packedProteins flags peptides qs
 
   abbrev ms : List (List ℕ)
-  ms = metas (proteins flags peptides qs) flags peptides qs
+  ms = packedMetas (packedProteins flags peptides qs) flags peptides qs
 
   abbrev ls : List (List ℕ)
-  ls = distinct (lists (metas (proteins flags peptides qs) flags peptides qs) (length (proteins flags peptides qs)))
+  ls = distinct (lists (packedMetas (packedProteins flags peptides qs) flags peptides qs) (length (packedProteins flags peptides qs)))
 
   -- the numbers found: those seen, each once
-  found-times : (x : ℕ) → times x ps ≡ bit (has x all)
-  unfolding proteins
+  found-times : (x : ℕ) → times x ps ≡ bit (occurs x all)
+  unfolding packedProteins
   found-times x = single-firsts x [] all refl
 
   found-in : (x : ℕ) → In x ps → In x all
-  unfolding proteins
+  unfolding packedProteins
   found-in x h = ⊎-elim (λ (i : In x []). absurd i) (λ i. i) (firsts-in x [] all h)
 
   pub in-found : (x : ℕ) → In x all → In x ps
-  in-found x h = let e : times x ps ≡ 1 = found-times x ∙ rw (in-has x all h) in times-in x ps (omega arith)
+  in-found x h = let e : times x ps ≡ 1 = found-times x ∙ rw (in-occurs x all h) in times-in x ps (omega arith)
 
   pub found-once : (x : ℕ) → times x ps ≤ 1
-  found-once x = rw (found-times x) (go (has x all))
+  found-once x = rw (found-times x) (go (occurs x all))
     where
       go : (t : Bool) → bit t ≤ 1
       go true = omega arith
       go false = omega arith
 
-  pub place-found : (k : ℕ) → k < length ps → place (getD ps k 0) ps ≡ k
-  place-found k h = place-at ps k h (found-once (getD ps k 0))
+  pub place-in-found : (k : ℕ) → k < length ps → firstAt (getD ps k 0) ps ≡ k
+  place-in-found k h = place-at ps k h (found-once (getD ps k 0))
 
-  pub member-seen : (k : ℕ) → k < length ps → (q : Pair) × In q qs × (getD ps k 0 ≡ seen flags q)
+  pub member-seen : (k : ℕ) → k < length ps → (q : Pair) × In q qs × (getD ps k 0 ≡ packedSeen flags q)
   member-seen k h = let (q, i, e, l) = shown-in flags qs (getD ps k 0) 0 peptides (found-in (getD ps k 0) (in-getD 0 ps k h)) in (q, i, e)
 
   -- a pair's protein stands in the evidence of its peptide
   own : (q : Pair) (p : ℕ) → In q qs → q .peptide ≡ p → In q (pairsOf qs p)
   own q p i z = in-keep q (λ (r : Pair). eqb (r .peptide) p) qs i (eq-eqb (q .peptide) p z)
 
-  in-evidence : (q : Pair) (p : ℕ) → In q qs → q .peptide ≡ p → In (place (seen flags q) ps) (evidence ps flags qs p)
+  in-evidence : (q : Pair) (p : ℕ) → In q qs → q .peptide ≡ p → In (firstAt (packedSeen flags q) ps) (packedEvidence ps flags qs p)
   in-evidence q p i z =
-      in-sorted up (place (seen flags q) ps) (map (λ (k : ℕ). place k ps) (shown flags qs p))
-      (in-map (λ (k : ℕ). place k ps) (seen flags q) (shown flags qs p) (in-map (seen flags) q (pairsOf qs p) (own q p i z)))
+      in-sorted up (firstAt (packedSeen flags q) ps) (map (λ (k : ℕ). firstAt k ps) (packedShown flags qs p))
+      (in-map (λ (k : ℕ). firstAt k ps) (packedSeen flags q) (packedShown flags qs p) (in-map (packedSeen flags) q (pairsOf qs p) (own q p i z)))
 
   -- each protein found has a meta-peptide
-  has-meta : (q : Pair) → In q qs → q .peptide < 0 + peptides → In (evidence ps flags qs (q .peptide)) ms
-  unfolding metas
+  has-meta : (q : Pair) → In q qs → q .peptide < 0 + peptides → In (packedEvidence ps flags qs (q .peptide)) ms
+  unfolding packedMetas
   has-meta q i l =
-      in-distinct (evidence ps flags qs (q .peptide)) (map (evidence ps flags qs) (taking peptides qs))
-      (in-map (evidence ps flags qs) (q .peptide) (taking peptides qs)
+      in-distinct (packedEvidence ps flags qs (q .peptide)) (map (packedEvidence ps flags qs) (taking peptides qs))
+      (in-map (packedEvidence ps flags qs) (q .peptide) (taking peptides qs)
       (in-keep (q .peptide) (paired qs) (upFrom 0 peptides) (in-up (q .peptide) 0 peptides (omega arith) l) (lt-ltb 0 (length (pairsOf qs (q .peptide))) (in-some q (pairsOf qs (q .peptide)) (own q (q .peptide) i refl)))))
 
   pub some-meta : (k : ℕ) → k < length ps → (m : ℕ) × In m (listFrom 0 ms k)
   some-meta k h =
       let (q, i, e, l) = shown-in flags qs (getD ps k 0) 0 peptides (found-in (getD ps k 0) (in-getD 0 ps k h)) in
-      let (m, b, s) = getD-in [] (evidence ps flags qs (q .peptide)) ms (has-meta q i l) in
-      (0 + m, in-list 0 m ms k b (is-in (ap (λ (x : ℕ). place x ps) (sym e) ∙ place-found k h) (sym s) (in-evidence q (q .peptide) i refl)))
+      let (m, b, s) = getD-in [] (packedEvidence ps flags qs (q .peptide)) ms (has-meta q i l) in
+      (0 + m, in-list 0 m ms k b (is-in (ap (λ (x : ℕ). firstAt x ps) (sym e) ∙ place-in-found k h) (sym s) (in-evidence q (q .peptide) i refl)))
 
   -- each meta-peptide is one of a protein found
-  pub meta-has : (m : ℕ) → m < length ms → (p : ℕ) × In p (taking peptides qs) × (getD ms m [] ≡ evidence ps flags qs p)
-  unfolding metas
-  meta-has m h = map-in (evidence ps flags qs) (getD ms m []) (taking peptides qs) (distinct-in (getD ms m []) (map (evidence ps flags qs) (taking peptides qs)) (in-getD [] ms m h))
+  pub meta-has : (m : ℕ) → m < length ms → (p : ℕ) × In p (taking peptides qs) × (getD ms m [] ≡ packedEvidence ps flags qs p)
+  unfolding packedMetas
+  meta-has m h = map-in (packedEvidence ps flags qs) (getD ms m []) (taking peptides qs) (distinct-in (getD ms m []) (map (packedEvidence ps flags qs) (taking peptides qs)) (in-getD [] ms m h))
 
   pub taking-has : (p : ℕ) → In p (taking peptides qs) → (q : Pair) × In q qs × (q .peptide ≡ p) × (p < peptides)
   taking-has p i =
@@ -372,9 +372,9 @@ module _ (flags : List ℕ) (peptides : ℕ) (qs : List Pair) where
   some-protein m h =
       let (p, i, e) = meta-has m h in
       let (q, s, z, u) = taking-has p i in
-      let k : ℕ = place (seen flags q) ps in
-      let f : In (seen flags q) ps = in-found (seen flags q) (in-shown flags qs q 0 peptides s (omega arith) (omega arith)) in
-      (k, place-lt (seen flags q) ps (in-has (seen flags q) ps f), subst (λ (x : ℕ). In x (listFrom 0 ms k)) (zero-add m) (in-list 0 m ms k h (is-in refl (sym e) (in-evidence q p s z))))
+      let k : ℕ = firstAt (packedSeen flags q) ps in
+      let f : In (packedSeen flags q) ps = in-found (packedSeen flags q) (in-shown flags qs q 0 peptides s (omega arith) (omega arith)) in
+      (k, place-lt (packedSeen flags q) ps (in-occurs (packedSeen flags q) ps f), subst (λ (x : ℕ). In x (listFrom 0 ms k)) (zero-add m) (in-list 0 m ms k h (is-in refl (sym e) (in-evidence q p s z))))
 
   -- the list of a protein found is a group's
   pub list-group : (k : ℕ) → k < length ps → (g : ℕ) × (g < length ls) × (getD ls g [] ≡ listFrom 0 ms k)
@@ -388,34 +388,34 @@ module _ (flags : List ℕ) (peptides : ℕ) (qs : List Pair) where
       (k, omega arith, sym e)
 
   -- what stands in an evidence is the number of a pair's protein
-  evidence-in : (k p : ℕ) → In k (evidence ps flags qs p) → (r : Pair) × In r qs × (r .peptide ≡ p) × (k ≡ place (seen flags r) ps)
+  evidence-in : (k p : ℕ) → In k (packedEvidence ps flags qs p) → (r : Pair) × In r qs × (r .peptide ≡ p) × (k ≡ firstAt (packedSeen flags r) ps)
   evidence-in k p h =
-      let (x, i, e) = map-in (λ (y : ℕ). place y ps) k (shown flags qs p) (sorted-in up k (map (λ (y : ℕ). place y ps) (shown flags qs p)) h) in
-      let (r, j, z) = map-in (seen flags) x (pairsOf qs p) i in
+      let (x, i, e) = map-in (λ (y : ℕ). firstAt y ps) k (packedShown flags qs p) (sorted-in up k (map (λ (y : ℕ). firstAt y ps) (packedShown flags qs p)) h) in
+      let (r, j, z) = map-in (packedSeen flags) x (pairsOf qs p) i in
       let (u, y) = keep-in r (λ (q : Pair). eqb (q .peptide) p) qs j in
-      (r, u, eqb-true (r .peptide) p y, e ∙ ap (λ (y : ℕ). place y ps) z)
+      (r, u, eqb-true (r .peptide) p y, e ∙ ap (λ (y : ℕ). firstAt y ps) z)
 
-  pub own-meta : (q : Pair) → In q qs → q .peptide < peptides → (m : ℕ) × (m < length ms) × (getD ms m [] ≡ evidence ps flags qs (q .peptide))
-  own-meta q i l = getD-in [] (evidence ps flags qs (q .peptide)) ms (has-meta q i (omega arith))
+  pub own-meta : (q : Pair) → In q qs → q .peptide < peptides → (m : ℕ) × (m < length ms) × (getD ms m [] ≡ packedEvidence ps flags qs (q .peptide))
+  own-meta q i l = getD-in [] (packedEvidence ps flags qs (q .peptide)) ms (has-meta q i (omega arith))
 
   -- a group with a peptide's meta-peptide has one of its proteins
-  pub reached : (g m p : ℕ) → p < peptides → g < length ls → getD ms m [] ≡ evidence ps flags qs p → In m (getD ls g [])
-      → (r : Pair) × In r qs × (r .peptide ≡ p) × ((k : ℕ) × (k < length ps) × (listFrom 0 ms k ≡ getD ls g []) × (getD ps k 0 ≡ seen flags r))
-  reached g m p l h e i =
+  pub reached-by-list : (g m p : ℕ) → p < peptides → g < length ls → getD ms m [] ≡ packedEvidence ps flags qs p → In m (getD ls g [])
+      → (r : Pair) × In r qs × (r .peptide ≡ p) × ((k : ℕ) × (k < length ps) × (listFrom 0 ms k ≡ getD ls g []) × (getD ps k 0 ≡ packedSeen flags r))
+  reached-by-list g m p l h e i =
       let (k, b, y) = group-list g h in
       let (n, c, x, j) = list-in m 0 ms k (is-in refl (sym y) i) in
       let z : n ≡ m = omega arith in
       let (r, u, v, w) = evidence-in k p (is-in refl (ap (λ (o : ℕ). getD ms o []) z ∙ e) j) in
-      let f : In (seen flags r) ps = in-found (seen flags r) (in-shown flags qs r 0 peptides u (omega arith) (omega arith)) in
-      (r, u, v, (k, b, y, ap (λ (o : ℕ). getD ps o 0) w ∙ getD-place (seen flags r) ps f))
+      let f : In (packedSeen flags r) ps = in-found (packedSeen flags r) (in-shown flags qs r 0 peptides u (omega arith) (omega arith)) in
+      (r, u, v, (k, b, y, ap (λ (o : ℕ). getD ps o 0) w ∙ getD-place (packedSeen flags r) ps f))
 
   -- a protein and flag stand in as many members as their number in what is found
   pub standing-times : (p f : ℕ) → f ≤ 1 → standing p f (packedGrouping flags peptides qs .members) ≡ times (p * 2 + f) ps
-  unfolding packedGrouping groupsOf
+  unfolding packedGrouping packedGroups
   standing-times p f h =
-      ap (standing p f) (members-tagged ps ms 0 ls ∙ gathered-walk list (member ps) (upFrom 0 (length ps)))
-      ∙ count-walk (member ps) (λ (m : Member). eqb (m .protein) p && eqb (m .decoy) f) hit (λ g k. halves (getD ps k 0) p f h) (runNumbers (le list) order) order (length-numbers (le list) order)
-      ∙ count-sorted hit (le list) (upFrom 0 (length ps))
+      ap (standing p f) (members-tagged ps ms 0 ls ∙ gathered-walk list (packedMember ps) (upFrom 0 (length ps)))
+      ∙ count-walk (packedMember ps) (λ (m : Member). eqb (m .protein) p && eqb (m .decoy) f) hit (λ g k. halves-pack (getD ps k 0) p f h) (runNumbers (leTexts list) order) order (length-numbers (leTexts list) order)
+      ∙ count-sorted hit (leTexts list) (upFrom 0 (length ps))
       ∙ count-places (λ x. eqb x (p * 2 + f)) (λ k. getD ps k 0) 0 ps (λ i l. ap (λ (k : ℕ). getD ps k 0) (zero-add i))
       ∙ count-times (p * 2 + f) ps
     where
@@ -426,32 +426,32 @@ module _ (flags : List ℕ) (peptides : ℕ) (qs : List Pair) where
       hit k = eqb (getD ps k 0) (p * 2 + f)
 
       order : List ℕ
-      order = sorted (le list) (upFrom 0 (length ps))
+      order = sorted (leTexts list) (upFrom 0 (length ps))
 
-  module _ (fit : Fit flags peptides qs) where
+  module _ (fit : PairsFit flags peptides qs) where
     -- a pair is of protein p and flag f where what is seen is their number
-    pub pair-is : (q : Pair) (p f : ℕ) → f ≤ 1 → (eqb (q .protein) p && eqb (getD flags (q .peptide) 0) f) ≡ eqb (seen flags q) (p * 2 + f)
+    pub pair-is : (q : Pair) (p f : ℕ) → f ≤ 1 → (eqb (q .protein) p && eqb (getD flags (q .peptide) 0) f) ≡ eqb (packedSeen flags q) (p * 2 + f)
     pair-is q p f h =
-        let (a, b) = seen-is flags (fit .flag) q (q .peptide) (seen flags q) refl refl in
-        rw (a, b) at (halves (seen flags q) p f h)
+        let (a, b) = seen-is flags (fit .flag) q (q .peptide) (packedSeen flags q) refl refl in
+        rw (a, b) at (halves-pack (packedSeen flags q) p f h)
 
-    seen-all : (p f : ℕ) → f ≤ 1 → has (p * 2 + f) all ≡ seenAs flags qs p f
-    seen-all p f h = iff (has (p * 2 + f) all) (seenAs flags qs p f) to from
+    seen-all : (p f : ℕ) → f ≤ 1 → occurs (p * 2 + f) all ≡ seenAs flags qs p f
+    seen-all p f h = iff (occurs (p * 2 + f) all) (seenAs flags qs p f) to from
       where
         test : Pair → Bool
         test q = eqb (q .protein) p && eqb (getD flags (q .peptide) 0) f
 
-        to : has (p * 2 + f) all ≡ true → seenAs flags qs p f ≡ true
+        to : occurs (p * 2 + f) all ≡ true → seenAs flags qs p f ≡ true
         to e =
-            let (q, i, z, l) = shown-in flags qs (p * 2 + f) 0 peptides (has-in (p * 2 + f) all e) in
-            lt-ltb 0 (count test qs) (count-in test q qs i (pair-is q p f h ∙ eq-eqb (seen flags q) (p * 2 + f) (sym z)))
+            let (q, i, z, l) = shown-in flags qs (p * 2 + f) 0 peptides (occurs-in (p * 2 + f) all e) in
+            lt-ltb 0 (count test qs) (count-in test q qs i (pair-is q p f h ∙ eq-eqb (packedSeen flags q) (p * 2 + f) (sym z)))
 
-        from : seenAs flags qs p f ≡ true → has (p * 2 + f) all ≡ true
+        from : seenAs flags qs p f ≡ true → occurs (p * 2 + f) all ≡ true
         from e =
             let (q, i, z) = in-count test qs (ltb-true 0 (count test qs) e) in
-            let s : seen flags q ≡ p * 2 + f = eqb-true (seen flags q) (p * 2 + f) (sym (pair-is q p f h) ∙ z) in
+            let s : packedSeen flags q ≡ p * 2 + f = eqb-true (packedSeen flags q) (p * 2 + f) (sym (pair-is q p f h) ∙ z) in
             let l : q .peptide < 0 + peptides = omega (arith, fit .below q i) in
-            in-has (p * 2 + f) all (rw s at (in-shown flags qs q 0 peptides i (omega arith) l))
+            in-occurs (p * 2 + f) all (rw s at (in-shown flags qs q 0 peptides i (omega arith) l))
 
     pub times-seen : (p f : ℕ) → f ≤ 1 → times (p * 2 + f) ps ≡ bit (seenAs flags qs p f)
     times-seen p f h = found-times (p * 2 + f) ∙ ap bit (seen-all p f h)

@@ -17,14 +17,14 @@ use Rattle.sorting_spec.specs.Distinct.{distinct}
 use Rattle.sorting_spec.specs.DistinctLaws.{count-distinct}
 use Rattle.protein_groups_members.specs.Members.{Member}
 use Rattle.protein_groups_spec.specs.ProteinGroups.{Pair, pairsOf, taking, paired, listFrom, edgesFrom}
-use Rattle.protein_groups_spec.specs.PackedGroups.{proteins, metas, evidence, lists, member, membersFrom, groupsOf}
-use Rattle.protein_groups_spec.specs.LeaderLaws.{le, spread, walk, tagged, edges-spread, gathered-walk}
+use Rattle.protein_groups_spec.specs.PackedGroups.{packedProteins, packedMetas, packedEvidence, lists, packedMember, packedMembers, packedGroups}
+use Rattle.protein_groups_spec.specs.LeaderLaws.{leTexts, spreadSorted, walkSorted, runsTagged, edges-spread, gathered-walk}
 
 -- numbers from a up to a + n
-pub map-alike : {A : Type 0} (f g : ℕ → A) (a n : ℕ) → ((k : ℕ) → k < a + n → f k ≡ g k) → map f (upFrom a n) ≡ map g (upFrom a n)
-map-alike f g a zero h = refl
-map-alike f g a (suc n) h =
-    rw (h a (omega arith), map-alike f g (suc a) n (λ k q. h k (omega arith)))
+pub row-alike : {A : Type 0} (f g : ℕ → A) (a n : ℕ) → ((k : ℕ) → k < a + n → f k ≡ g k) → map f (upFrom a n) ≡ map g (upFrom a n)
+row-alike f g a zero h = refl
+row-alike f g a (suc n) h =
+    rw (h a (omega arith), row-alike f g (suc a) n (λ k q. h k (omega arith)))
 
 keep-alike : {A : Type 0} (f g : ℕ → A) (p : ℕ → Bool) (a n : ℕ) → ((k : ℕ) → k < a + n → f k ≡ g k) → map f (keep p (upFrom a n)) ≡ map g (keep p (upFrom a n))
 keep-alike f g p a zero h = refl
@@ -41,11 +41,11 @@ same-alike f g l a zero h = refl
 same-alike f g l a (suc n) h = rw (h a (omega arith), same-alike f g l (suc a) n (λ k q. h k (omega arith)))
 
 members-tagged : (text : ℕ → List ℕ) (ps : List ℕ) (ms : List (List ℕ)) (g : ℕ) (ls : List (List ℕ)) → ((k : ℕ) → k < length ps → text k ≡ listFrom 0 ms k)
-    → membersFrom ps ms g ls ≡ tagged (member ps) g (map (λ l. keep (λ k. same (text k) l) (upFrom 0 (length ps))) ls)
+    → packedMembers ps ms g ls ≡ runsTagged (packedMember ps) g (map (λ l. keep (λ k. same (text k) l) (upFrom 0 (length ps))) ls)
 members-tagged text ps ms g [] h = refl
 members-tagged text ps ms g (l ∷ ls) h =
-    ap (λ (s : List ℕ). map (member ps g) s ++ membersFrom ps ms (suc g) ls) (sym (same-alike text (listFrom 0 ms) l 0 (length ps) (λ k q. h k (rw zero-add at q))))
-    ∙ ap (λ (s : List Member). map (member ps g) (keep (λ k. same (text k) l) (upFrom 0 (length ps))) ++ s) (members-tagged text ps ms (suc g) ls h)
+    ap (λ (s : List ℕ). map (packedMember ps g) s ++ packedMembers ps ms (suc g) ls) (sym (same-alike text (listFrom 0 ms) l 0 (length ps) (λ k q. h k (rw zero-add at q))))
+    ∙ ap (λ (s : List Member). map (packedMember ps g) (keep (λ k. same (text k) l) (upFrom 0 (length ps))) ++ s) (members-tagged text ps ms (suc g) ls h)
 
 abbrev pub peptidesOf : List Pair → List ℕ
 peptidesOf qs = map (λ (q : Pair). q .peptide) qs
@@ -80,34 +80,34 @@ pub taking-by : (f : ℕ → Bool) (peptides : ℕ) (qs : List Pair)
 taking-by f peptides qs h = kept-alike f (paired qs) 0 peptides (λ p q. h p (rw zero-add at q) ∙ has-pair qs p)
 
 -- the meta-peptides, by texts that are the peptides' evidence
-module _ (flags : List ℕ) (peptides : ℕ) (qs : List Pair) (text : ℕ → List ℕ) (h : (p : ℕ) → p < peptides → text p ≡ evidence (proteins flags peptides qs) flags qs p) where
-  by-text : metas (proteins flags peptides qs) flags peptides qs ≡ distinct (map text (taking peptides qs))
-  unfolding metas
-  by-text = ap distinct (sym (keep-alike text (evidence (proteins flags peptides qs) flags qs) (paired qs) 0 peptides (λ k q. h k (rw zero-add at q))))
+module _ (flags : List ℕ) (peptides : ℕ) (qs : List Pair) (text : ℕ → List ℕ) (h : (p : ℕ) → p < peptides → text p ≡ packedEvidence (packedProteins flags peptides qs) flags qs p) where
+  by-text : packedMetas (packedProteins flags peptides qs) flags peptides qs ≡ distinct (map text (taking peptides qs))
+  unfolding packedMetas
+  by-text = ap distinct (sym (keep-alike text (packedEvidence (packedProteins flags peptides qs) flags qs) (paired qs) 0 peptides (λ k q. h k (rw zero-add at q))))
 
   -- spread out, and how many there are
-  pub metas-spread : edgesFrom 0 (metas (proteins flags peptides qs) flags peptides qs) ≡ spread text (sorted (le text) (taking peptides qs))
+  pub metas-spread : edgesFrom 0 (packedMetas (packedProteins flags peptides qs) flags peptides qs) ≡ spreadSorted text (sorted (leTexts text) (taking peptides qs))
   metas-spread = ap (edgesFrom 0) by-text ∙ edges-spread text (taking peptides qs)
 
-  pub metas-count : length (metas (proteins flags peptides qs) flags peptides qs) ≡ length (runsOf (le text) (sorted (le text) (taking peptides qs)))
+  pub metas-count : length (packedMetas (packedProteins flags peptides qs) flags peptides qs) ≡ length (runsOf (leTexts text) (sorted (leTexts text) (taking peptides qs)))
   metas-count = ap length by-text ∙ sym (count-distinct text (taking peptides qs))
 
 -- the groups, by texts that are the proteins' lists of meta-peptides
 module _ (ps : List ℕ) (ms : List (List ℕ)) (text : ℕ → List ℕ) (h : (k : ℕ) → k < length ps → text k ≡ listFrom 0 ms k) where
   abbrev pub order : List ℕ
-  order = sorted (le text) (upFrom 0 (length ps))
+  order = sorted (leTexts text) (upFrom 0 (length ps))
 
   lists-text : lists ms (length ps) ≡ map text (upFrom 0 (length ps))
-  lists-text = sym (map-alike text (listFrom 0 ms) 0 (length ps) (λ k q. h k (rw zero-add at q)))
+  lists-text = sym (row-alike text (listFrom 0 ms) 0 (length ps) (λ k q. h k (rw zero-add at q)))
 
   -- THE ANSWER
-  pub whole : groupsOf ps ms ≡ record { edges = spread text order; members = walk text (member ps) order; groups = length (runsOf (le text) order); metas = length ms }
-  unfolding groupsOf
-  whole =
-      let e : edgesFrom 0 (distinct (lists ms (length ps))) ≡ spread text order = ap (λ (l : List (List ℕ)). edgesFrom 0 (distinct l)) lists-text ∙ edges-spread text (upFrom 0 (length ps)) in
-      let m : membersFrom ps ms 0 (distinct (lists ms (length ps))) ≡ walk text (member ps) order =
+  pub whole-packed : packedGroups ps ms ≡ record { edges = spreadSorted text order; members = walkSorted text (packedMember ps) order; groups = length (runsOf (leTexts text) order); metas = length ms }
+  unfolding packedGroups
+  whole-packed =
+      let e : edgesFrom 0 (distinct (lists ms (length ps))) ≡ spreadSorted text order = ap (λ (l : List (List ℕ)). edgesFrom 0 (distinct l)) lists-text ∙ edges-spread text (upFrom 0 (length ps)) in
+      let m : packedMembers ps ms 0 (distinct (lists ms (length ps))) ≡ walkSorted text (packedMember ps) order =
       members-tagged text ps ms 0 (distinct (lists ms (length ps))) h
-      ∙ ap (λ (l : List (List ℕ)). tagged (member ps) 0 (map (λ l. keep (λ k. same (text k) l) (upFrom 0 (length ps))) (distinct l))) lists-text
-      ∙ gathered-walk text (member ps) (upFrom 0 (length ps)) in
-      let g : length (distinct (lists ms (length ps))) ≡ length (runsOf (le text) order) = ap (λ (l : List (List ℕ)). length (distinct l)) lists-text ∙ sym (count-distinct text (upFrom 0 (length ps))) in
+      ∙ ap (λ (l : List (List ℕ)). runsTagged (packedMember ps) 0 (map (λ l. keep (λ k. same (text k) l) (upFrom 0 (length ps))) (distinct l))) lists-text
+      ∙ gathered-walk text (packedMember ps) (upFrom 0 (length ps)) in
+      let g : length (distinct (lists ms (length ps))) ≡ length (runsOf (leTexts text) order) = ap (λ (l : List (List ℕ)). length (distinct l)) lists-text ∙ sym (count-distinct text (upFrom 0 (length ps))) in
       rw (e, m, g)

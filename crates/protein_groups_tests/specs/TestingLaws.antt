@@ -18,7 +18,7 @@ use Rattle.cover_edges.specs.RangeLaws.{in-range, all-bits}
 use Rattle.protein_groups_spec.specs.ProteinGroups.{proteins, grouping, pairAt}
 
 -- what is known where the tests passed
-pub record Ready (pairs flags : List ℕ) (peptides proteins words : ℕ) : Type 0 where
+pub record PairsReady (pairs flags : List ℕ) (peptides proteins words : ℕ) : Type 0 where
   pub few : length pairs / 8 ≤ 1048576
   pub peptides-max : peptides ≤ 262144
   pub proteins-max : proteins ≤ 65536
@@ -42,8 +42,8 @@ fair pairs peptides proteins e =
     (ltb-false 1048576 (length pairs / 8) (b .0), ltb-false 262144 peptides (b .1), ltb-false 65536 proteins (a .1))
 
 -- THE LAW
-pub ready : (pairs flags : List ℕ) (peptides proteins words : ℕ) → tested pairs flags peptides proteins words ≡ Passed → Ready pairs flags peptides proteins words
-ready pairs flags peptides proteins words e =
+pub pairs-ready : (pairs flags : List ℕ) (peptides proteins words : ℕ) → tested pairs flags peptides proteins words ≡ Passed → PairsReady pairs flags peptides proteins words
+pairs-ready pairs flags peptides proteins words e =
     let n : ℕ = length pairs / 8 in
     let a = passed-first (tooLarge pairs peptides proteins) Size _ e in
     let b = passed-first (uneven pairs flags peptides) Length _ (a .1) in

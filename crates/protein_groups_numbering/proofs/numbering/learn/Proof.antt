@@ -1,40 +1,28 @@
 -- `learn` meets its contract. Assumes nothing.
-use Prim.Native.Nat.{_+_}
+use Prim.Native.Nat.{_+_, _≤_}
 use mathlib.Core.Path.{_≡_}
 use native.Mathlib.Omega.{arith}
 use lib.ListN.{getD, length-set}
-use Rattle.protein_groups_numbering.specs.KnowingLaws.{learn-old, learn-new, room}
+use Rattle.protein_groups_numbering.specs.KnowingLaws.{learn-old, learn-new, learn-room}
 use borrow.Author.Needs.{needs}
 use Rattle.protein_groups_numbering.proofs.numbering.learn.Statement.{statement}
 use Rattle.protein_groups_numbering.proofs.numbering.learn.Tie as tie
 
-add-w : tie.Need-add-w
-add-w c =
-    let w = c .before .before .before .wide in
-    let a = c .before .before .before .before .before .args in let pre = c .before .before .before .before .before .pre in
-    let e : w .result ≡ a .x = w .ensures .0 in
-    let z : getD (a .w .now) (a .t + a .x) 0 ≡ 0 = rw e at (c .before .if1 .taken) in
-    omega (arith, room (a .w .now) (a .b) (a .t) (a .m) (a .found) (a .x) (pre .1) (pre .2) (pre .3) (pre .0) z)
+unknown : (c : tie.After-wide2) → getD (c .before .before .before .before .before .args .w .now) (c .before .before .before .before .before .args .t + c .before .before .before .before .before .args .x) 0 ≡ 0
+unknown c = let e : c .before .before .before .wide .result ≡ c .before .before .before .before .before .args .x = c .before .before .before .wide .ensures .0 in rw e at (c .before .if1 .taken)
+
+room : (c : tie.After-wide2) → c .before .before .before .before .before .args .found + 1 ≤ c .before .before .before .before .before .args .m
+room c = let a = c .before .before .before .before .before .args in let pre = c .before .before .before .before .before .pre in learn-room (a .w .now) (a .b) (a .t) (a .m) (a .found) (a .x) (pre .1) (pre .2) (pre .3) (pre .0) (unknown c)
 
 slice-write-w-2 : tie.Need-slice-write-w-2
 slice-write-w-2 c = let a = c .before .before .before .before .before .args in omega (arith, length-set (a .w .now) (a .b + c .wide2 .result) (a .x))
 
-add-result : tie.Need-add-result
-add-result c =
-    let w = c .before .before .before .wide in
-    let a = c .before .before .before .before .before .args in let pre = c .before .before .before .before .before .pre in
-    let e : w .result ≡ a .x = w .ensures .0 in
-    let z : getD (a .w .now) (a .t + a .x) 0 ≡ 0 = rw e at (c .before .if1 .taken) in
-    omega (arith, room (a .w .now) (a .b) (a .t) (a .m) (a .found) (a .x) (pre .1) (pre .2) (pre .3) (pre .0) z)
-
 returns : tie.Need-returns
 returns c =
-    let w = c .before .before .before .wide in
     let a = c .before .before .before .before .before .args in let pre = c .before .before .before .before .before .pre in
-    let e : w .result ≡ a .x = w .ensures .0 in
+    let e : c .before .before .before .wide .result ≡ a .x = c .before .before .before .wide .ensures .0 in
     let f : c .wide2 .result ≡ a .found = c .wide2 .ensures .0 in
-    let z : getD (a .w .now) (a .t + a .x) 0 ≡ 0 = rw e at (c .before .if1 .taken) in
-    rw (e, f) (learn-new (a .w .now) (a .b) (a .t) (a .m) (a .found) (a .x) (pre .1) (pre .2) (pre .3) (pre .0) z)
+    rw (e, f) (learn-new (a .w .now) (a .b) (a .t) (a .m) (a .found) (a .x) (pre .1) (pre .2) (pre .3) (pre .0) (unknown c))
 
 returns-2 : tie.Need-returns-2
 returns-2 c =
@@ -45,5 +33,5 @@ returns-2 c =
 pub learn-spec : {M : Type 1} → statement M
 learn-spec =
     tie.close (tie.spec (λ c κs. search needs) (λ c. search needs) (λ c. search needs) (λ c. search needs)
-    (λ c κs. search needs) (λ c. search needs) (λ c. search needs) (λ c. search needs) add-w (λ c. search needs)
-    slice-write-w-2 add-result (λ c. search needs) returns returns-2)
+    (λ c κs. search needs) (λ c. search needs) (λ c. search needs) (λ c. search needs) (λ c. omega (arith, room c))
+    (λ c. search needs) slice-write-w-2 (λ c. omega (arith, room c)) (λ c. search needs) returns returns-2)

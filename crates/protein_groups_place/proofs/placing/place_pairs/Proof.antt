@@ -2,14 +2,14 @@
 use Prim.Native.Nat.{ℕ, _-_, _≤_}
 use native.Mathlib.Omega.{arith}
 use mathlib.Core.Path.{_≡_, subst}
-use Rattle.protein_groups_place.specs.Placing.{Laid}
+use Rattle.protein_groups_place.specs.Placing.{PairsLaid}
 use Rattle.protein_groups_place.specs.PlacingLaws.{laid-none, laid-more}
 use borrow.Author.Needs.{needs}
 use Rattle.protein_groups_place.proofs.placing.place_pairs.Statement.{statement}
 use Rattle.protein_groups_place.proofs.placing.place_pairs.Tie as tie
 
 abbrev Inv-loop : tie.InvT-loop
-Inv-loop pairs flags w₀ a n i₀ w i = (i ≤ n) × Laid pairs flags a n i w₀ w
+Inv-loop pairs flags w₀ a n i₀ w i = (i ≤ n) × PairsLaid pairs flags a n i w₀ w
 
 abbrev μ-loop : tie.MeasureT-loop
 μ-loop pairs flags w₀ a n i₀ w i = n - i
@@ -31,7 +31,7 @@ returns c =
     let a = c .before .before .before .before .before .args in
     let l = c .before .loop in
     let e : l .i ≡ a .n = omega arith in
-    subst (λ (k : ℕ). Laid (a .pairs .now) (a .flags .now) (a .a) (a .n) k (a .w .now) (l .w)) e (l .inv .1)
+    subst (λ (k : ℕ). PairsLaid (a .pairs .now) (a .flags .now) (a .a) (a .n) k (a .w .now) (l .w)) e (l .inv .1)
 
 pub place-pairs-spec : {M : Type 1} → statement M
 place-pairs-spec =

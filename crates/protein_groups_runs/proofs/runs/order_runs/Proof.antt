@@ -9,7 +9,7 @@ use Rattle.sorting_texts.specs.declared.text.By.the-variants.{Numbers}
 use Rattle.sorting_texts.specs.Text.{leBy}
 use Rattle.sorting_spec.specs.Runs.{runsOf}
 use Rattle.sorting_runs.specs.declared.runs.Numbered.the-variants.{Runs, Unfit}
-use Rattle.protein_groups_runs.specs.OrderingLaws.{counts, ordered}
+use Rattle.protein_groups_runs.specs.OrderingLaws.{counts, runs-ordered}
 use borrow.Author.Needs.{needs}
 use Rattle.protein_groups_runs.proofs.runs.order_runs.Statement.{statement}
 use Rattle.protein_groups_runs.proofs.runs.order_runs.Tie as tie
@@ -20,7 +20,7 @@ returns c =
     let pre = c .before .before .before .before .before .before .before .before .before .before .before .before .before .before .pre in
     let f = c .before .before .before .before .before .before .before .before .before .before .sort-range in
     let g = c .before .before .before .before .before .number-runs in
-    ordered (a .w .now) (f .last .1 .1 .0) (g .last .1 .1 .0) [] (a .o) (a .t) (a .s) (a .e) (a .base) (g .result) (f .kept .1 .1 .0) (g .kept .1 .1 .0) (pre .0) (pre .1) (pre .2) (pre .3) (f .ensures) (g .ensures) (c .before .numbered .given .0 .0) (c .before .numbered .given .1)
+    runs-ordered (a .w .now) (f .last .1 .1 .0) (g .last .1 .1 .0) [] (a .o) (a .t) (a .s) (a .e) (a .base) (g .result) (f .kept .1 .1 .0) (g .kept .1 .1 .0) (pre .0) (pre .1) (pre .2) (pre .3) (f .ensures) (g .ensures) (c .before .numbered .given .0 .0) (c .before .numbered .given .1)
 
 returns-2 : tie.Need-returns-2
 returns-2 c =

@@ -16,51 +16,24 @@ abbrev μ-loop : tie.MeasureT-loop
 loop-holds : tie.Need-loop-holds Inv-loop μ-loop
 loop-holds c = (omega arith, refl, row-none (c .before .args .w .now) (c .before .args .o) (c .before .args .n))
 
-wide-requires : tie.Need-wide-requires Inv-loop μ-loop
-wide-requires c κs = tt
-
 add-at : tie.Need-add-at Inv-loop μ-loop
-add-at c = let e = c .wide .ensures .0 in let v = c .before .before .loop .inv in omega (arith, c .before .before .before .before .pre)
+add-at c = omega (arith, c .wide .ensures .0, c .before .before .loop .inv .1, c .before .before .before .before .pre)
 
 mul-w : tie.Need-mul-w Inv-loop μ-loop
-mul-w c = let e = c .wide .ensures .0 in let v = c .before .before .loop .inv in omega (arith, c .before .before .before .before .pre)
+mul-w c = omega (arith, c .wide .ensures .0, c .before .before .loop .inv .1, c .before .before .before .before .pre)
 
 slice-write-w : tie.Need-slice-write-w Inv-loop μ-loop
-slice-write-w c = let e = c .wide .ensures .0 in let v = c .before .before .loop .inv in omega (arith, c .before .before .before .before .pre)
-
-add-i : tie.Need-add-i Inv-loop μ-loop
-add-i c = omega arith
-
-loop-less : tie.Need-loop-less Inv-loop μ-loop
-loop-less c = omega arith
+slice-write-w c = omega (arith, c .wide .ensures .0, c .before .before .loop .inv .1, c .before .before .before .before .pre)
 
 loop-again : tie.Need-loop-again Inv-loop μ-loop
 loop-again c =
-    let a = c .before .before .before .before .args in
-    let l = c .before .before .loop in
+    let a = c .before .before .before .before .args in let l = c .before .before .loop in
     (omega arith, length-set (l .w) (a .o + c .wide .result) (l .i) ∙ l .inv .1, rw (c .wide .ensures .0) (row-more (a .w .now) (l .w) (a .o) (a .n) (l .i) (omega arith) (omega (arith, l .inv .1, c .before .before .before .before .pre)) (l .inv .2)))
 
-same-length : tie.Need-same-length Inv-loop μ-loop
-same-length c = c .before .loop .inv .1
-
 returns : tie.Need-returns Inv-loop μ-loop
-returns c =
-    let e : c .before .loop .i ≡ c .before .before .before .args .n = omega (arith, c .before .loop .inv .0) in
-    rw e at (c .before .loop .inv .2)
+returns c = let e : c .before .loop .i ≡ c .before .before .before .args .n = omega (arith, c .before .loop .inv .0) in rw e at (c .before .loop .inv .2)
 
 pub count-from-spec : {M : Type 1} → statement M
 count-from-spec =
-    tie.close
-    (tie.spec
-    Inv-loop
-    μ-loop
-    loop-holds
-    wide-requires
-    add-at
-    mul-w
-    slice-write-w
-    add-i
-    loop-less
-    loop-again
-    same-length
-    returns)
+    tie.close (tie.spec Inv-loop μ-loop loop-holds (λ c κs. tt) add-at mul-w slice-write-w (λ c. omega arith) (λ c. omega arith)
+    loop-again (λ c. c .before .loop .inv .1) returns)
