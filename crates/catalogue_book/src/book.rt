@@ -49,17 +49,11 @@ fn is_stray(bounds: &[u32], i: usize) -> bool
     is_bad_step(bounds[i - 1], bounds[i])
 }
 
-fn wide(x: u32) -> usize
-    ensures { λ r. ⌜ r ≡ x ⌝ }
-{
-    x as usize
-}
-
 fn ends_wrong(bounds: &[u32], letters: usize, i: usize) -> bool
     requires { ⌜ i < length (now bounds) ⌝ }
     ensures { λ r. ⌜ r ≡ endsWrong (now (bounds .entry)) letters i ⌝ }
 {
-    let end = wide(bounds[i]);
+    let end = records::wide(bounds[i]);
     (i + 1 == bounds.len()) & (end != letters)
 }
 

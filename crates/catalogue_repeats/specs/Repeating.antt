@@ -10,7 +10,7 @@ abbrev pub cleared : ℕ → List ℕ → List ℕ
 cleared n tab = replicate (n + n) 0 ++ drop (n + n) tab
 
 -- the place that a sort found among n names
-abbrev pub placeIn : ℕ → Repeated → ℕ
-placeIn n (At i) = i
-placeIn n Never = n
-placeIn n Unfit = n
+abbrev pub repeatPlace : ℕ → Repeated → ℕ
+repeatPlace n (At i) = i
+repeatPlace n Never = n
+repeatPlace n Unfit = n

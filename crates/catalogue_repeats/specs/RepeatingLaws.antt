@@ -17,12 +17,12 @@ use Rattle.sorting_spec.specs.Repeats.{repeats, firstRepeat}
 use Rattle.sorting_repeats.specs.Repeating.{repeatedAt, repeatOutcome}
 use Rattle.sorting_repeats.specs.declared.repeats.Repeated.{Repeated}
 use Rattle.catalogue_spec.specs.Names.{nameCount}
-use Rattle.catalogue_repeats.specs.Repeating.{cleared, placeIn}
+use Rattle.catalogue_repeats.specs.Repeating.{cleared, repeatPlace}
 
 -- where the table is large enough
-pub place-found : (names w : List ℕ) (x : Repeated) (after : List (List ℕ)) → nameCount names ≤ 65536 → nameCount names + nameCount names ≤ length w
-    → outcome x after ≡ repeatOutcome names w → placeIn (nameCount names) x ≡ firstRepeat (nameOf names) (nameCount names)
-place-found names w x after h k e = ap (placeIn n) said ∙ ⊎-elim here never (below? f n)
+pub repeat-placed : (names w : List ℕ) (x : Repeated) (after : List (List ℕ)) → nameCount names ≤ 65536 → nameCount names + nameCount names ≤ length w
+    → outcome x after ≡ repeatOutcome names w → repeatPlace (nameCount names) x ≡ firstRepeat (nameOf names) (nameCount names)
+repeat-placed names w x after h k e = ap (repeatPlace n) said ∙ ⊎-elim here never (below? f n)
   where
     n : ℕ
     n = nameCount names
@@ -36,10 +36,10 @@ place-found names w x after h k e = ap (placeIn n) said ∙ ⊎-elim here never 
         let q : leb (n + n) (length w) ≡ true = le-leb (n + n) (length w) k in
         rw (p, q) at (ap (λ (o : Outcome Repeated). o .answer) e)
 
-    here : f < n → placeIn n (repeatedAt n f) ≡ f
+    here : f < n → repeatPlace n (repeatedAt n f) ≡ f
     here g = rw (lt-ltb f n g)
 
-    never : n ≤ f → placeIn n (repeatedAt n f) ≡ f
+    never : n ≤ f → repeatPlace n (repeatedAt n f) ≡ f
     never g = let z : n ≡ f = omega (arith, seek-to (repeats (nameOf names)) 0 n) in rw (le-ltb f n g) z
 
 -- the table then

@@ -3,13 +3,13 @@ use sorting_repeats::Repeated;
 ghost use mathlib.Core.Path.{_≡_};
 ghost use Prim.Native.Nat.{_+_, _≤_};
 ghost use lib.ListN.{length};
-ghost use Rattle.catalogue_repeats.specs.Repeating.{cleared, placeIn};
+ghost use Rattle.catalogue_repeats.specs.Repeating.{cleared, repeatPlace};
 ghost use Rattle.sorting_spec.specs.Joined.{nameOf};
 ghost use Rattle.sorting_spec.specs.Repeats.{firstRepeat};
 ghost use Rattle.catalogue_spec.specs.Names.{nameCount};
 
 fn place_in(n: usize, found: Repeated) -> usize
-    ensures { λ r. ⌜ r ≡ placeIn n found ⌝ }
+    ensures { λ r. ⌜ r ≡ repeatPlace n found ⌝ }
 {
     match found {
         Repeated::At(i) => i,

@@ -1,7 +1,7 @@
 -- What is known of a sequence book that passed its tests. Assumes nothing.
 use Prim.Native.Nat.{ℕ, zero, suc, _+_, _-_, _≤_, _<_}
 use mathlib.Core.Path.{_≡_, refl, sym, _∙_}
-use mathlib.Core.Bool.{false, cond}
+use mathlib.Core.Bool.{false}
 use mathlib.Core.Logic.{⊎-elim}
 use mathlib.Core.List.{List}
 use native.Mathlib.Omega.{arith}
@@ -10,9 +10,10 @@ use lib.Dec.{ltb, eqb}
 use borrow.Author.Tests.{ltb-false, eq-eqb, ne-eqb, eqb-true, eqb-false, not-false}
 use Rattle.lists.specs.Tests.{neither, same?}
 use Rattle.records.specs.declared.refusal.Refusal.the-variants.{Field}
-use Rattle.records.specs.declared.refusal.Tested.the-variants.{Passed, Refused}
-use Rattle.records.specs.SearchLaws.{seek-before}
+use Rattle.records.specs.declared.refusal.Tested.the-variants.{Passed}
+use Rattle.records.specs.Tested.{fieldTested}
 use Rattle.records.specs.TestedLaws.{passed-first}
+use Rattle.records.specs.SeekingLaws.{none-tested}
 use Rattle.catalogue_spec.specs.Book.{strays, endsWrong, badBound, firstBadBound, boundsTested}
 
 pub record Book (bounds : List ℕ) (count : ℕ) : Type 0 where
@@ -33,8 +34,8 @@ passed-bounds bounds count p = record {
   last = λ i h. eqb-true _ _ (not-false _ (rw (eq-eqb (i + 1) (length bounds) h) at (good i (omega arith) .1)));
 }
   where
-    a : (eqb (length bounds) 0 ≡ false) × (cond (ltb (firstBadBound bounds count) (length bounds)) (Refused (Field (firstBadBound bounds count))) Passed ≡ Passed)
-    a = passed-first (eqb (length bounds) 0) (Field 0) (cond (ltb (firstBadBound bounds count) (length bounds)) (Refused (Field (firstBadBound bounds count))) Passed) p
+    a : (eqb (length bounds) 0 ≡ false) × (fieldTested (firstBadBound bounds count) (length bounds) ≡ Passed)
+    a = passed-first (eqb (length bounds) 0) (Field 0) (fieldTested (firstBadBound bounds count) (length bounds)) p
 
     some : 0 < length bounds
     some = ⊎-elim (λ (e : length bounds ≡ 0). absurd (eqb-false _ _ (a .0) e)) (λ (e : length bounds ≡ 0 → ⊥). positive (length bounds) e) (same? (length bounds) 0)
@@ -44,9 +45,7 @@ passed-bounds bounds count p = record {
         positive (suc n) f = omega arith
 
     good : (i : ℕ) → i < length bounds → (strays bounds i ≡ false) × (endsWrong bounds count i ≡ false)
-    good i h =
-        let e = passed-first (ltb (firstBadBound bounds count) (length bounds)) (Field (firstBadBound bounds count)) Passed (a .1) .0 in
-        neither (strays bounds i) (endsWrong bounds count i) (seek-before (badBound bounds count) 0 (length bounds) i (omega arith) (omega (arith, ltb-false (firstBadBound bounds count) (length bounds) e)))
+    good i h = neither (strays bounds i) (endsWrong bounds count i) (none-tested (badBound bounds count) (length bounds) (a .1) i h)
 
     step : (i : ℕ) → i + 1 < length bounds → (ltb (getD bounds (i + 1) 0) (getD bounds i 0) ≡ false) × (ltb (getD bounds i 0 + 65536) (getD bounds (i + 1) 0) ≡ false)
     step i h =
@@ -77,8 +76,8 @@ module _ (bounds : List ℕ) (count : ℕ) (book : Book bounds count) where
       (book .rises p h, bounds-within (p + 1) h, omega arith)
 
 -- for the code: one boundary more than proteins
-pub counted : (n p : ℕ) → (n ≡ 0 → ⊥) → eqb (n - 1) p ≡ eqb n (p + 1)
-counted n p some = ⊎-elim (λ (e : n ≡ p + 1). eq-eqb (n - 1) p (omega arith) ∙ sym (eq-eqb n (p + 1) e)) other (same? n (p + 1))
+pub bounds-counted : (n p : ℕ) → (n ≡ 0 → ⊥) → eqb (n - 1) p ≡ eqb n (p + 1)
+bounds-counted n p some = ⊎-elim (λ (e : n ≡ p + 1). eq-eqb (n - 1) p (omega arith) ∙ sym (eq-eqb n (p + 1) e)) other (same? n (p + 1))
   where
     other : (n ≡ p + 1 → ⊥) → eqb (n - 1) p ≡ eqb n (p + 1)
     other f = ne-eqb (n - 1) p (λ e. f (back n some e)) ∙ sym (ne-eqb n (p + 1) f)

@@ -3,25 +3,24 @@ use Prim.Native.Nat.{ℕ}
 use mathlib.Core.Path.{refl}
 use mathlib.Core.List.{List, [], _∷_, _++_}
 use lib.ListN.{replicate}
-use Rattle.records.specs.declared.refusal.Tested.{Tested}
 use Rattle.records.specs.Cases.{Case, Hold}
 use Rattle.records.specs.CaseLaws.{joined}
 use Rattle.records.specs.Search.{seek}
 use Rattle.letters.specs.Letters.{isLetter, firstBad}
 use Rattle.catalogue_spec.specs.Book.{firstBadBound}
-use Rattle.catalogue_spec.specs.NameCases.{told, table as names, cases as names-hold}
+use Rattle.catalogue_spec.specs.NameCases.{toldTest, table as names, cases as names-hold}
 use Rattle.catalogue_spec.specs.Books.{bookTested, allLettersTested}
 
 -- boundaries, a number of proteins and a book of so many times A
 booking : List ℕ → ℕ → ℕ → ℕ → ℕ → Case
-booking bounds proteins count number place = record { got = told (bookTested bounds (replicate count 65) proteins) ∷ []; want = (number ∷ place ∷ []) ∷ [] }
+booking bounds proteins count number place = record { got = toldTest (bookTested bounds (replicate count 65) proteins) ∷ []; want = (number ∷ place ∷ []) ∷ [] }
 
 -- the same with the letters AC and a byte
 spelling : List ℕ → ℕ → ℕ → ℕ → Case
-spelling bounds byte number place = record { got = told (bookTested bounds (65 ∷ 67 ∷ byte ∷ []) 2) ∷ []; want = (number ∷ place ∷ []) ∷ [] }
+spelling bounds byte number place = record { got = toldTest (bookTested bounds (65 ∷ 67 ∷ byte ∷ []) 2) ∷ []; want = (number ∷ place ∷ []) ∷ [] }
 
 reading : List ℕ → ℕ → ℕ → Case
-reading letters number place = record { got = told (allLettersTested letters) ∷ []; want = (number ∷ place ∷ []) ∷ [] }
+reading letters number place = record { got = toldTest (allLettersTested letters) ∷ []; want = (number ∷ place ∷ []) ∷ [] }
 
 books : List Case
 books =

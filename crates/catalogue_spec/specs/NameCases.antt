@@ -10,9 +10,9 @@ use Rattle.records.specs.Cases.{Case, Hold}
 use Rattle.records.specs.Search.{seek}
 use Rattle.catalogue_spec.specs.Names.{nameLength, zerosTo, namesTested, catalogueTested}
 
-abbrev pub told : Tested → List ℕ
-told Passed = 0 ∷ 0 ∷ []
-told (Refused why) = numberOf why ∷ placeOf why ∷ []
+abbrev pub toldTest : Tested → List ℕ
+toldTest Passed = 0 ∷ 0 ∷ []
+toldTest (Refused why) = numberOf why ∷ placeOf why ∷ []
 
 -- a record: the bytes, then zeros
 padded : List ℕ → List ℕ
@@ -20,7 +20,7 @@ padded t = t ++ replicate (64 - length t) 0
 
 -- a catalogue of these records, and what its tests answer
 naming : List (List ℕ) → ℕ → ℕ → Case
-naming ts number place = record { got = told (catalogueTested (flatten (map padded ts))) ∷ []; want = (number ∷ place ∷ []) ∷ [] }
+naming ts number place = record { got = toldTest (catalogueTested (flatten (map padded ts))) ∷ []; want = (number ∷ place ∷ []) ∷ [] }
 
 A : List ℕ
 A = 65 ∷ []

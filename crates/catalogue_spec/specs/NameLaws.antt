@@ -17,10 +17,11 @@ use Rattle.records.specs.declared.refusal.Tested.{Tested}
 use Rattle.records.specs.declared.refusal.Tested.the-variants.{Passed, Refused}
 use Rattle.records.specs.Search.{seek}
 use Rattle.records.specs.SearchLaws.{seek-to, seek-passes, seek-before}
+use Rattle.records.specs.SeekingLaws.{none-found}
 use Rattle.sorting_spec.specs.Joined.{nameOf}
 use Rattle.sorting_spec.specs.Repeats.{repeats, firstRepeat}
 use Rattle.records.specs.TestedLaws.{passed-first, passed-second}
-use Rattle.catalogue_spec.specs.Names.{hidden, filled, nameLength, zerosTo, isName, nameCount, tooManyNames, wholeNames, badName, wrongName, wrongAt, namesTested, catalogueTested}
+use Rattle.catalogue_spec.specs.Names.{hidden, nonZero, nameLength, zerosTo, isName, nameCount, tooManyNames, wholeNames, badName, wrongName, wrongAt, namesTested, catalogueTested}
 
 -- what the first bad name and the first that repeats tell of n names: the lower place, at one place 12 before 13
 abbrev pub lowerOf : ℕ → ℕ → ℕ → Tested
@@ -93,8 +94,8 @@ module _ (names : List ℕ) where
           at n (seek-is (wrongName names) n n (omega arith) (λ j h. right j (omega arith) (omega arith)) (λ h. absurd (omega arith))) ∙ rw (x, y, z)
 
   -- where the entry asked for 1 and 8 before, the contents are left
-  pub tested-contents : tooManyNames names ≡ false → wholeNames names ≡ true → catalogueTested names ≡ namesTested names
-  tested-contents e f = rw (e, f)
+  pub catalogue-contents : tooManyNames names ≡ false → wholeNames names ≡ true → catalogueTested names ≡ namesTested names
+  catalogue-contents e f = rw (e, f)
 
 -- ---- what is known of a catalogue that passed
 
@@ -117,7 +118,7 @@ passed-names names p = record { good = good; distinct = distinct }
     none : (i : ℕ) → i < nameCount names → (badName names i ≡ false) × (repeats (nameOf names) i ≡ false)
     none i h =
         let e : ltb at n ≡ false = passed-first (ltb at n) (wrongAt names at) Passed p .0 in
-        neither (badName names i) (repeats (nameOf names) i) (seek-before (wrongName names) 0 n i (omega arith) (omega (arith, ltb-false at n e)))
+        neither (badName names i) (repeats (nameOf names) i) (none-found (wrongName names) n e i h)
 
     good : (i : ℕ) → i < nameCount names → isName (nameOf names i) ≡ true
     good i h = not-false _ (none i h .0)
@@ -162,7 +163,7 @@ name-record r e =
       some = ltb-true _ _ (b .1);
       most = omega (arith, seek-to (hidden r) 0 (length r));
       text = λ p l. let v = both (leb 33 (getD r p 0)) (leb (getD r p 0) 126) (not-false _ (seek-before (hidden r) 0 (length r) p (omega arith) l)) in (leb-true _ _ (v .0), leb-true _ _ (v .1));
-      zeros = λ p l m. eqb-true _ _ (not-false _ (seek-before (filled r) (nameLength r) (length r - nameLength r) p l (omega arith)));
+      zeros = λ p l m. eqb-true _ _ (not-false _ (seek-before (nonZero r) (nameLength r) (length r - nameLength r) p l (omega arith)));
     }
 
 -- ---- for the code: the place that a sort found

@@ -22,8 +22,8 @@ abbrev pub hidden : List ℕ → ℕ → Bool
 hidden r p = not (visible (getD r p 0))
 
 -- at a place stands no zero
-abbrev pub filled : List ℕ → ℕ → Bool
-filled r p = not (eqb (getD r p 0) 0)
+abbrev pub nonZero : List ℕ → ℕ → Bool
+nonZero r p = not (eqb (getD r p 0) 0)
 
 -- how many bytes from 33 to 126 a record begins with: the length of its name
 unfoldable pub nameLength : List ℕ → ℕ
@@ -33,7 +33,7 @@ nameLength r = seek (hidden r) 0 (length r)
 -- the first place from `from` on where no zero stands, or the record's length
 unfoldable pub zerosTo : List ℕ → ℕ → ℕ
 unfolding seek
-zerosTo r from = seek (filled r) from (length r - from)
+zerosTo r from = seek (nonZero r) from (length r - from)
 
 -- 64 bytes: 1 to 64 bytes from 33 to 126, then zeros
 abbrev pub isName : List ℕ → Bool

@@ -5,7 +5,7 @@ use records::Tested;
 ghost use mathlib.Core.Path.{_≡_};
 ghost use mathlib.Core.List.{[], _∷_};
 ghost use Rattle.records.specs.Outcome.{outcome};
-ghost use Rattle.digest_groups_spec.specs.DigestGrouping.{groupOutcome};
+ghost use Rattle.digest_groups_spec.specs.DigestGrouping.{digestGroupsOutcome};
 
 // Writes a record for each group of digests equal in position, decoy and letters to groups, and the lists of their proteins to
 // proteins. The work memory is zero after acceptance or where a list has no room.
@@ -18,7 +18,7 @@ pub fn group_digests(
     groups: &mut [u8],
     proteins: &mut [u32],
 ) -> Counted
-    ensures { λ r. ⌜ outcome r (now (work .exit) ∷ now (groups .exit) ∷ now (proteins .exit) ∷ []) ≡ groupOutcome (now (names .entry)) (now (bounds .entry)) (now (letters .entry)) (now (digests .entry)) (now (work .entry)) (now (groups .entry)) (now (proteins .entry)) ⌝ }
+    ensures { λ r. ⌜ outcome r (now (work .exit) ∷ now (groups .exit) ∷ now (proteins .exit) ∷ []) ≡ digestGroupsOutcome (now (names .entry)) (now (bounds .entry)) (now (letters .entry)) (now (digests .entry)) (now (work .entry)) (now (groups .entry)) (now (proteins .entry)) ⌝ }
 {
     let found = tested(names, bounds, letters, digests, work.len());
     match found {

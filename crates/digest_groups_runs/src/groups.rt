@@ -1,4 +1,4 @@
-// Sorted digests made groups, run by run: each run becomes a record, and its place in the work memory the list of its proteins.
+// DigestsSorted digests made groups, run by run: each run becomes a record, and its place in the work memory the list of its proteins.
 use sorting_texts::By;
 ghost use mathlib.Core.Path.{_≡_};
 ghost use mathlib.Core.List.{_++_};
@@ -6,13 +6,14 @@ ghost use Prim.Native.Nat.{ℕ, _+_, _*_, _≤_, _<_};
 ghost use lib.ListN.{length, getD};
 ghost use Rattle.records.specs.Le.{le};
 ghost use Rattle.records.specs.StoreLaws.{stored};
-ghost use Rattle.digest_groups_spec.specs.DigestGroups.{digestAt, protein};
-ghost use Rattle.digest_groups_runs.specs.Turns.{Replaced, Listed, Ready, Turned, Gathered};
+ghost use Rattle.enzyme_keep.specs.Digests.{proteinIn};
+ghost use Rattle.digest_groups_spec.specs.DigestGroups.{digestAt};
+ghost use Rattle.digest_groups_runs.specs.Turns.{Replaced, RunListed, DigestsReady, RunGrouped, RunsGathered};
 
 // The number of a digest's protein.
 fn protein_of(digests: &[u8], x: u32) -> u32
     requires { ⌜ 16 * x + 16 ≤ length (now digests) ⌝ }
-    ensures { λ r. ⌜ r ≡ protein (digestAt (now (digests .entry)) x) ⌝ }
+    ensures { λ r. ⌜ r ≡ proteinIn (digestAt (now (digests .entry)) x) ⌝ }
 {
     let at = 16 * (x as usize);
     records::u32_at(&digests[at..at + 16], 12)
@@ -21,7 +22,7 @@ fn protein_of(digests: &[u8], x: u32) -> u32
 // Puts the number of its protein in the place of each digest's.
 fn take_proteins(digests: &[u8], w: &mut [u32], lo: usize, hi: usize)
     requires { ⌜ (lo ≤ hi) × (hi ≤ length (now w)) × ((i : ℕ) → lo ≤ i → i < hi → 16 * getD (now w) i 0 + 16 ≤ length (now digests)) ⌝ }
-    ensures { λ _. ⌜ Replaced (λ x. protein (digestAt (now (digests .entry)) x)) (now (w .entry)) (now (w .exit)) lo hi ⌝ }
+    ensures { λ _. ⌜ Replaced (λ x. proteinIn (digestAt (now (digests .entry)) x)) (now (w .entry)) (now (w .exit)) lo hi ⌝ }
 {
     let mut i = lo;
     while i < hi {
@@ -49,8 +50,8 @@ fn put_group(digest: &[u8], at: usize, count: usize, out: &mut [u8], g: usize)
 
 // Makes the numbers from lo up to hi the list of their proteins, sorted by name.
 fn list_proteins(names: &[u8], digests: &[u8], w: &mut [u32], lo: usize, hi: usize, n: usize)
-    requires { ⌜ (lo ≤ hi) × (hi ≤ n) × Ready (now digests) n lo (now w) ⌝ }
-    ensures { λ _. ⌜ Listed (now (names .entry)) (now (digests .entry)) (now (w .entry)) (now (w .exit)) lo hi n ⌝ }
+    requires { ⌜ (lo ≤ hi) × (hi ≤ n) × DigestsReady (now digests) n lo (now w) ⌝ }
+    ensures { λ _. ⌜ RunListed (now (names .entry)) (now (digests .entry)) (now (w .entry)) (now (w .exit)) lo hi n ⌝ }
 {
     take_proteins(digests, w, lo, hi);
     sorting_slices::sort(By::Name, names, w, lo, hi, n, 2 * n);
@@ -67,8 +68,8 @@ fn gather_run(
     groups: &mut [u8],
     g: usize,
 ) -> usize
-    requires { ⌜ (lo < n) × Ready (now digests) n lo (now w) ⌝ }
-    ensures { λ r. ⌜ Turned (now (names .entry)) (now (letters .entry)) (now (digests .entry)) n lo (now (w .entry)) (now (groups .entry)) g r (now (w .exit)) (now (groups .exit)) ⌝ }
+    requires { ⌜ (lo < n) × DigestsReady (now digests) n lo (now w) ⌝ }
+    ensures { λ r. ⌜ RunGrouped (now (names .entry)) (now (letters .entry)) (now (digests .entry)) n lo (now (w .entry)) (now (groups .entry)) g r (now (w .exit)) (now (groups .exit)) ⌝ }
 {
     let all = n as u32;
     let hi = sorting_runs::run_end(By::Spelled(all), letters, w, lo, n, 2 * n);
@@ -87,8 +88,8 @@ pub fn gather_runs(
     n: usize,
     groups: &mut [u8],
 ) -> usize
-    requires { ⌜ Ready (now digests) n 0 (now w) ⌝ }
-    ensures { λ r. ⌜ Gathered (now (names .entry)) (now (letters .entry)) (now (digests .entry)) n (now (w .entry)) (now (groups .entry)) r (now (w .exit)) (now (groups .exit)) ⌝ }
+    requires { ⌜ DigestsReady (now digests) n 0 (now w) ⌝ }
+    ensures { λ r. ⌜ RunsGathered (now (names .entry)) (now (letters .entry)) (now (digests .entry)) n (now (w .entry)) (now (groups .entry)) r (now (w .exit)) (now (groups .exit)) ⌝ }
 {
     let mut lo = 0;
     let mut g = 0;

@@ -1,4 +1,4 @@
-// Sorted digests made groups, run by run. Only crates of this repository call this.
+// DigestsSorted digests made groups, run by run. Only crates of this repository call this.
 mod groups;
 
 pub use groups::gather_runs;

@@ -5,13 +5,13 @@ use mathlib.Core.Path.{refl}
 use mathlib.Core.List.{List, [], _∷_, _++_, flatten, map}
 use lib.ListN.{length, replicate}
 use Rattle.records.specs.Le.{le, numberAt}
-use Rattle.records.specs.Cases.{Case, Hold, answered, refused, told}
+use Rattle.records.specs.Cases.{Case, Hold, answered, refusedAs, told}
 use Rattle.records.specs.Room.{written}
 use Rattle.records.specs.Search.{seek}
 use Rattle.letters.specs.Letters.{isLetter, firstBad}
 use Rattle.catalogue_spec.specs.Names.{nameLength, zerosTo, namesTested}
 use Rattle.catalogue_spec.specs.Book.{firstBadBound}
-use Rattle.digest_groups_spec.specs.DigestGrouping.{firstBadDigest, groupOutcome}
+use Rattle.digest_groups_spec.specs.DigestGrouping.{firstBadDigest, digestGroupsOutcome}
 
 -- a name of these bytes
 name : List ℕ → List ℕ
@@ -29,7 +29,7 @@ group reference first count = reference ++ (le 4 first ++ le 4 count)
 grouping : List (List ℕ) → ℕ → ℕ → ℕ → List ℕ → List ℕ → List ℕ → List ℕ → Case
 grouping ds words bytes places answer work groups proteins = record {
   got =
-      told (groupOutcome (name (98 ∷ []) ++ (name (97 ∷ []) ++ name (99 ∷ []))) (0 ∷ 4 ∷ 6 ∷ 8 ∷ []) (65 ∷ 67 ∷ 65 ∷ 67 ∷ 65 ∷ 67 ∷ 67 ∷ 65 ∷ []) (flatten ds) (replicate words 7)
+      told (digestGroupsOutcome (name (98 ∷ []) ++ (name (97 ∷ []) ++ name (99 ∷ []))) (0 ∷ 4 ∷ 6 ∷ 8 ∷ []) (65 ∷ 67 ∷ 65 ∷ 67 ∷ 65 ∷ 67 ∷ 67 ∷ 65 ∷ []) (flatten ds) (replicate words 7)
       (replicate bytes 170) (replicate places 9));
   want = answer ∷ work ∷ groups ∷ proteins ∷ [];
 }
@@ -49,16 +49,16 @@ table =
     -- repeats are kept; more room than needed stays
     ∷ grouping (digest 0 2 3 0 0 ∷ digest 2 4 3 0 0 ∷ []) 24 24 3 (answered 1) (replicate 24 0) (group (digest 0 2 3 0 0) 0 2) (0 ∷ 0 ∷ 9 ∷ [])
     -- 11: no room for the second group, or for the second protein; both lists hold what fits
-    ∷ grouping (digest 0 2 3 0 0 ∷ digest 0 2 0 0 2 ∷ []) 24 47 2 (refused 11 0) (replicate 24 0) (group (digest 0 2 0 0 2) 0 1 ++ replicate 23 170) (2 ∷ 0 ∷ [])
-    ∷ grouping (digest 0 2 3 0 0 ∷ digest 0 2 0 0 2 ∷ []) 24 48 1 (refused 11 0) (replicate 24 0) (group (digest 0 2 0 0 2) 0 1 ++ group (digest 0 2 3 0 0) 1 1) (2 ∷ [])
+    ∷ grouping (digest 0 2 3 0 0 ∷ digest 0 2 0 0 2 ∷ []) 24 47 2 (refusedAs 11 0) (replicate 24 0) (group (digest 0 2 0 0 2) 0 1 ++ replicate 23 170) (2 ∷ 0 ∷ [])
+    ∷ grouping (digest 0 2 3 0 0 ∷ digest 0 2 0 0 2 ∷ []) 24 48 1 (refusedAs 11 0) (replicate 24 0) (group (digest 0 2 0 0 2) 0 1 ++ group (digest 0 2 3 0 0) 1 1) (2 ∷ [])
     -- 10 with a word too few; 9 at the second digest, which ends past its protein; both leave all as it was
-    ∷ grouping (digest 0 2 3 0 0 ∷ []) 17 24 1 (refused 10 0) (replicate 17 7) (replicate 24 170) (9 ∷ [])
-    ∷ grouping (digest 0 2 3 0 0 ∷ digest 0 3 3 0 1 ∷ []) 24 48 2 (refused 9 1) (replicate 24 7) (replicate 48 170) (9 ∷ 9 ∷ [])
+    ∷ grouping (digest 0 2 3 0 0 ∷ []) 17 24 1 (refusedAs 10 0) (replicate 17 7) (replicate 24 170) (9 ∷ [])
+    ∷ grouping (digest 0 2 3 0 0 ∷ digest 0 3 3 0 1 ∷ []) 24 48 2 (refusedAs 9 1) (replicate 24 7) (replicate 48 170) (9 ∷ 9 ∷ [])
     -- 9: no such protein; a start that is not below its end; position 4; decoy 2
-    ∷ grouping (digest 0 2 3 0 3 ∷ []) 18 24 1 (refused 9 0) (replicate 18 7) (replicate 24 170) (9 ∷ [])
-    ∷ grouping (digest 2 2 3 0 0 ∷ []) 18 24 1 (refused 9 0) (replicate 18 7) (replicate 24 170) (9 ∷ [])
-    ∷ grouping (digest 0 2 4 0 0 ∷ []) 18 24 1 (refused 9 0) (replicate 18 7) (replicate 24 170) (9 ∷ [])
-    ∷ grouping (digest 0 2 3 2 0 ∷ []) 18 24 1 (refused 9 0) (replicate 18 7) (replicate 24 170) (9 ∷ [])
+    ∷ grouping (digest 0 2 3 0 3 ∷ []) 18 24 1 (refusedAs 9 0) (replicate 18 7) (replicate 24 170) (9 ∷ [])
+    ∷ grouping (digest 2 2 3 0 0 ∷ []) 18 24 1 (refusedAs 9 0) (replicate 18 7) (replicate 24 170) (9 ∷ [])
+    ∷ grouping (digest 0 2 4 0 0 ∷ []) 18 24 1 (refusedAs 9 0) (replicate 18 7) (replicate 24 170) (9 ∷ [])
+    ∷ grouping (digest 0 2 3 2 0 ∷ []) 18 24 1 (refusedAs 9 0) (replicate 18 7) (replicate 24 170) (9 ∷ [])
     ∷ []
 
 pub cases : Hold table

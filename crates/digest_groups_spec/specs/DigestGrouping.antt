@@ -15,8 +15,8 @@ use Rattle.records.specs.Tested.{andThen, fieldTested}
 use Rattle.records.specs.Search.{seek}
 use Rattle.catalogue_spec.specs.Names.{nameCount, tooManyNames, wholeNames, namesTested}
 use Rattle.catalogue_spec.specs.Book.{tooManyLetters, boundsOf, boundsTested, lettersTested}
-use Rattle.enzyme_keep.specs.Digests.{goodRecord}
-use Rattle.digest_groups_spec.specs.DigestGroups.{digestAt, digestsIn, end, protein, gathered, grouped}
+use Rattle.enzyme_keep.specs.Digests.{goodRecord, endOf, proteinIn}
+use Rattle.digest_groups_spec.specs.DigestGroups.{digestAt, digestsIn, gathered, digestsGrouped}
 
 -- 1: more than 65,536 names, 2^28 letters or 1,048,576 digests, counted in whole records
 abbrev pub tooLarge : List ℕ → List ℕ → List ℕ → Bool
@@ -32,7 +32,7 @@ needed names ds = 4 * nameCount names + 6 * (length ds / 16)
 
 -- "start below end, end within a protein of the book, missed to 16, position to 3, flags 0 or 1"
 abbrev pub goodDigest : List ℕ → ℕ → List ℕ → Bool
-goodDigest bounds proteins d = goodRecord d && ltb (protein d) proteins && leb (end d) (getD bounds (protein d + 1) 0 - getD bounds (protein d) 0)
+goodDigest bounds proteins d = goodRecord d && ltb (proteinIn d) proteins && leb (endOf d) (getD bounds (proteinIn d + 1) 0 - getD bounds (proteinIn d) 0)
 
 abbrev pub badDigest : List ℕ → ℕ → List ℕ → ℕ → Bool
 badDigest bounds proteins ds i = not (goodDigest bounds proteins (digestAt ds i))
@@ -57,13 +57,13 @@ tested names bounds letters ds words =
     (cond (uneven names bounds ds) (Refused Length)
     (cond (ltb words (needed names ds)) (Refused Work) (contents names bounds letters ds)))
 
--- then 11, in `grouped`
-abbrev pub groupOutcome : List ℕ → List ℕ → List ℕ → List ℕ → List ℕ → List ℕ → List ℕ → Outcome Counted
-groupOutcome names bounds letters ds work groups proteins =
+-- then 11, in `digestsGrouped`
+abbrev pub digestGroupsOutcome : List ℕ → List ℕ → List ℕ → List ℕ → List ℕ → List ℕ → List ℕ → Outcome Counted
+digestGroupsOutcome names bounds letters ds work groups proteins =
     unlessRefused (tested names bounds letters ds (length work)) No (work ∷ groups ∷ proteins ∷ [])
-    (grouped names (gathered bounds letters (digestsIn ds)) work groups proteins)
+    (digestsGrouped names (gathered bounds letters (digestsIn ds)) work groups proteins)
 
 -- no second answer and no second contents meet the contract of `group_digests`
-pub group-only : (names bounds letters ds work groups proteins : List ℕ) (r q : Counted) (k l : List (List ℕ))
-    → outcome r k ≡ groupOutcome names bounds letters ds work groups proteins → outcome q l ≡ groupOutcome names bounds letters ds work groups proteins → (r ≡ q) × (k ≡ l)
-group-only names bounds letters ds work groups proteins r q k l = only r q k l (groupOutcome names bounds letters ds work groups proteins)
+pub digest-groups-only : (names bounds letters ds work groups proteins : List ℕ) (r q : Counted) (k l : List (List ℕ))
+    → outcome r k ≡ digestGroupsOutcome names bounds letters ds work groups proteins → outcome q l ≡ digestGroupsOutcome names bounds letters ds work groups proteins → (r ≡ q) × (k ≡ l)
+digest-groups-only names bounds letters ds work groups proteins r q k l = only r q k l (digestGroupsOutcome names bounds letters ds work groups proteins)

@@ -9,10 +9,11 @@ use Rattle.lists.specs.Lists.{upFrom, keep, same}
 use Rattle.records.specs.declared.refusal.Refusal.the-variants.{Room}
 use Rattle.records.specs.declared.refusal.Counted.{Counted}
 use Rattle.records.specs.declared.refusal.Counted.the-variants.{Count, Refused}
-use Rattle.records.specs.Le.{le, numberAt}
+use Rattle.records.specs.Le.{le}
 use Rattle.records.specs.Outcome.{Outcome, outcome}
 use Rattle.records.specs.Room.{fits, fitted, singly}
 use Rattle.letters.specs.Reversal.{lettersOf}
+use Rattle.enzyme_keep.specs.Digests.{startOf, endOf, positionIn, decoyIn, isDecoy, proteinIn}
 use Rattle.sorting_spec.specs.Sort.{sorted}
 use Rattle.sorting_spec.specs.Lex.{lexLe}
 use Rattle.sorting_spec.specs.Joined.{nameOf}
@@ -25,29 +26,13 @@ digestAt bytes i = take 16 (drop (16 * i) bytes)
 abbrev pub digestsIn : List ℕ → List (List ℕ)
 digestsIn bytes = map (digestAt bytes) (upFrom 0 (length bytes / 16))
 
--- its fields
-abbrev pub start : List ℕ → ℕ
-start d = numberAt 4 d 0
-
-abbrev pub end : List ℕ → ℕ
-end d = numberAt 4 d 4
-
-abbrev pub position : List ℕ → ℕ
-position d = getD d 10 0
-
-abbrev pub decoy : List ℕ → ℕ
-decoy d = getD d 11 0
-
-abbrev pub protein : List ℕ → ℕ
-protein d = numberAt 4 d 12
-
 -- "Digest ranges count from their protein's first letter"; a decoy's letters are reversed
 abbrev pub lettersIn : List ℕ → List ℕ → List ℕ → List ℕ
-lettersIn bounds letters d = lettersOf (eqb (decoy d) 1) (take (end d - start d) (drop (getD bounds (protein d) 0 + start d) letters))
+lettersIn bounds letters d = lettersOf (isDecoy d) (take (endOf d - startOf d) (drop (getD bounds (proteinIn d) 0 + startOf d) letters))
 
 -- position, decoy and letters
 abbrev pub keyOf : List ℕ → List ℕ → List ℕ → List ℕ
-keyOf bounds letters d = position d ∷ decoy d ∷ lettersIn bounds letters d
+keyOf bounds letters d = positionIn d ∷ decoyIn d ∷ lettersIn bounds letters d
 
 -- the digests equal in these, in input order, for each of them, sorted
 abbrev pub gathered : List ℕ → List ℕ → List (List ℕ) → List (List (List ℕ))
@@ -58,7 +43,7 @@ abbrev pub byName : List ℕ → ℕ → ℕ → Bool
 byName names a b = lexLe (nameOf names a) (nameOf names b)
 
 abbrev pub proteinsOf : List ℕ → List (List ℕ) → List ℕ
-proteinsOf names ms = sorted (byName names) (map protein ms)
+proteinsOf names ms = sorted (byName names) (map proteinIn ms)
 
 -- a group's record: the reference, which is the first in input order, and the first place and the number of its proteins
 abbrev pub groupOf : ℕ → List (List ℕ) → List (List ℕ)
@@ -77,8 +62,8 @@ proteinList names (ms ∷ mss) = proteinsOf names ms ++ proteinList names mss
 
 -- what a call leaves where its tests passed: how many groups there are, or that one of the two lists has no room; the work memory
 -- zero, and of both lists the first that fit
-abbrev pub grouped : List ℕ → List (List (List ℕ)) → List ℕ → List ℕ → List ℕ → Outcome Counted
-grouped names mss work groups proteins =
+abbrev pub digestsGrouped : List ℕ → List (List (List ℕ)) → List ℕ → List ℕ → List ℕ → Outcome Counted
+digestsGrouped names mss work groups proteins =
     let rs = groupsFrom 0 mss in
     let ps = singly (proteinList names mss) in
     outcome (cond (fits 24 1048576 groups rs && fits 1 1048576 proteins ps) (Count (length rs)) (Refused Room))

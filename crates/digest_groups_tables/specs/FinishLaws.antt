@@ -20,8 +20,8 @@ use Rattle.records.specs.RoomLaws.{Sized, stored-text}
 use Rattle.records.specs.StoreLaws.{storedFrom, stored-all}
 use Rattle.sorting_spec.specs.Distinct.{distinct}
 use Rattle.sorting_spec.specs.Runs.{joined, runsOf}
-use Rattle.digest_groups_spec.specs.DigestGroups.{digestAt, digestsIn, keyOf, gathered, groupOf, groupsFrom, proteinList, grouped}
-use Rattle.digest_groups_runs.specs.Turns.{orderOf, Sorted, Gathered}
+use Rattle.digest_groups_spec.specs.DigestGroups.{digestAt, digestsIn, keyOf, gathered, groupOf, groupsFrom, proteinList, digestsGrouped}
+use Rattle.digest_groups_runs.specs.Turns.{digestOrder, DigestsSorted, RunsGathered}
 use Rattle.digest_groups_runs.specs.TurnLaws.{length-digest}
 
 -- ---- every record of a group has 24 bytes
@@ -80,8 +80,8 @@ length-groups at ((d ∷ ds) ∷ mss) h = ap suc (length-groups (at + length (d 
 
 -- ---- what the call leaves
 
-module _ (names bounds letters bytes : List ℕ) (n : ℕ) (work w w′ groups groups′ proteins : List ℕ) (g : ℕ) (r : Counted) (s : Sorted bounds letters bytes n w)
-    (d : Gathered names letters bytes n w groups g w′ groups′) (same : length w ≡ length work) where
+module _ (names bounds letters bytes : List ℕ) (n : ℕ) (work w w′ groups groups′ proteins : List ℕ) (g : ℕ) (r : Counted) (s : DigestsSorted bounds letters bytes n w)
+    (d : RunsGathered names letters bytes n w groups g w′ groups′) (same : length w ≡ length work) where
   abbrev mss : List (List (List ℕ))
   mss = gathered bounds letters (digestsIn bytes)
 
@@ -96,18 +96,18 @@ module _ (names bounds letters bytes : List ℕ) (n : ℕ) (work w w′ groups g
   wide : length (proteinList names mss) ≡ n
   wide = ap length (sym list) ∙ length-take-le n w′ (omega (arith, s .ready .fits, d .same-length))
 
-  pub count : g ≡ length (groupsFrom 0 mss)
-  count =
+  count-grouped : g ≡ length (groupsFrom 0 mss)
+  count-grouped =
       d .number ∙ ap (λ (m : List (List (List ℕ))). length m) (s .runs)
-      ∙ sym (length-groups 0 mss (subst (λ (m : List (List (List ℕ))). Some m) (s .runs) (some-map (digestAt bytes) (runsOf (orderOf letters n w) (slice 0 n w)) (some-runs (orderOf letters n w) (slice 0 n w)))))
+      ∙ sym (length-groups 0 mss (subst (λ (m : List (List (List ℕ))). Some m) (s .runs) (some-map (digestAt bytes) (runsOf (digestOrder letters n w) (slice 0 n w)) (some-runs (digestOrder letters n w) (slice 0 n w)))))
 
   numbers : sets proteins 0 (take n w′) ≡ fitted 1 1048576 proteins (singly (proteinList names mss))
   numbers = ap (sets proteins 0) list ∙ stored-text 1048576 (proteinList names mss) proteins (omega (arith, wide, s .ready .few))
 
   pub left-grouped : r ≡ cond (leb g (min (length groups / 24) 1048576) && leb n (min (length proteins / 1) 1048576)) (Count g) (Refused Room)
-      → outcome r (replicate (length w′) 0 ∷ groups′ ∷ sets proteins 0 (take n w′) ∷ []) ≡ grouped names mss work groups proteins
+      → outcome r (replicate (length w′) 0 ∷ groups′ ∷ sets proteins 0 (take n w′) ∷ []) ≡ digestsGrouped names mss work groups proteins
   left-grouped e =
       let z : length w′ ≡ length work = d .same-length ∙ same in
       let m : length (singly (proteinList names mss)) ≡ n = length-map (proteinList names mss) (λ (b : ℕ). b ∷ []) ∙ wide in
-      let a : r ≡ cond (fits 24 1048576 groups (groupsFrom 0 mss) && fits 1 1048576 proteins (singly (proteinList names mss))) (Count (length (groupsFrom 0 mss))) (Refused Room) = rw m (rw count at e) in
+      let a : r ≡ cond (fits 24 1048576 groups (groupsFrom 0 mss) && fits 1 1048576 proteins (singly (proteinList names mss))) (Count (length (groupsFrom 0 mss))) (Refused Room) = rw m (rw count-grouped at e) in
       rw (records, numbers, z, a)

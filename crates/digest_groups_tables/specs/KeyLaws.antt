@@ -14,14 +14,15 @@ use Rattle.sorting_texts.specs.declared.text.By.the-variants.{Spelled}
 use Rattle.sorting_spec.specs.Sort.{sorted}
 use Rattle.sorting_spec.specs.SortLaws.{sorted-in, sorted-alike, sorted-map}
 use Rattle.sorting_spec.specs.Lex.{lexLe}
-use Rattle.sorting_texts.specs.Text.{textOf, leBy, spellingOf as lettersBy}
+use Rattle.sorting_texts.specs.Text.{textBy, leBy, spellingOf}
 use Rattle.sorting_spec.specs.Runs.{joined, runsOf}
 use Rattle.sorting_spec.specs.RunLaws.{runs-alike}
 use Rattle.sorting_spec.specs.DistinctLaws.{runs-distinct}
-use Rattle.digest_groups_spec.specs.DigestGroups.{digestAt, digestsIn, position, decoy, lettersIn, keyOf, gathered}
-use Rattle.digest_groups_words.specs.Word.{wordOf}
+use Rattle.enzyme_keep.specs.Digests.{positionIn, decoyIn}
+use Rattle.digest_groups_spec.specs.DigestGroups.{digestAt, digestsIn, lettersIn, keyOf, gathered}
+use Rattle.digest_groups_words.specs.Word.{digestWord}
 use Rattle.digest_groups_words.specs.WordLaws.{word-key}
-use Rattle.digest_groups_words.specs.Tables.{Good, spellingOf, Tables}
+use Rattle.digest_groups_words.specs.Tables.{GoodDigests, digestSpelling, DigestTables}
 use Rattle.digest_groups_words.specs.TableLaws.{spelt-letters}
 
 -- ---- runs of what f makes
@@ -51,22 +52,22 @@ part-is (suc f) k (x ∷ l) = rw (suc-add f k) (part-is f k l)
 
 -- ---- what the tables say
 
-module _ (bounds letters bytes : List ℕ) (n : ℕ) (w : List ℕ) (g : Good bounds letters bytes n) (t : Tables bounds letters bytes n n w) where
+module _ (bounds letters bytes : List ℕ) (n : ℕ) (w : List ℕ) (g : GoodDigests bounds letters bytes n) (t : DigestTables bounds letters bytes n n w) where
   half : (x k d : ℕ) → d ≤ 1 → x ≡ 2 * k + d → (x / 2 ≡ k) × (x % 2 ≡ d)
   half x k d h e = (omega arith, omega arith)
 
-  text-is : (x : ℕ) → x < n → textOf (Spelled n) letters (drop (2 * n) w) x
-      ≡ wordOf (position (digestAt bytes x)) (decoy (digestAt bytes x)) (lettersIn bounds letters (digestAt bytes x)) ∷ lettersIn bounds letters (digestAt bytes x)
-  unfolding lettersBy
+  text-is : (x : ℕ) → x < n → textBy (Spelled n) letters (drop (2 * n) w) x
+      ≡ digestWord (positionIn (digestAt bytes x)) (decoyIn (digestAt bytes x)) (lettersIn bounds letters (digestAt bytes x)) ∷ lettersIn bounds letters (digestAt bytes x)
+  unfolding spellingOf
   text-is x h =
       let d : List ℕ = digestAt bytes x in
-      let s = spellingOf bounds letters d in
+      let s = digestSpelling bounds letters d in
       let a : getD (drop (2 * n) w) x 0 ≡ s .word = getD-drop (2 * n) w x 0 ∙ t .words x h in
       let p : 2 * n + (n + x) ≡ 3 * n + x = omega arith in
       let q : 2 * n + (2 * n + x) ≡ 4 * n + x = omega arith in
       let b : getD (drop (2 * n) w) (n + x) 0 ≡ s .from = getD-drop (2 * n) w (n + x) 0 ∙ ap (λ (i : ℕ). getD w i 0) p ∙ t .froms x h in
       let c : getD (drop (2 * n) w) (2 * n + x) 0 ≡ s .size = getD-drop (2 * n) w (2 * n + x) 0 ∙ ap (λ (i : ℕ). getD w i 0) q ∙ t .sizes x h in
-      let e = half (s .size) _ (decoy d) (g .inside x h .flag) refl in
+      let e = half (s .size) _ (decoyIn d) (g .inside x h .flag) refl in
       rw (a, b, c, e .0, e .1, part-is (s .from) _ letters)
 
   pub agree : (a b : ℕ) → a < n → b < n → leBy (Spelled n) letters (drop (2 * n) w) a b ≡ lexLe (keyOf bounds letters (digestAt bytes a)) (keyOf bounds letters (digestAt bytes b))
@@ -74,7 +75,7 @@ module _ (bounds letters bytes : List ℕ) (n : ℕ) (w : List ℕ) (g : Good bo
       let i = g .inside a h in
       let j = g .inside b k in
       ap₂ lexLe (text-is a h) (text-is b k)
-      ∙ word-key (position (digestAt bytes a)) (decoy (digestAt bytes a)) (position (digestAt bytes b)) (decoy (digestAt bytes b)) (lettersIn bounds letters (digestAt bytes a)) (lettersIn bounds letters (digestAt bytes b))
+      ∙ word-key (positionIn (digestAt bytes a)) (decoyIn (digestAt bytes a)) (positionIn (digestAt bytes b)) (decoyIn (digestAt bytes b)) (lettersIn bounds letters (digestAt bytes a)) (lettersIn bounds letters (digestAt bytes b))
       (spelt-letters bounds letters (digestAt bytes a) (i .book)) (spelt-letters bounds letters (digestAt bytes b) (j .book)) (i .flag) (j .flag)
 
   abbrev byKey : List ℕ → List ℕ → Bool

@@ -1,13 +1,13 @@
--- Sorted numbers of digests: the tables, sorted, have the gathered digests as runs. Assumes nothing.
-use Prim.Native.Nat.{ℕ, zero, suc, _+_, _-_, _*_, _≤_, _<_}
-use mathlib.Core.Path.{_≡_, refl, sym, ap, ap₂, _∙_, subst}
+-- DigestsSorted numbers of digests: the tables, sorted, have the gathered digests as runs. Assumes nothing.
+use Prim.Native.Nat.{ℕ, _+_, _-_, _*_, _≤_, _<_}
+use mathlib.Core.Path.{_≡_, sym, ap, ap₂, _∙_, subst}
 use mathlib.Core.Bool.{Bool, cond}
-use mathlib.Core.Logic.{inl, inr}
-use mathlib.Core.List.{List, [], _∷_, map}
+use mathlib.Core.List.{List, map}
 use native.Mathlib.Omega.{arith}
 use lib.ListN.{length, getD, drop}
 use lib.Seq.{slice, length-slice, ext-getD}
-use Rattle.lists.specs.Lists.{In, upFrom}
+use Rattle.lists.specs.Lists.{upFrom}
+use Rattle.lists.specs.InLaws.{in-getD}
 use Rattle.lists.specs.RowLaws.{length-up, getD-up, up-in}
 use Rattle.sorting_texts.specs.declared.text.By.the-variants.{Spelled}
 use Rattle.sorting_spec.specs.Sort.{sorted}
@@ -18,16 +18,11 @@ use Rattle.sorting_spec.specs.Runs.{runsOf}
 use Rattle.sorting_slices.specs.Sorting.{fitting, arranged}
 use Rattle.sorting_slices.specs.SortingLaws.{order-fitting, length-arranged, arranged-sorted, arranged-drop}
 use Rattle.digest_groups_spec.specs.DigestGroups.{digestAt}
-use Rattle.digest_groups_words.specs.Tables.{Good, Tables}
+use Rattle.digest_groups_words.specs.Tables.{GoodDigests, DigestTables}
 use Rattle.digest_groups_tables.specs.KeyLaws.{gathered-runs}
-use Rattle.digest_groups_runs.specs.Turns.{Sorted}
+use Rattle.digest_groups_runs.specs.Turns.{DigestsSorted}
 
-in-at : (l : List ℕ) (i : ℕ) → i < length l → In (getD l i 0) l
-in-at [] i h = absurd (omega arith)
-in-at (x ∷ l) zero h = inl refl
-in-at (x ∷ l) (suc i) h = inr (in-at l i (omega arith))
-
-module _ (bounds letters bytes : List ℕ) (n : ℕ) (w : List ℕ) (g : Good bounds letters bytes n) (t : Tables bounds letters bytes n n w) (l : 5 * n ≤ length w) where
+module _ (bounds letters bytes : List ℕ) (n : ℕ) (w : List ℕ) (g : GoodDigests bounds letters bytes n) (t : DigestTables bounds letters bytes n n w) (l : 5 * n ≤ length w) where
   abbrev order : ℕ → ℕ → Bool
   order = leBy (Spelled n) letters (drop (2 * n) w)
 
@@ -57,14 +52,14 @@ module _ (bounds letters bytes : List ℕ) (n : ℕ) (w : List ℕ) (g : Good bo
       let z : 0 + i ≡ i = omega arith in
       let m : length (sorted order (upFrom 0 n)) ≡ n = length-sorted order (upFrom 0 n) ∙ length-up 0 n in
       let e : getD (sorted order (upFrom 0 n)) i 0 ≡ getD new i 0 = ap (λ (s : List ℕ). getD s i 0) (sym sorts) ∙ at-slice 0 n new i (omega arith) ∙ ap (λ (j : ℕ). getD new j 0) z in
-      let r = up-in (getD (sorted order (upFrom 0 n)) i 0) 0 n (sorted-in order (getD (sorted order (upFrom 0 n)) i 0) (upFrom 0 n) (in-at (sorted order (upFrom 0 n)) i (omega arith))) in
+      let r = up-in (getD (sorted order (upFrom 0 n)) i 0) 0 n (sorted-in order (getD (sorted order (upFrom 0 n)) i 0) (upFrom 0 n) (in-getD 0 (sorted order (upFrom 0 n)) i (omega arith))) in
       omega (arith, r .1)
 
-  pub sorted-tables : (w′ : List ℕ) → w′ ≡ cond (fitting 0 n n (2 * n) (length w)) (arranged (Spelled n) letters 0 n n (2 * n) w) w → Sorted bounds letters bytes n w′
+  pub sorted-tables : (w′ : List ℕ) → w′ ≡ cond (fitting 0 n n (2 * n) (length w)) (arranged (Spelled n) letters 0 n n (2 * n) w) w → DigestsSorted bounds letters bytes n w′
   sorted-tables w′ e =
       let f = order-fitting 0 n n (2 * n) (length w) (omega arith) (omega arith) (omega arith) (omega arith) in
       let is : w′ ≡ arranged (Spelled n) letters 0 n n (2 * n) w = e ∙ rw f in
-      subst (Sorted bounds letters bytes n) (sym is) (record {
+      subst (DigestsSorted bounds letters bytes n) (sym is) (record {
         ready = record { whole = g .whole; few = g .few; fits = omega (arith, long); numbers = below };
         runs =
             ap₂ (λ (k s : List ℕ). map (map (digestAt bytes)) (runsOf (leBy (Spelled n) letters k) s)) keys sorts

@@ -11,14 +11,14 @@ ghost use Prim.Native.Nat.{_*_, _/_, _≤_, min};
 ghost use lib.Dec.{leb};
 ghost use lib.ListN.{length};
 ghost use Rattle.records.specs.Outcome.{outcome};
-ghost use Rattle.digest_groups_spec.specs.DigestGroups.{digestsIn, gathered, grouped};
-ghost use Rattle.digest_groups_words.specs.Tables.{Good};
-ghost use Rattle.digest_groups_runs.specs.Turns.{Sorted};
+ghost use Rattle.digest_groups_spec.specs.DigestGroups.{digestsIn, gathered, digestsGrouped};
+ghost use Rattle.digest_groups_words.specs.Tables.{GoodDigests};
+ghost use Rattle.digest_groups_runs.specs.Turns.{DigestsSorted};
 
 // Sorts the numbers of n digests by position, decoy and letters.
 fn arrange(letters: &[u8], bounds: &[u32], digests: &[u8], w: &mut [u32], n: usize)
-    requires { ⌜ Good (now bounds) (now letters) (now digests) n × (5 * n ≤ length (now w)) ⌝ }
-    ensures { λ _. ⌜ Sorted (now (bounds .entry)) (now (letters .entry)) (now (digests .entry)) n (now (w .exit)) ⌝ }
+    requires { ⌜ GoodDigests (now bounds) (now letters) (now digests) n × (5 * n ≤ length (now w)) ⌝ }
+    ensures { λ _. ⌜ DigestsSorted (now (bounds .entry)) (now (letters .entry)) (now (digests .entry)) n (now (w .exit)) ⌝ }
 {
     let all = n as u32;
     spell_all(letters, bounds, digests, w, n);
@@ -49,8 +49,8 @@ pub fn gather(
     groups: &mut [u8],
     proteins: &mut [u32],
 ) -> Counted
-    requires { ⌜ Good (now bounds) (now letters) (now digests) (length (now digests) / 16) × (5 * (length (now digests) / 16) ≤ length (now w)) ⌝ }
-    ensures { λ r. ⌜ outcome r (now (w .exit) ∷ now (groups .exit) ∷ now (proteins .exit) ∷ []) ≡ grouped (now (names .entry)) (gathered (now (bounds .entry)) (now (letters .entry)) (digestsIn (now (digests .entry)))) (now (w .entry)) (now (groups .entry)) (now (proteins .entry)) ⌝ }
+    requires { ⌜ GoodDigests (now bounds) (now letters) (now digests) (length (now digests) / 16) × (5 * (length (now digests) / 16) ≤ length (now w)) ⌝ }
+    ensures { λ r. ⌜ outcome r (now (w .exit) ∷ now (groups .exit) ∷ now (proteins .exit) ∷ []) ≡ digestsGrouped (now (names .entry)) (gathered (now (bounds .entry)) (now (letters .entry)) (digestsIn (now (digests .entry)))) (now (w .entry)) (now (groups .entry)) (now (proteins .entry)) ⌝ }
 {
     let n = digests.len() / 16;
     let free = groups.len();

@@ -13,10 +13,11 @@ use Rattle.lists.specs.Tests.{below?, same?}
 use Rattle.letters.specs.Reversal.{lettersOf}
 use Rattle.letters.specs.ReversalLaws.{length-letters, letter-inner, letter-outer}
 use Rattle.digest_groups_words.specs.declared.spelling.Spelling.{Spelling}
-use Rattle.digest_groups_spec.specs.DigestGroups.{digestAt, start, end, position, decoy, protein, lettersIn}
+use Rattle.enzyme_keep.specs.Digests.{startOf, endOf, positionIn, decoyIn, proteinIn}
+use Rattle.digest_groups_spec.specs.DigestGroups.{digestAt, lettersIn}
 use Rattle.digest_groups_words.specs.Word.{packed}
 use Rattle.digest_groups_words.specs.WordLaws.{Spelt}
-use Rattle.digest_groups_words.specs.Tables.{Book, Tables, spellingOf}
+use Rattle.digest_groups_words.specs.Tables.{BookLetters, DigestTables, digestSpelling}
 
 -- ---- letters are letters, wherever they are taken from
 
@@ -43,15 +44,15 @@ each-letters b part h i l =
     go true e k = rw (letter-inner b part i e) (h (length part - 1 - i) (omega arith))
     go false e k = rw (letter-outer b part i k e) (h i k)
 
-pub spelt-range : (b : Bool) (n f : ℕ) (letters : List ℕ) → Book letters → Spelt (lettersOf b (take n (drop f letters)))
+pub spelt-range : (b : Bool) (n f : ℕ) (letters : List ℕ) → BookLetters letters → Spelt (lettersOf b (take n (drop f letters)))
 spelt-range b n f letters book = each-spelt (lettersOf b (take n (drop f letters))) (each-letters b (take n (drop f letters)) (each-part n f letters (book .spelt)))
 
-pub spelt-letters : (bounds letters d : List ℕ) → Book letters → Spelt (lettersIn bounds letters d)
-spelt-letters bounds letters d book = spelt-range (eqb (decoy d) 1) (end d - start d) (getD bounds (protein d) 0 + start d) letters book
+pub spelt-letters : (bounds letters d : List ℕ) → BookLetters letters → Spelt (lettersIn bounds letters d)
+spelt-letters bounds letters d book = spelt-range (eqb (decoyIn d) 1) (endOf d - startOf d) (getD bounds (proteinIn d) 0 + startOf d) letters book
 
 -- ---- the tables grow
 
-pub tables-none : (bounds letters bytes : List ℕ) (n : ℕ) (w : List ℕ) → Tables bounds letters bytes n 0 w
+pub tables-none : (bounds letters bytes : List ℕ) (n : ℕ) (w : List ℕ) → DigestTables bounds letters bytes n 0 w
 tables-none bounds letters bytes n w = record {
   order = λ x h. absurd (omega arith);
   words = λ x h. absurd (omega arith);
@@ -71,9 +72,6 @@ module _ (w : List ℕ) (a b c d : ℕ) (p q r s : ℕ) (ab : a < b) (bc : b < c
 
   l₃ : length (set (set (set w a p) b q) c r) ≡ length w
   l₃ = length-set (set (set w a p) b q) c r ∙ l₂
-
-  pub four-length : length four ≡ length w
-  four-length = length-set (set (set (set w a p) b q) c r) d s ∙ l₃
 
   past-d : (x : ℕ) → (x ≡ d → ⊥) → getD four x 0 ≡ getD (set (set (set w a p) b q) c r) x 0
   past-d x h = getD-set-other (set (set (set w a p) b q) c r) d x s 0 h
@@ -99,38 +97,35 @@ module _ (w : List ℕ) (a b c d : ℕ) (p q r s : ℕ) (ab : a < b) (bc : b < c
   pub at-other : (x : ℕ) → (x ≡ a → ⊥) → (x ≡ b → ⊥) → (x ≡ c → ⊥) → (x ≡ d → ⊥) → getD four x 0 ≡ getD w x 0
   at-other x ha hb hc hd = past-d x hd ∙ past-c x hc ∙ past-b x hb ∙ getD-set-other w a x p 0 ha
 
-module _ (bounds letters bytes : List ℕ) (n i : ℕ) (w : List ℕ) (h : i < n) (l : 5 * n ≤ length w) (t : Tables bounds letters bytes n i w) where
+module _ (bounds letters bytes : List ℕ) (n i : ℕ) (w : List ℕ) (h : i < n) (l : 5 * n ≤ length w) (t : DigestTables bounds letters bytes n i w) where
   abbrev new : List ℕ
   new =
-      set (set (set (set w i i) (2 * n + i) (spellingOf bounds letters (digestAt bytes i) .word)) (3 * n + i) (spellingOf bounds letters (digestAt bytes i) .from))
-      (4 * n + i) (spellingOf bounds letters (digestAt bytes i) .size)
+      set (set (set (set w i i) (2 * n + i) (digestSpelling bounds letters (digestAt bytes i) .word)) (3 * n + i) (digestSpelling bounds letters (digestAt bytes i) .from))
+      (4 * n + i) (digestSpelling bounds letters (digestAt bytes i) .size)
 
   abbrev s : Spelling
-  s = spellingOf bounds letters (digestAt bytes i)
+  s = digestSpelling bounds letters (digestAt bytes i)
 
   old : (x : ℕ) → (x ≡ i → ⊥) → (x ≡ 2 * n + i → ⊥) → (x ≡ 3 * n + i → ⊥) → (x ≡ 4 * n + i → ⊥) → getD new x 0 ≡ getD w x 0
   old = at-other w i (2 * n + i) (3 * n + i) (4 * n + i) i (s .word) (s .from) (s .size) (omega arith) (omega arith) (omega arith) (omega arith)
 
-  pub tables-more : Tables bounds letters bytes n (i + 1) new
+  pub tables-more : DigestTables bounds letters bytes n (i + 1) new
   tables-more = record {
     order = λ x k. ⊎-elim (λ (e : x ≡ i). rw e (at-a w i (2 * n + i) (3 * n + i) (4 * n + i) i (s .word) (s .from) (s .size) (omega arith) (omega arith) (omega arith) (omega arith)))
-        (λ (e : x ≡ i → ⊥). old x e (λ z. omega arith) (λ z. omega arith) (λ z. omega arith) ∙ t .order x (earlier x k e)) (same? x i);
+        (λ (e : x ≡ i → ⊥). old x e (λ z. omega arith) (λ z. omega arith) (λ z. omega arith) ∙ t .order x (omega (arith, e))) (same? x i);
     words = λ x k. ⊎-elim (λ (e : x ≡ i). rw e (at-b w i (2 * n + i) (3 * n + i) (4 * n + i) i (s .word) (s .from) (s .size) (omega arith) (omega arith) (omega arith) (omega arith)))
-        (λ (e : x ≡ i → ⊥). old (2 * n + x) (λ z. omega arith) (λ z. e (omega arith)) (λ z. omega arith) (λ z. omega arith) ∙ t .words x (earlier x k e)) (same? x i);
+        (λ (e : x ≡ i → ⊥). old (2 * n + x) (λ z. omega arith) (λ z. e (omega arith)) (λ z. omega arith) (λ z. omega arith) ∙ t .words x (omega (arith, e))) (same? x i);
     froms = λ x k. ⊎-elim (λ (e : x ≡ i). rw e (at-c w i (2 * n + i) (3 * n + i) (4 * n + i) i (s .word) (s .from) (s .size) (omega arith) (omega arith) (omega arith) (omega arith)))
-        (λ (e : x ≡ i → ⊥). old (3 * n + x) (λ z. omega arith) (λ z. omega arith) (λ z. e (omega arith)) (λ z. omega arith) ∙ t .froms x (earlier x k e)) (same? x i);
+        (λ (e : x ≡ i → ⊥). old (3 * n + x) (λ z. omega arith) (λ z. omega arith) (λ z. e (omega arith)) (λ z. omega arith) ∙ t .froms x (omega (arith, e))) (same? x i);
     sizes = λ x k. ⊎-elim (λ (e : x ≡ i). rw e (at-d w i (2 * n + i) (3 * n + i) (4 * n + i) i (s .word) (s .from) (s .size) (omega arith) (omega arith) (omega arith) (omega arith)))
-        (λ (e : x ≡ i → ⊥). old (4 * n + x) (λ z. omega arith) (λ z. omega arith) (λ z. omega arith) (λ z. e (omega arith)) ∙ t .sizes x (earlier x k e)) (same? x i);
+        (λ (e : x ≡ i → ⊥). old (4 * n + x) (λ z. omega arith) (λ z. omega arith) (λ z. omega arith) (λ z. e (omega arith)) ∙ t .sizes x (omega (arith, e))) (same? x i);
   }
-    where
-      earlier : (x : ℕ) → x < i + 1 → (x ≡ i → ⊥) → x < i
-      earlier x k e = ⊎-elim (λ (z : x < i). z) (λ (z : i ≤ x). absurd (e (omega arith))) (below? x i)
 
 -- ---- what is read of a digest is what it is sorted by
 
-pub spelling-is : (bounds letters d : List ℕ) (st en de pr po from f w z : ℕ) → st ≡ start d → en ≡ end d → de ≡ decoy d → pr ≡ protein d → po ≡ position d
+pub spelling-is : (bounds letters d : List ℕ) (st en de pr po from f w z : ℕ) → st ≡ startOf d → en ≡ endOf d → de ≡ decoyIn d → pr ≡ proteinIn d → po ≡ positionIn d
     → from ≡ getD bounds pr 0 + st → f ≡ po * 2 + de → w ≡ packed f 6 (lettersOf (eqb de 1) (take (from + (en - st) - from) (drop from letters))) → z ≡ 2 * (en - st) + de
-    → _≡_ {A = Spelling} (record { word = w; from = from; size = z }) (spellingOf bounds letters d)
+    → _≡_ {A = Spelling} (record { word = w; from = from; size = z }) (digestSpelling bounds letters d)
 spelling-is bounds letters d st en de pr po from f w z a b c e g h i j k =
     let n : from + (en - st) - from ≡ en - st = omega arith in
     let m : w ≡ packed f 6 (lettersOf (eqb de 1) (take (en - st) (drop from letters))) = rw n at j in

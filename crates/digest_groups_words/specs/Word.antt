@@ -9,5 +9,5 @@ packed h zero xs = h
 packed h (suc k) [] = packed (h * 27) k []
 packed h (suc k) (x ∷ xs) = packed (h * 27 + (x - 64)) k xs
 
-abbrev pub wordOf : ℕ → ℕ → List ℕ → ℕ
-wordOf position decoy xs = packed (position * 2 + decoy) 6 xs
+abbrev pub digestWord : ℕ → ℕ → List ℕ → ℕ
+digestWord position decoy xs = packed (position * 2 + decoy) 6 xs

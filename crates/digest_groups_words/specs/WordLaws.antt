@@ -11,7 +11,7 @@ use lib.Seq.{drop-cons}
 use Rattle.lists.specs.Tests.{below?}
 use Rattle.sorting_spec.specs.Lex.{lexLe}
 use Rattle.sorting_spec.specs.LexLaws.{lex-lt, lex-gt, lex-eq}
-use Rattle.digest_groups_words.specs.Word.{packed, wordOf}
+use Rattle.digest_groups_words.specs.Word.{packed, digestWord}
 
 -- each is a letter, A to Z
 abbrev pub Spelt : List ℕ → Type 0
@@ -19,25 +19,25 @@ Spelt [] = Unit {0}
 Spelt (x ∷ xs) = (65 ≤ x) × (x ≤ 90) × Spelt xs
 
 -- what stands in front decides
-pub front : (k h j : ℕ) (xs ys : List ℕ) → Spelt xs → Spelt ys → h < j → packed h k xs < packed j k ys
-front zero h j xs ys p q l = l
-front (suc k) h j [] [] p q l = front k (h * 27) (j * 27) [] [] tt tt (omega arith)
-front (suc k) h j [] (y ∷ ys) p q l = front k (h * 27) (j * 27 + (y - 64)) [] ys tt (q .2) (omega arith)
-front (suc k) h j (x ∷ xs) [] p q l = front k (h * 27 + (x - 64)) (j * 27) xs [] (p .2) tt (let a : x ≤ 90 = p .1 in omega arith)
-front (suc k) h j (x ∷ xs) (y ∷ ys) p q l =
-    front k (h * 27 + (x - 64)) (j * 27 + (y - 64)) xs ys (p .2) (q .2) (let a : x ≤ 90 = p .1 in omega arith)
+front-decides : (k h j : ℕ) (xs ys : List ℕ) → Spelt xs → Spelt ys → h < j → packed h k xs < packed j k ys
+front-decides zero h j xs ys p q l = l
+front-decides (suc k) h j [] [] p q l = front-decides k (h * 27) (j * 27) [] [] tt tt (omega arith)
+front-decides (suc k) h j [] (y ∷ ys) p q l = front-decides k (h * 27) (j * 27 + (y - 64)) [] ys tt (q .2) (omega arith)
+front-decides (suc k) h j (x ∷ xs) [] p q l = front-decides k (h * 27 + (x - 64)) (j * 27) xs [] (p .2) tt (let a : x ≤ 90 = p .1 in omega arith)
+front-decides (suc k) h j (x ∷ xs) (y ∷ ys) p q l =
+    front-decides k (h * 27 + (x - 64)) (j * 27 + (y - 64)) xs ys (p .2) (q .2) (let a : x ≤ 90 = p .1 in omega arith)
 
 -- behind the same front, letters whose word is less stand before
-pub ordered : (k h : ℕ) (xs ys : List ℕ) → Spelt xs → Spelt ys → packed h k xs < packed h k ys
+words-ordered : (k h : ℕ) (xs ys : List ℕ) → Spelt xs → Spelt ys → packed h k xs < packed h k ys
     → (lexLe xs ys ≡ true) × (lexLe ys xs ≡ false)
-ordered zero h xs ys p q l = absurd (omega arith)
-ordered (suc k) h [] [] p q l = absurd (omega arith)
-ordered (suc k) h [] (y ∷ ys) p q l = (refl, refl)
-ordered (suc k) h (x ∷ xs) [] p q l =
+words-ordered zero h xs ys p q l = absurd (omega arith)
+words-ordered (suc k) h [] [] p q l = absurd (omega arith)
+words-ordered (suc k) h [] (y ∷ ys) p q l = (refl, refl)
+words-ordered (suc k) h (x ∷ xs) [] p q l =
     let a : 65 ≤ x = p .0 in
-    let f : packed (h * 27) k [] < packed (h * 27 + (x - 64)) k xs = front k (h * 27) (h * 27 + (x - 64)) [] xs tt (p .2) (omega arith) in
+    let f : packed (h * 27) k [] < packed (h * 27 + (x - 64)) k xs = front-decides k (h * 27) (h * 27 + (x - 64)) [] xs tt (p .2) (omega arith) in
     absurd (omega arith)
-ordered (suc k) h (x ∷ xs) (y ∷ ys) p q l = ⊎-elim less (λ (g : y ≤ x). ⊎-elim more (equal g (ordered k (h * 27 + (x - 64)) xs ys (p .2) (q .2))) (below? y x)) (below? x y)
+words-ordered (suc k) h (x ∷ xs) (y ∷ ys) p q l = ⊎-elim less (λ (g : y ≤ x). ⊎-elim more (equal g (words-ordered k (h * 27 + (x - 64)) xs ys (p .2) (q .2))) (below? y x)) (below? x y)
   where
     less : x < y → (lexLe (x ∷ xs) (y ∷ ys) ≡ true) × (lexLe (y ∷ ys) (x ∷ xs) ≡ false)
     less g = (lex-lt x y xs ys g, lex-gt y x ys xs g)
@@ -45,7 +45,7 @@ ordered (suc k) h (x ∷ xs) (y ∷ ys) p q l = ⊎-elim less (λ (g : y ≤ x).
     more : y < x → (lexLe (x ∷ xs) (y ∷ ys) ≡ true) × (lexLe (y ∷ ys) (x ∷ xs) ≡ false)
     more g =
         let a : 65 ≤ y = q .0 in
-        let f : packed (h * 27 + (y - 64)) k ys < packed (h * 27 + (x - 64)) k xs = front k (h * 27 + (y - 64)) (h * 27 + (x - 64)) ys xs (q .2) (p .2) (omega arith) in
+        let f : packed (h * 27 + (y - 64)) k ys < packed (h * 27 + (x - 64)) k xs = front-decides k (h * 27 + (y - 64)) (h * 27 + (x - 64)) ys xs (q .2) (p .2) (omega arith) in
         absurd (omega arith)
 
     equal : y ≤ x → (packed (h * 27 + (x - 64)) k xs < packed (h * 27 + (x - 64)) k ys → (lexLe xs ys ≡ true) × (lexLe ys xs ≡ false))
@@ -81,7 +81,7 @@ six xs h a b c d e f p q r s t u =
 -- a word has 32 bits
 pub word-small : (h : ℕ) (xs : List ℕ) → Spelt xs → h ≤ 7 → packed h 6 xs < 4294967296
 word-small h xs p l =
-    let a : packed h 6 xs < packed 8 6 [] = front 6 h 8 xs [] p tt (omega arith) in
+    let a : packed h 6 xs < packed 8 6 [] = front-decides 6 h 8 xs [] p tt (omega arith) in
     let b : packed 8 6 [] ≡ 3099363912 = refl in
     omega arith
 
@@ -103,31 +103,31 @@ module _ (a b c d : ℕ) (xs ys : List ℕ) (p : Spelt xs) (q : Spelt ys) (m : b
       level : a * 2 + b ≡ c * 2 + d → lexLe (a ∷ b ∷ xs) (c ∷ d ∷ ys) ≡ lexLe xs ys
       level e = lex-eq a c (b ∷ xs) (d ∷ ys) (omega arith) ∙ lex-eq b d xs ys (omega arith)
 
-  pub word-key : lexLe (wordOf a b xs ∷ xs) (wordOf c d ys ∷ ys) ≡ lexLe (a ∷ b ∷ xs) (c ∷ d ∷ ys)
+  pub word-key : lexLe (digestWord a b xs ∷ xs) (digestWord c d ys ∷ ys) ≡ lexLe (a ∷ b ∷ xs) (c ∷ d ∷ ys)
   word-key = ⊎-elim fronts (λ (g : c * 2 + d ≤ a * 2 + b). ⊎-elim backs (levels g) (below? (c * 2 + d) (a * 2 + b))) (below? (a * 2 + b) (c * 2 + d))
     where
-      fronts : a * 2 + b < c * 2 + d → lexLe (wordOf a b xs ∷ xs) (wordOf c d ys ∷ ys) ≡ lexLe (a ∷ b ∷ xs) (c ∷ d ∷ ys)
-      fronts l = lex-lt (wordOf a b xs) (wordOf c d ys) xs ys (front 6 (a * 2 + b) (c * 2 + d) xs ys p q l) ∙ sym (keyed .0 l)
+      fronts : a * 2 + b < c * 2 + d → lexLe (digestWord a b xs ∷ xs) (digestWord c d ys ∷ ys) ≡ lexLe (a ∷ b ∷ xs) (c ∷ d ∷ ys)
+      fronts l = lex-lt (digestWord a b xs) (digestWord c d ys) xs ys (front-decides 6 (a * 2 + b) (c * 2 + d) xs ys p q l) ∙ sym (keyed .0 l)
 
-      backs : c * 2 + d < a * 2 + b → lexLe (wordOf a b xs ∷ xs) (wordOf c d ys ∷ ys) ≡ lexLe (a ∷ b ∷ xs) (c ∷ d ∷ ys)
-      backs l = lex-gt (wordOf a b xs) (wordOf c d ys) xs ys (front 6 (c * 2 + d) (a * 2 + b) ys xs q p l) ∙ sym (keyed .1 l)
+      backs : c * 2 + d < a * 2 + b → lexLe (digestWord a b xs ∷ xs) (digestWord c d ys ∷ ys) ≡ lexLe (a ∷ b ∷ xs) (c ∷ d ∷ ys)
+      backs l = lex-gt (digestWord a b xs) (digestWord c d ys) xs ys (front-decides 6 (c * 2 + d) (a * 2 + b) ys xs q p l) ∙ sym (keyed .1 l)
 
-      levels : c * 2 + d ≤ a * 2 + b → a * 2 + b ≤ c * 2 + d → lexLe (wordOf a b xs ∷ xs) (wordOf c d ys ∷ ys) ≡ lexLe (a ∷ b ∷ xs) (c ∷ d ∷ ys)
+      levels : c * 2 + d ≤ a * 2 + b → a * 2 + b ≤ c * 2 + d → lexLe (digestWord a b xs ∷ xs) (digestWord c d ys ∷ ys) ≡ lexLe (a ∷ b ∷ xs) (c ∷ d ∷ ys)
       levels g f =
           let e : a * 2 + b ≡ c * 2 + d = omega arith in
-          let v : wordOf c d ys ≡ packed (a * 2 + b) 6 ys = ap (λ (h : ℕ). packed h 6 ys) (sym e) in
+          let v : digestWord c d ys ≡ packed (a * 2 + b) 6 ys = ap (λ (h : ℕ). packed h 6 ys) (sym e) in
           ⊎-elim (λ (l : packed (a * 2 + b) 6 xs < packed (a * 2 + b) 6 ys). less e v l)
           (λ (l : packed (a * 2 + b) 6 ys ≤ packed (a * 2 + b) 6 xs). ⊎-elim (more e v) (equal e v l) (below? (packed (a * 2 + b) 6 ys) (packed (a * 2 + b) 6 xs)))
           (below? (packed (a * 2 + b) 6 xs) (packed (a * 2 + b) 6 ys))
         where
-          less : a * 2 + b ≡ c * 2 + d → wordOf c d ys ≡ packed (a * 2 + b) 6 ys → packed (a * 2 + b) 6 xs < packed (a * 2 + b) 6 ys
-              → lexLe (wordOf a b xs ∷ xs) (wordOf c d ys ∷ ys) ≡ lexLe (a ∷ b ∷ xs) (c ∷ d ∷ ys)
-          less e v l = lex-lt (wordOf a b xs) (wordOf c d ys) xs ys (omega arith) ∙ sym (keyed .2 e ∙ ordered 6 (a * 2 + b) xs ys p q l .0)
+          less : a * 2 + b ≡ c * 2 + d → digestWord c d ys ≡ packed (a * 2 + b) 6 ys → packed (a * 2 + b) 6 xs < packed (a * 2 + b) 6 ys
+              → lexLe (digestWord a b xs ∷ xs) (digestWord c d ys ∷ ys) ≡ lexLe (a ∷ b ∷ xs) (c ∷ d ∷ ys)
+          less e v l = lex-lt (digestWord a b xs) (digestWord c d ys) xs ys (omega arith) ∙ sym (keyed .2 e ∙ words-ordered 6 (a * 2 + b) xs ys p q l .0)
 
-          more : a * 2 + b ≡ c * 2 + d → wordOf c d ys ≡ packed (a * 2 + b) 6 ys → packed (a * 2 + b) 6 ys < packed (a * 2 + b) 6 xs
-              → lexLe (wordOf a b xs ∷ xs) (wordOf c d ys ∷ ys) ≡ lexLe (a ∷ b ∷ xs) (c ∷ d ∷ ys)
-          more e v l = lex-gt (wordOf a b xs) (wordOf c d ys) xs ys (omega arith) ∙ sym (keyed .2 e ∙ ordered 6 (a * 2 + b) ys xs q p l .1)
+          more : a * 2 + b ≡ c * 2 + d → digestWord c d ys ≡ packed (a * 2 + b) 6 ys → packed (a * 2 + b) 6 ys < packed (a * 2 + b) 6 xs
+              → lexLe (digestWord a b xs ∷ xs) (digestWord c d ys ∷ ys) ≡ lexLe (a ∷ b ∷ xs) (c ∷ d ∷ ys)
+          more e v l = lex-gt (digestWord a b xs) (digestWord c d ys) xs ys (omega arith) ∙ sym (keyed .2 e ∙ words-ordered 6 (a * 2 + b) ys xs q p l .1)
 
-          equal : a * 2 + b ≡ c * 2 + d → wordOf c d ys ≡ packed (a * 2 + b) 6 ys → packed (a * 2 + b) 6 ys ≤ packed (a * 2 + b) 6 xs
-              → packed (a * 2 + b) 6 xs ≤ packed (a * 2 + b) 6 ys → lexLe (wordOf a b xs ∷ xs) (wordOf c d ys ∷ ys) ≡ lexLe (a ∷ b ∷ xs) (c ∷ d ∷ ys)
-          equal e v l o = lex-eq (wordOf a b xs) (wordOf c d ys) xs ys (omega arith) ∙ sym (keyed .2 e)
+          equal : a * 2 + b ≡ c * 2 + d → digestWord c d ys ≡ packed (a * 2 + b) 6 ys → packed (a * 2 + b) 6 ys ≤ packed (a * 2 + b) 6 xs
+              → packed (a * 2 + b) 6 xs ≤ packed (a * 2 + b) 6 ys → lexLe (digestWord a b xs ∷ xs) (digestWord c d ys ∷ ys) ≡ lexLe (a ∷ b ∷ xs) (c ∷ d ∷ ys)
+          equal e v l o = lex-eq (digestWord a b xs) (digestWord c d ys) xs ys (omega arith) ∙ sym (keyed .2 e)

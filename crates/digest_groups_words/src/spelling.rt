@@ -4,7 +4,7 @@ use crate::words::word;
 ghost use mathlib.Core.Path.{_≡_};
 ghost use Prim.Native.Nat.{_+_, _-_, _*_, _≤_, _<_};
 ghost use lib.ListN.{length, getD, set};
-ghost use Rattle.digest_groups_words.specs.Tables.{Good, Inside, spellingOf, Tables};
+ghost use Rattle.digest_groups_words.specs.Tables.{GoodDigests, DigestInside, digestSpelling, DigestTables};
 
 // A digest's word, where its letters begin in the book, and twice how many they are with its decoy flag.
 pub struct Spelling {
@@ -36,8 +36,8 @@ fn size(start: u32, end: u32, decoy: u8) -> u32
 
 // What a digest's 16 bytes are sorted by.
 fn spelled(letters: &[u8], bounds: &[u32], digest: &[u8]) -> Spelling
-    requires { ⌜ Inside (now bounds) (now letters) (now digest) ⌝ }
-    ensures { λ r. ⌜ r ≡ spellingOf (now (bounds .entry)) (now (letters .entry)) (now (digest .entry)) ⌝ }
+    requires { ⌜ DigestInside (now bounds) (now letters) (now digest) ⌝ }
+    ensures { λ r. ⌜ r ≡ digestSpelling (now (bounds .entry)) (now (letters .entry)) (now (digest .entry)) ⌝ }
 {
     let start = records::u32_at(digest, 0);
     let end = records::u32_at(digest, 4);
@@ -68,8 +68,8 @@ fn put_spelling(w: &mut [u32], n: usize, i: usize, s: Spelling)
 
 // Writes the tables of all n digests.
 pub fn spell_all(letters: &[u8], bounds: &[u32], digests: &[u8], w: &mut [u32], n: usize)
-    requires { ⌜ Good (now bounds) (now letters) (now digests) n × (5 * n ≤ length (now w)) ⌝ }
-    ensures { λ _. ⌜ Tables (now (bounds .entry)) (now (letters .entry)) (now (digests .entry)) n n (now (w .exit)) ⌝ }
+    requires { ⌜ GoodDigests (now bounds) (now letters) (now digests) n × (5 * n ≤ length (now w)) ⌝ }
+    ensures { λ _. ⌜ DigestTables (now (bounds .entry)) (now (letters .entry)) (now (digests .entry)) n n (now (w .exit)) ⌝ }
 {
     let mut i = 0;
     while i < n {

@@ -8,6 +8,7 @@ use native.Mathlib.Omega.{arith}
 use lib.ListN.{length, getD, replicate, length-replicate, getD-replicate, List·getD-eq-default}
 use lib.Dec.{leb, eqb}
 use borrow.Author.Tests.{leb-true, not-true}
+use Rattle.lists.specs.FrameLaws.{zeros-at}
 use Rattle.report_lines_tests.specs.Testing.{contents, tested}
 use Rattle.catalogue_repeats.specs.Repeating.{cleared}
 use Rattle.catalogue_names.specs.NamesInLaws.{names-in}
@@ -27,7 +28,7 @@ use Rattle.report_lines_select.specs.Laying.{Given}
 use Rattle.report_lines_write.specs.Laid.{lineIn, countIn}
 use Rattle.report_lines_write.specs.LineLaws.{Tag, line-is, count-is}
 use Rattle.report_lines_spec.specs.Line.{lineText, lineCount}
-use Rattle.report_lines_tests.specs.TestingLaws.{fair-sizes, fair-names, even-names, Good, Fair, roomy, roomy-tested}
+use Rattle.report_lines_tests.specs.TestingLaws.{fair-sizes, line-few-names, line-whole-names, GoodLine, Fair, notRoom, not-room-tested}
 use Rattle.report_lines.specs.declared.reporting.Report.{Report}
 use Rattle.report_lines.specs.declared.reporting.Reported.{Reported}
 use Rattle.report_lines.specs.declared.reporting.Reported.the-variants.{Line, Refused as No}
@@ -40,12 +41,8 @@ abbrev pub lineTold : List ℕ → List ℕ → List ℕ → List ℕ → Bool �
 lineTold names members marks list decoy tag generated out =
     unlessRefused (contents names members marks list tag) No (out ∷ []) (lineLined names members marks list decoy tag generated out)
 
-pub told-fair : (names members marks list : List ℕ) (decoy : Bool) (tag : List ℕ) (generated : Bool) (out : List ℕ) → Fair names members marks list
-    → lineTold names members marks list decoy tag generated out ≡ lineOutcome names members marks list decoy tag generated out
-told-fair names members marks list decoy tag generated out f = rw (f .small, f .even)
-
 -- a table of zeros with areas of c numbers, each large enough
-pub record Table (names members marks w : List ℕ) (c : ℕ) : Type 0 where
+pub record LineTable (names members marks w : List ℕ) (c : ℕ) : Type 0 where
   pub few-names : nameCount names ≤ c
   pub few-members : length members / 12 ≤ c
   pub few-marks : length marks ≤ c
@@ -61,8 +58,8 @@ pub record Fitting (names members marks list : List ℕ) (c : ℕ) : Type 0 wher
   pub few-marks : length marks ≤ c
 
 module _ {names members marks list : List ℕ} (f : Fair names members marks list) where
-  pub fitting : (c : ℕ) → (leb (nameCount names) c && leb (length members / 12) c && leb (length marks) c) ≡ true → Fitting names members marks list c
-  fitting c e =
+  pub fitting-of : (c : ℕ) → (leb (nameCount names) c && leb (length members / 12) c && leb (length marks) c) ≡ true → Fitting names members marks list c
+  fitting-of c e =
       let x = both (leb (nameCount names) c && leb (length members / 12) c) (leb (length marks) c) e in
       let y = both (leb (nameCount names) c) (leb (length members / 12) c) (x .0) in
       record { fair = f; few-names = leb-true _ c (y .0); few-members = leb-true _ c (y .1); few-marks = leb-true _ c (x .1) }
@@ -71,12 +68,9 @@ module _ {names members marks list : List ℕ} (f : Fair names members marks lis
   pub fitting-most : Fitting names members marks list 131072
   fitting-most = let s = fair-sizes f in record { fair = f; few-names = omega (arith, s .few-names); few-members = s .few-members; few-marks = s .few-marks }
 
-zeros-at : (n i : ℕ) → _≡_ {A = ℕ} (getD (replicate n 0) i 0) 0
-zeros-at n i = ⊎-elim (λ (h : i < n). getD-replicate n i 0 0 h) (λ (h : n ≤ i). List·getD-eq-default (replicate n 0) 0 {n = i} (omega (arith, length-replicate {A = ℕ} n 0))) (below? i n)
-
 -- a table of the call's own: n zeros are enough for lists that fit c
 pub own-table : {names members marks list : List ℕ} (c n : ℕ) → Fitting names members marks list c → c ≤ 131072 → 3 * c + 18 ≤ n
-    → Fair names members marks list × Table names members marks (replicate n 0) c
+    → Fair names members marks list × LineTable names members marks (replicate n 0) c
 own-table c n f h k = (
   f .fair,
   record {
@@ -90,11 +84,11 @@ own-table c n f h k = (
 )
 
 -- the names are tested in it, and it is zero again
-pub names-told : (names members marks list w : List ℕ) (c : ℕ) → Fair names members marks list → Table names members marks w c → (r : Tested) (t : List ℕ)
+pub names-told : {names members marks list w : List ℕ} {c : ℕ} → Fair names members marks list → LineTable names members marks w c → {r : Tested} {t : List ℕ}
     → outcome r (t ∷ []) ≡ namesOutcome names w → (r ≡ namesTested names) × (t ≡ cleared (nameCount names) w)
-names-told names members marks list w c f b r t e =
+names-told {names} {members} {marks} {list} {w} f b {r} {t} e =
     only-one r (namesTested names) t (cleared (nameCount names) w)
-    (e ∙ names-in names w (fair-names names members marks list (f .small)) (even-names names members (f .even)) (omega (arith, b .few-names, b .long)))
+    (e ∙ names-in names w (line-few-names names members marks list (f .small)) (line-whole-names names members (f .even)) (omega (arith, b .few-names, b .long)))
   where
     head : List (List ℕ) → List ℕ
     head [] = []
@@ -103,12 +97,12 @@ names-told names members marks list w c f b r t e =
     only-one : (r q : Tested) (t u : List ℕ) → outcome r (t ∷ []) ≡ outcome q (u ∷ []) → (r ≡ q) × (t ≡ u)
     only-one r q t u g = (ap (λ (o : Outcome Tested). o .answer) g, ap (λ (o : Outcome Tested). head (o .lent)) g)
 
-module _ (names members marks list tag : List ℕ) (good : Good names members marks list tag) where
+module _ {names members marks list tag : List ℕ} (good : GoodLine names members marks list tag) where
   pub good-tag : Tag tag
   good-tag = record { short = good .short; shown = good .shown }
 
-  pub good-given : (w t : List ℕ) (c : ℕ) → Table names members marks w c → t ≡ cleared (nameCount names) w → Given members marks list tag t c
-  good-given w t c b e = record {
+  pub good-given : {w t : List ℕ} {c : ℕ} → LineTable names members marks w c → t ≡ cleared (nameCount names) w → Given members marks list tag t c
+  good-given {w} b e = record {
     small = b .most;
     groups = b .few-marks;
     few = b .few-members;
@@ -139,7 +133,7 @@ testsOf (No why) = cond (eqb (numberOf why) 11) Passed (Refused why)
 
 -- THE LAW
 pub tests-told : (names members marks list tag : List ℕ) (decoy generated : Bool) (out : List ℕ) → testsOf (lineOutcome names members marks list decoy tag generated out .answer) ≡ tested names members marks list tag
-tests-told names members marks list tag decoy generated out = go (tested names members marks list tag) (roomy-tested names members marks list tag)
+tests-told names members marks list tag decoy generated out = go (tested names members marks list tag) (not-room-tested names members marks list tag)
   where
     text : List ℕ
     text = lineText names (membersIn members) marks list decoy tag generated
@@ -148,6 +142,6 @@ tests-told names members marks list tag decoy generated out = go (tested names m
     either true p = refl
     either false p = refl
 
-    go : (t : Tested) → roomy t ≡ true → testsOf (unlessRefused t No (out ∷ []) (lineLined names members marks list decoy tag generated out) .answer) ≡ t
+    go : (t : Tested) → notRoom t ≡ true → testsOf (unlessRefused t No (out ∷ []) (lineLined names members marks list decoy tag generated out) .answer) ≡ t
     go Passed h = either (leb (length text) (length out)) (record { bytes = length text; groups = lineCount names (membersIn members) marks list decoy tag generated })
     go (Refused why) h = let e : eqb (numberOf why) 11 ≡ false = not-true (eqb (numberOf why) 11) h in rw e

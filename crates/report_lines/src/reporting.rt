@@ -17,7 +17,7 @@ ghost use Rattle.records.specs.Outcome.{outcome};
 ghost use Rattle.report_lines_select.specs.Laying.{Given};
 ghost use Rattle.report_lines_write.specs.LineLaws.{Tag};
 ghost use Rattle.report_lines.specs.Reporting.{reportedOf, lineLined, lineOutcome};
-ghost use Rattle.report_lines.specs.ReportingLaws.{lineTold, Table, Fitting, testsOf};
+ghost use Rattle.report_lines.specs.ReportingLaws.{lineTold, LineTable, Fitting, testsOf};
 
 // How many bytes the line has, and how many groups it counts.
 pub struct Report {
@@ -29,6 +29,12 @@ pub struct Report {
 pub enum Reported {
     Line(Report),
     Refused(Refusal),
+}
+
+// Whether the peptide is a decoy, and whether decoys are generated, so that their names take the tag.
+struct Asked {
+    decoy: bool,
+    generated: bool,
 }
 
 // The line's answer, or 11 where it is longer than its room.
@@ -49,17 +55,18 @@ fn line_laid(
     members: &[u8],
     marks: &[u8],
     list: &[u32],
-    decoy: bool,
     tag: &[u8],
-    generated: bool,
+    asked: Asked,
     w: &mut [u32],
     c: usize,
     out: &mut [u8],
 ) -> Reported
     requires { ⌜ Given (now members) (now marks) (now list) (now tag) (now w) c × Tag (now tag) ⌝ }
-    ensures { λ r. ⌜ outcome r (now (out .exit) ∷ []) ≡ lineLined (now (names .entry)) (now (members .entry)) (now (marks .entry)) (now (list .entry)) decoy (now (tag .entry)) generated (now (out .entry)) ⌝ }
+    ensures { λ r. ⌜ outcome r (now (out .exit) ∷ []) ≡ lineLined (now (names .entry)) (now (members .entry)) (now (marks .entry)) (now (list .entry)) (asked .decoy) (now (tag .entry)) (asked .generated) (now (out .entry)) ⌝ }
 {
     let room = out.len();
+    let decoy = asked.decoy;
+    let generated = asked.generated;
     report_lines_select::lay_out(names, members, marks, list, decoy, tag, generated, w, c);
     let line: Line = report_lines_write::line_in(names, w, c, marks.len(), out);
     let bytes = line.bytes;
@@ -73,33 +80,21 @@ fn line_over(
     members: &[u8],
     marks: &[u8],
     list: &[u32],
-    decoy: bool,
     tag: &[u8],
-    generated: bool,
+    asked: Asked,
     w: &mut [u32],
     c: usize,
     out: &mut [u8],
 ) -> Reported
-    requires { ⌜ Fair (now names) (now members) (now marks) (now list) × Table (now names) (now members) (now marks) (now w) c ⌝ }
-    ensures { λ r. ⌜ outcome r (now (out .exit) ∷ []) ≡ lineTold (now (names .entry)) (now (members .entry)) (now (marks .entry)) (now (list .entry)) decoy (now (tag .entry)) generated (now (out .entry)) ⌝ }
+    requires { ⌜ Fair (now names) (now members) (now marks) (now list) × LineTable (now names) (now members) (now marks) (now w) c ⌝ }
+    ensures { λ r. ⌜ outcome r (now (out .exit) ∷ []) ≡ lineTold (now (names .entry)) (now (members .entry)) (now (marks .entry)) (now (list .entry)) (asked .decoy) (now (tag .entry)) (asked .generated) (now (out .entry)) ⌝ }
 {
     let proteins = catalogue_names::name_count(names);
     let named = catalogue_names::names_tested_in(names, w);
     let found = lists_tested(named, members, marks, list, tag, proteins);
     match found {
         Tested::Refused(why) => Reported::Refused(why),
-        Tested::Passed => line_laid(
-            names,
-            members,
-            marks,
-            list,
-            decoy,
-            tag,
-            generated,
-            w,
-            c,
-            out,
-        ),
+        Tested::Passed => line_laid(names, members, marks, list, tag, asked, w, c, out),
     }
 }
 
@@ -109,27 +104,15 @@ fn line_small(
     members: &[u8],
     marks: &[u8],
     list: &[u32],
-    decoy: bool,
     tag: &[u8],
-    generated: bool,
+    asked: Asked,
     out: &mut [u8],
 ) -> Reported
     requires { ⌜ Fitting (now names) (now members) (now marks) (now list) 1024 ⌝ }
-    ensures { λ r. ⌜ outcome r (now (out .exit) ∷ []) ≡ lineTold (now (names .entry)) (now (members .entry)) (now (marks .entry)) (now (list .entry)) decoy (now (tag .entry)) generated (now (out .entry)) ⌝ }
+    ensures { λ r. ⌜ outcome r (now (out .exit) ∷ []) ≡ lineTold (now (names .entry)) (now (members .entry)) (now (marks .entry)) (now (list .entry)) (asked .decoy) (now (tag .entry)) (asked .generated) (now (out .entry)) ⌝ }
 {
     let mut w = [0 as u32; 3090];
-    line_over(
-        names,
-        members,
-        marks,
-        list,
-        decoy,
-        tag,
-        generated,
-        &mut w,
-        1024,
-        out,
-    )
+    line_over(names, members, marks, list, tag, asked, &mut w, 1024, out)
 }
 
 fn line_middle(
@@ -137,27 +120,15 @@ fn line_middle(
     members: &[u8],
     marks: &[u8],
     list: &[u32],
-    decoy: bool,
     tag: &[u8],
-    generated: bool,
+    asked: Asked,
     out: &mut [u8],
 ) -> Reported
     requires { ⌜ Fitting (now names) (now members) (now marks) (now list) 16384 ⌝ }
-    ensures { λ r. ⌜ outcome r (now (out .exit) ∷ []) ≡ lineTold (now (names .entry)) (now (members .entry)) (now (marks .entry)) (now (list .entry)) decoy (now (tag .entry)) generated (now (out .entry)) ⌝ }
+    ensures { λ r. ⌜ outcome r (now (out .exit) ∷ []) ≡ lineTold (now (names .entry)) (now (members .entry)) (now (marks .entry)) (now (list .entry)) (asked .decoy) (now (tag .entry)) (asked .generated) (now (out .entry)) ⌝ }
 {
     let mut w = [0 as u32; 49170];
-    line_over(
-        names,
-        members,
-        marks,
-        list,
-        decoy,
-        tag,
-        generated,
-        &mut w,
-        16384,
-        out,
-    )
+    line_over(names, members, marks, list, tag, asked, &mut w, 16384, out)
 }
 
 fn line_wide(
@@ -165,27 +136,15 @@ fn line_wide(
     members: &[u8],
     marks: &[u8],
     list: &[u32],
-    decoy: bool,
     tag: &[u8],
-    generated: bool,
+    asked: Asked,
     out: &mut [u8],
 ) -> Reported
     requires { ⌜ Fitting (now names) (now members) (now marks) (now list) 65536 ⌝ }
-    ensures { λ r. ⌜ outcome r (now (out .exit) ∷ []) ≡ lineTold (now (names .entry)) (now (members .entry)) (now (marks .entry)) (now (list .entry)) decoy (now (tag .entry)) generated (now (out .entry)) ⌝ }
+    ensures { λ r. ⌜ outcome r (now (out .exit) ∷ []) ≡ lineTold (now (names .entry)) (now (members .entry)) (now (marks .entry)) (now (list .entry)) (asked .decoy) (now (tag .entry)) (asked .generated) (now (out .entry)) ⌝ }
 {
     let mut w = [0 as u32; 196626];
-    line_over(
-        names,
-        members,
-        marks,
-        list,
-        decoy,
-        tag,
-        generated,
-        &mut w,
-        65536,
-        out,
-    )
+    line_over(names, members, marks, list, tag, asked, &mut w, 65536, out)
 }
 
 fn line_large(
@@ -193,27 +152,15 @@ fn line_large(
     members: &[u8],
     marks: &[u8],
     list: &[u32],
-    decoy: bool,
     tag: &[u8],
-    generated: bool,
+    asked: Asked,
     out: &mut [u8],
 ) -> Reported
     requires { ⌜ Fitting (now names) (now members) (now marks) (now list) 131072 ⌝ }
-    ensures { λ r. ⌜ outcome r (now (out .exit) ∷ []) ≡ lineTold (now (names .entry)) (now (members .entry)) (now (marks .entry)) (now (list .entry)) decoy (now (tag .entry)) generated (now (out .entry)) ⌝ }
+    ensures { λ r. ⌜ outcome r (now (out .exit) ∷ []) ≡ lineTold (now (names .entry)) (now (members .entry)) (now (marks .entry)) (now (list .entry)) (asked .decoy) (now (tag .entry)) (asked .generated) (now (out .entry)) ⌝ }
 {
     let mut w = [0 as u32; 393234];
-    line_over(
-        names,
-        members,
-        marks,
-        list,
-        decoy,
-        tag,
-        generated,
-        &mut w,
-        131072,
-        out,
-    )
+    line_over(names, members, marks, list, tag, asked, &mut w, 131072, out)
 }
 
 // Whether names, members and marks are no more than c each.
@@ -229,26 +176,25 @@ fn line_of(
     members: &[u8],
     marks: &[u8],
     list: &[u32],
-    decoy: bool,
     tag: &[u8],
-    generated: bool,
+    asked: Asked,
     out: &mut [u8],
 ) -> Reported
     requires { ⌜ Fair (now names) (now members) (now marks) (now list) ⌝ }
-    ensures { λ r. ⌜ outcome r (now (out .exit) ∷ []) ≡ lineTold (now (names .entry)) (now (members .entry)) (now (marks .entry)) (now (list .entry)) decoy (now (tag .entry)) generated (now (out .entry)) ⌝ }
+    ensures { λ r. ⌜ outcome r (now (out .exit) ∷ []) ≡ lineTold (now (names .entry)) (now (members .entry)) (now (marks .entry)) (now (list .entry)) (asked .decoy) (now (tag .entry)) (asked .generated) (now (out .entry)) ⌝ }
 {
     let proteins = names.len() / 64;
     let held = members.len() / 12;
     if fit(proteins, held, marks.len(), 1024) {
-        return line_small(names, members, marks, list, decoy, tag, generated, out);
+        return line_small(names, members, marks, list, tag, asked, out);
     }
     if fit(proteins, held, marks.len(), 16384) {
-        return line_middle(names, members, marks, list, decoy, tag, generated, out);
+        return line_middle(names, members, marks, list, tag, asked, out);
     }
     if fit(proteins, held, marks.len(), 65536) {
-        return line_wide(names, members, marks, list, decoy, tag, generated, out);
+        return line_wide(names, members, marks, list, tag, asked, out);
     }
-    line_large(names, members, marks, list, decoy, tag, generated, out)
+    line_large(names, members, marks, list, tag, asked, out)
 }
 
 // Writes the names of the marked groups that hold a protein of the list with the peptide's decoy flag, as document 01 has them,
@@ -271,7 +217,8 @@ pub fn report_line(
     if is_uneven(names, members) {
         return Reported::Refused(Refusal::Length);
     }
-    line_of(names, members, marks, list, decoy, tag, generated, out)
+    let asked = Asked { decoy, generated };
+    line_of(names, members, marks, list, tag, asked, out)
 }
 
 // What a line's answer tells of its tests: 11 comes after all of them.

@@ -5,58 +5,52 @@ use native.Mathlib.Numerals.{add-one}
 use native.Mathlib.Nat.{zero-add}
 use mathlib.Core.Path.{_≡_, refl, sym, ap, _∙_}
 use mathlib.Core.Bool.{Bool, true, false, cond, _&&_}
-use mathlib.Core.Logic.{⊎-elim}
+use mathlib.Core.Logic.{inl, ⊎-elim}
 use mathlib.Core.List.{List, [], _∷_, _++_, map, map-append}
 use borrow.Author.Tests.{eq-eqb, ne-eqb, lt-ltb}
 use lib.Dec.{eqb, ltb}
 use lib.ListN.{length, getD, take, set}
 use lib.Seq.{take-suc, take-all, getD-set-same, getD-set-other}
-use Rattle.lists.specs.Tests.{same?}
-use Rattle.lists.specs.Lists.{upFrom, keep, has}
+use Rattle.lists.specs.KeepLaws.{keep-append}
+use Rattle.lists.specs.Tests.{same?, flag-is-one}
+use Rattle.lists.specs.Lists.{upFrom, keep, occurs}
 use Rattle.lists.specs.RowLaws.{up-snoc}
+use Rattle.lists.specs.FrameLaws.{framed-none, framed-then, framed-set}
 use Rattle.protein_groups_members.specs.Members.{Member, memberAt}
 use Rattle.report_lines_spec.specs.Line.{inGroup, holds, applies}
-use Rattle.report_lines_note.specs.Noting.{first, Listed, hits, Flagged}
+use Rattle.report_lines_note.specs.Noting.{firstMembers, ListNoted, appliesBy, Flagged}
 
 -- ---- one more at the end
 
-pub first-more : (bytes : List ℕ) (i : ℕ) → first bytes (i + 1) ≡ first bytes i ++ (memberAt bytes i ∷ [])
+pub first-more : (bytes : List ℕ) (i : ℕ) → firstMembers bytes (i + 1) ≡ firstMembers bytes i ++ (memberAt bytes i ∷ [])
 first-more bytes i =
-    ap (first bytes) (add-one i)
+    ap (firstMembers bytes) (add-one i)
     ∙ ap (map (memberAt bytes)) (up-snoc 0 i ∙ ap (λ (x : ℕ). upFrom 0 i ++ (x ∷ [])) (zero-add i))
     ∙ map-append (memberAt bytes) (upFrom 0 i) (i ∷ [])
 
-pub has-more : (k x : ℕ) (xs : List ℕ) → has k (xs ++ (x ∷ [])) ≡ cond (eqb x k) true (has k xs)
+pub has-more : (k x : ℕ) (xs : List ℕ) → occurs k (xs ++ (x ∷ [])) ≡ cond (eqb x k) true (occurs k xs)
 has-more k x [] = refl
 has-more k x (y ∷ ys) = go (eqb y k) (eqb x k) (has-more k x ys)
   where
-    go : (t u : Bool) → has k (ys ++ (x ∷ [])) ≡ cond u true (has k ys) → cond t true (has k (ys ++ (x ∷ []))) ≡ cond u true (cond t true (has k ys))
+    go : (t u : Bool) → occurs k (ys ++ (x ∷ [])) ≡ cond u true (occurs k ys) → cond t true (occurs k (ys ++ (x ∷ []))) ≡ cond u true (cond t true (occurs k ys))
     go true true h = refl
     go true false h = refl
     go false u h = h
 
-pub keep-more : {A : Type 0} (p : A → Bool) (xs ys : List A) → keep p (xs ++ ys) ≡ keep p xs ++ keep p ys
-keep-more p [] ys = refl
-keep-more {A} p (x ∷ xs) ys = go (p x) (keep-more p xs ys)
-  where
-    go : (t : Bool) → keep p (xs ++ ys) ≡ keep p xs ++ keep p ys → cond t (x ∷ keep p (xs ++ ys)) (keep p (xs ++ ys)) ≡ cond t (x ∷ keep p xs) (keep p xs) ++ keep p ys
-    go true h = ap (λ (l : List A). x ∷ l) h
-    go false h = h
-
 -- ---- the list
 
-pub list-none : (list w : List ℕ) (c : ℕ) → ((p : ℕ) → p < c → getD w p 0 ≡ 0) → Listed (take 0 list) w w c
-list-none list w c z = record { notes = z; after = λ j h. refl }
+pub list-none : (list w : List ℕ) (c : ℕ) → ((p : ℕ) → p < c → getD w p 0 ≡ 0) → ListNoted (take 0 list) w w c
+list-none list w c z = record { notes = z; rest = framed-none 0 c w }
 
-pub list-more : (list w₀ w : List ℕ) (c i : ℕ) → i < length list → getD list i 0 < c → c ≤ length w → Listed (take i list) w₀ w c
-    → Listed (take (i + 1) list) w₀ (set w (getD list i 0) 1) c
+pub list-more : (list w₀ w : List ℕ) (c i : ℕ) → i < length list → getD list i 0 < c → c ≤ length w → ListNoted (take i list) w₀ w c
+    → ListNoted (take (i + 1) list) w₀ (set w (getD list i 0) 1) c
 list-more list w₀ w c i l h k r = record {
   notes = λ p f. rw (add-one i, take-suc list i 0 l, has-more p (getD list i 0) (take i list)) (⊎-elim (same p f) (other p f) (same? p (getD list i 0)));
-  after = λ j f. getD-set-other w (getD list i 0) j 1 0 (λ (z : j ≡ getD list i 0). let x : ⊥ = omega arith in x) ∙ r .after j f;
+  rest = framed-then 0 c w₀ w (set w (getD list i 0) 1) (r .rest) (framed-set 0 c (getD list i 0) 1 w (omega arith) h);
 }
   where
     Goal : ℕ → Type 0
-    Goal p = getD (set w (getD list i 0) 1) p 0 ≡ cond (cond (eqb (getD list i 0) p) true (has p (take i list))) 1 0
+    Goal p = getD (set w (getD list i 0) 1) p 0 ≡ cond (cond (eqb (getD list i 0) p) true (occurs p (take i list))) 1 0
 
     same : (p : ℕ) → p < c → p ≡ getD list i 0 → Goal p
     same p f e = rw (e, eq-eqb (getD list i 0) (getD list i 0) refl) (getD-set-same w (getD list i 0) 1 0 (omega arith))
@@ -64,7 +58,7 @@ list-more list w₀ w c i l h k r = record {
     other : (p : ℕ) → p < c → (p ≡ getD list i 0 → ⊥) → Goal p
     other p f e = rw (ne-eqb (getD list i 0) p (λ z. e (sym z))) (getD-set-other w (getD list i 0) p 1 0 e ∙ r .notes p f)
 
-pub list-all : (list w₀ w : List ℕ) (c i : ℕ) → length list ≤ i → Listed (take i list) w₀ w c → Listed list w₀ w c
+pub list-all : (list w₀ w : List ℕ) (c i : ℕ) → length list ≤ i → ListNoted (take i list) w₀ w c → ListNoted list w₀ w c
 list-all list w₀ w c i h r = rw (take-all i list h) at r
 
 -- ---- the groups
@@ -97,16 +91,15 @@ module _ (ms : List Member) (m : Member) (marks list : List ℕ) (decoy : Bool) 
       ≡ (eqb (getD marks g 0) 1 && cond (eqb (m .group) g && holds list decoy m) true (ltb 0 (length (keep (holds list decoy) (inGroup ms g)))))
   applies-more g =
       ap (λ (t : Bool). eqb (getD marks g 0) 1 && t)
-      (ap (λ (l : List Member). ltb 0 (length (keep (holds list decoy) l))) (keep-more (λ (x : Member). eqb (x .group) g) ms (m ∷ []))
-      ∙ ap (λ (l : List Member). ltb 0 (length l)) (keep-more (holds list decoy) (inGroup ms g) (inGroup (m ∷ []) g))
+      (ap (λ (l : List Member). ltb 0 (length (keep (holds list decoy) l))) (keep-append (λ (x : Member). eqb (x .group) g) ms (m ∷ []))
+      ∙ ap (λ (l : List Member). ltb 0 (length l)) (keep-append (holds list decoy) (inGroup ms g) (inGroup (m ∷ []) g))
       ∙ ltb-or (keep (holds list decoy) (inGroup ms g)) (one g)
       ∙ ap (λ (t : Bool). cond t true (ltb 0 (length (keep (holds list decoy) (inGroup ms g))))) (one-is g))
 
 pub flag-none : (marks list w : List ℕ) (decoy : Bool) (c m : ℕ) → ((g : ℕ) → g < m → getD w (c + g) 0 ≡ 0) → Flagged [] marks list decoy w w c m
 flag-none marks list w decoy c m z = record {
   flags = λ g h. z g h ∙ go (eqb (getD marks g 0) 1);
-  before = λ j h. refl;
-  after = λ j h. refl;
+  rest = framed-none c (c + m) w;
 }
   where
     go : (t : Bool) → _≡_ {A = ℕ} 0 (cond (t && ltb 0 (length {A = Member} [])) 1 0)
@@ -115,20 +108,15 @@ flag-none marks list w decoy c m z = record {
 
 -- one member more, which the code tests by the notes of the list
 pub flag-more : (ms : List Member) (x : Member) (marks list : List ℕ) (decoy : Bool) (w₀ w : List ℕ) (c m : ℕ) → x .group < m → x .protein < c → c + m ≤ length w
-    → ((p : ℕ) → p < c → getD w p 0 ≡ cond (has p list) 1 0) → Flagged ms marks list decoy w₀ w c m
-    → Flagged (ms ++ (x ∷ [])) marks list decoy w₀ (set w (c + x .group) (cond (hits decoy marks w x) 1 (getD w (c + x .group) 0))) c m
+    → ((p : ℕ) → p < c → getD w p 0 ≡ cond (occurs p list) 1 0) → Flagged ms marks list decoy w₀ w c m
+    → Flagged (ms ++ (x ∷ [])) marks list decoy w₀ (set w (c + x .group) (cond (appliesBy decoy marks w x) 1 (getD w (c + x .group) 0))) c m
 flag-more ms x marks list decoy w₀ w c m inside low fits notes r = record {
   flags = λ g h. ⊎-elim (same g h) (other g h) (same? g (x .group));
-  before = λ j h. getD-set-other w (c + x .group) j v 0 (λ (z : j ≡ c + x .group). let f : ⊥ = omega arith in f) ∙ r .before j h;
-  after = λ j h. getD-set-other w (c + x .group) j v 0 (λ (z : j ≡ c + x .group). let f : ⊥ = omega arith in f) ∙ r .after j h;
+  rest = framed-then c (c + m) w₀ w (set w (c + x .group) v) (r .rest) (framed-set c (c + m) (c + x .group) v w (omega arith) (omega arith));
 }
   where
     v : ℕ
-    v = cond (hits decoy marks w x) 1 (getD w (c + x .group) 0)
-
-    bit : (t : Bool) → eqb (cond t 1 0) 1 ≡ t
-    bit true = refl
-    bit false = refl
+    v = cond (appliesBy decoy marks w x) 1 (getD w (c + x .group) 0)
 
     pick : (f n k : Bool) (rest : Bool) (old : ℕ) → old ≡ cond (k && rest) 1 0 → cond (f && n && k) 1 old ≡ cond (k && cond (f && n) true rest) 1 0
     pick true true true rest old h = refl
@@ -142,8 +130,8 @@ flag-more ms x marks list decoy w₀ w c m inside low fits notes r = record {
     same g h e =
         rw (e, applies-more ms x marks list decoy (x .group), eq-eqb (x .group) (x .group) refl)
         (getD-set-same w (c + x .group) v 0 (omega arith)
-        ∙ ap (λ (t : Bool). cond (eqb (x .decoy) (cond decoy 1 0) && t && eqb (getD marks (x .group) 0) 1) 1 (getD w (c + x .group) 0)) (ap (λ (y : ℕ). eqb y 1) (notes (x .protein) low) ∙ bit (has (x .protein) list))
-        ∙ pick (eqb (x .decoy) (cond decoy 1 0)) (has (x .protein) list) (eqb (getD marks (x .group) 0) 1) (ltb 0 (length (keep (holds list decoy) (inGroup ms (x .group))))) (getD w (c + x .group) 0) (r .flags (x .group) inside))
+        ∙ ap (λ (t : Bool). cond (eqb (x .decoy) (cond decoy 1 0) && t && eqb (getD marks (x .group) 0) 1) 1 (getD w (c + x .group) 0)) (ap (λ (y : ℕ). eqb y 1) (notes (x .protein) low) ∙ flag-is-one (occurs (x .protein) list))
+        ∙ pick (eqb (x .decoy) (cond decoy 1 0)) (occurs (x .protein) list) (eqb (getD marks (x .group) 0) 1) (ltb 0 (length (keep (holds list decoy) (inGroup ms (x .group))))) (getD w (c + x .group) 0) (r .flags (x .group) inside))
 
     other : (g : ℕ) → g < m → (g ≡ x .group → ⊥) → getD (set w (c + x .group) v) (c + g) 0 ≡ cond (applies (ms ++ (x ∷ [])) marks list decoy g) 1 0
     other g h e =
@@ -152,8 +140,8 @@ flag-more ms x marks list decoy w₀ w c m inside low fits notes r = record {
 
 -- a turn of the code
 pub flag-turn : (bytes : List ℕ) (i : ℕ) (marks list : List ℕ) (decoy : Bool) (w₀ w x : List ℕ) (c m : ℕ) → memberAt bytes i .group < m → memberAt bytes i .protein < c → c + m ≤ length w
-    → ((p : ℕ) → p < c → getD w₀ p 0 ≡ cond (has p list) 1 0)
-    → x ≡ set w (c + memberAt bytes i .group) (cond (hits decoy marks w (memberAt bytes i)) 1 (getD w (c + memberAt bytes i .group) 0))
-    → Flagged (first bytes i) marks list decoy w₀ w c m → Flagged (first bytes (i + 1)) marks list decoy w₀ x c m
+    → ((p : ℕ) → p < c → getD w₀ p 0 ≡ cond (occurs p list) 1 0)
+    → x ≡ set w (c + memberAt bytes i .group) (cond (appliesBy decoy marks w (memberAt bytes i)) 1 (getD w (c + memberAt bytes i .group) 0))
+    → Flagged (firstMembers bytes i) marks list decoy w₀ w c m → Flagged (firstMembers bytes (i + 1)) marks list decoy w₀ x c m
 flag-turn bytes i marks list decoy w₀ w x c m inside low fits notes e r =
-    rw (e, first-more bytes i) (flag-more (first bytes i) (memberAt bytes i) marks list decoy w₀ w c m inside low fits (λ p h. r .before p h ∙ notes p h) r)
+    rw (e, first-more bytes i) (flag-more (firstMembers bytes i) (memberAt bytes i) marks list decoy w₀ w c m inside low fits (λ p h. r .rest p (inl h) ∙ notes p h) r)

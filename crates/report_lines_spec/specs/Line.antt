@@ -4,7 +4,7 @@ use mathlib.Core.Bool.{Bool, cond, _&&_}
 use mathlib.Core.List.{List, [], _∷_, _++_, map}
 use lib.Dec.{ltb, eqb}
 use lib.ListN.{length, getD}
-use Rattle.lists.specs.Lists.{upFrom, keep, has, times}
+use Rattle.lists.specs.Lists.{upFrom, keep, occurs, times}
 use Rattle.sorting_spec.specs.Sort.{sorted}
 use Rattle.sorting_spec.specs.Lex.{lexLe}
 use Rattle.sorting_spec.specs.Joined.{nameOf, untilZero, join}
@@ -24,7 +24,7 @@ groupText names ms tag generated g = join 47 (sorted lexLe (map (tagged names ta
 
 -- "the marked groups holding one of its proteins with that flag, each once"
 abbrev pub holds : List ℕ → Bool → Member → Bool
-holds list decoy m = eqb (m .decoy) (cond decoy 1 0) && has (m .protein) list
+holds list decoy m = eqb (m .decoy) (cond decoy 1 0) && occurs (m .protein) list
 
 abbrev pub applies : List Member → List ℕ → List ℕ → Bool → ℕ → Bool
 applies ms marks list decoy g = eqb (getD marks g 0) 1 && ltb 0 (length (keep (holds list decoy) (inGroup ms g)))

@@ -16,20 +16,20 @@ use Rattle.records.specs.Le.{numberAt}
 use Rattle.records.specs.Tested.{andThen}
 use Rattle.records.specs.TestedLaws.{passed-both, passed-first}
 use Rattle.records.specs.Search.{seek}
-use Rattle.records.specs.SearchLaws.{seek-before}
-use Rattle.catalogue_spec.specs.Names.{visible, nameCount, tooManyNames, wholeNames, badName, wrongName, wrongAt, namesTested}
+use Rattle.records.specs.SeekingLaws.{none-found, none-tested}
+use Rattle.catalogue_spec.specs.Names.{nameCount, tooManyNames, wholeNames, badName, wrongName, wrongAt, namesTested}
 use Rattle.cover_edges.specs.Edges.{badMark, firstBadMark}
 use Rattle.records.specs.Refusals.{numberOf}
 use Rattle.protein_groups_members.specs.Members.{goodMember, badMember, firstBadMember}
 
-pub fair-names : (names members marks list : List ℕ) → tooLarge names members marks list ≡ false → tooManyNames names ≡ false
-fair-names names members marks list e =
+pub line-few-names : (names members marks list : List ℕ) → tooLarge names members marks list ≡ false → tooManyNames names ≡ false
+line-few-names names members marks list e =
     let a = neither (tooManyNames names || ltb 131072 (length members / 12) || ltb 131072 (length marks)) (ltb 1048576 (length list)) e in
     let b = neither (tooManyNames names || ltb 131072 (length members / 12)) (ltb 131072 (length marks)) (a .0) in
     neither (tooManyNames names) (ltb 131072 (length members / 12)) (b .0) .0
 
-pub even-names : (names members : List ℕ) → uneven names members ≡ false → wholeNames names ≡ true
-even-names names members e = both (wholeNames names) (eqb (length members % 12) 0) (not-false _ e) .0
+pub line-whole-names : (names members : List ℕ) → uneven names members ≡ false → wholeNames names ≡ true
+line-whole-names names members e = both (wholeNames names) (eqb (length members % 12) 0) (not-false _ e) .0
 
 -- sizes
 pub record Sizes (names members marks list : List ℕ) : Type 0 where
@@ -75,40 +75,28 @@ good-member members groups proteins i e =
 
 members-good : (members : List ℕ) (groups proteins : ℕ) → membersTested members groups proteins ≡ Passed → (i : ℕ) → i < length members / 12 → GoodMember members groups proteins i
 unfolding firstBadMember
-members-good members groups proteins e i h =
-    let f : ltb (firstBadMember members groups proteins) (length members / 12) ≡ false = passed-first (ltb (firstBadMember members groups proteins) (length members / 12)) (Field (firstBadMember members groups proteins)) Passed e .0 in
-    let l : length members / 12 ≤ seek (badMember members groups proteins) 0 (length members / 12) = ltb-false (firstBadMember members groups proteins) (length members / 12) f in
-    let g : not (goodMember members groups proteins i) ≡ false = seek-before (badMember members groups proteins) 0 (length members / 12) i (omega arith) (omega arith) in
-    good-member members groups proteins i (not-false _ g)
+members-good members groups proteins e i h = good-member members groups proteins i (not-false _ (none-tested (badMember members groups proteins) (length members / 12) e i h))
 
 marks-good : (marks : List ℕ) → marksTested marks ≡ Passed → (i : ℕ) → i < length marks → getD marks i 0 ≤ 1
 unfolding firstBadMark
-marks-good marks e i h =
-    let f : ltb (firstBadMark marks) (length marks) ≡ false = passed-first (ltb (firstBadMark marks) (length marks)) (Field (firstBadMark marks)) Passed e .0 in
-    let l : length marks ≤ seek (badMark marks) 0 (length marks) = ltb-false (firstBadMark marks) (length marks) f in
-    ltb-false 1 (getD marks i 0) (seek-before (badMark marks) 0 (length marks) i (omega arith) (omega arith))
+marks-good marks e i h = ltb-false 1 (getD marks i 0) (none-tested (badMark marks) (length marks) e i h)
 
 list-good : (list : List ℕ) (proteins : ℕ) → listTested list proteins ≡ Passed → (i : ℕ) → i < length list → getD list i 0 < proteins
 unfolding firstBadProtein
-list-good list proteins e i h =
-    let f : ltb (firstBadProtein list proteins) (length list) ≡ false = passed-first (ltb (firstBadProtein list proteins) (length list)) (Field (firstBadProtein list proteins)) Passed e .0 in
-    let l : length list ≤ seek (badProtein list proteins) 0 (length list) = ltb-false (firstBadProtein list proteins) (length list) f in
-    leb-false proteins (getD list i 0) (seek-before (badProtein list proteins) 0 (length list) i (omega arith) (omega arith))
+list-good list proteins e i h = leb-false proteins (getD list i 0) (none-tested (badProtein list proteins) (length list) e i h)
 
 tag-good : (tag : List ℕ) → tagTested tag ≡ Passed → (length tag ≤ 16) × ((i : ℕ) → i < length tag → (33 ≤ getD tag i 0) × (getD tag i 0 ≤ 126))
 unfolding firstBadTagByte
 tag-good tag e =
-    let f = neither (ltb 16 (length tag)) (ltb (firstBadTagByte tag) (length tag)) (passed-first (ltb 16 (length tag) || ltb (firstBadTagByte tag) (length tag)) (Name 0) Passed e .0) in
-    let l : length tag ≤ seek (badTagByte tag) 0 (length tag) = ltb-false (firstBadTagByte tag) (length tag) (f .1) in (
+    let f = neither (ltb 16 (length tag)) (ltb (firstBadTagByte tag) (length tag)) (passed-first (ltb 16 (length tag) || ltb (firstBadTagByte tag) (length tag)) (Name 0) Passed e .0) in (
       ltb-false 16 (length tag) (f .0),
       λ i h.
-          let g : not (visible (getD tag i 0)) ≡ false = seek-before (badTagByte tag) 0 (length tag) i (omega arith) (omega arith) in
-          let b = both (leb 33 (getD tag i 0)) (leb (getD tag i 0) 126) (not-false _ g) in
+          let b = both (leb 33 (getD tag i 0)) (leb (getD tag i 0) 126) (not-false _ (none-found (badTagByte tag) (length tag) (f .1) i h)) in
           (leb-true 33 (getD tag i 0) (b .0), leb-true (getD tag i 0) 126 (b .1)),
     )
 
 -- THE LAW
-pub record Good (names members marks list tag : List ℕ) : Type 0 where
+pub record GoodLine (names members marks list tag : List ℕ) : Type 0 where
   pub sized : Sizes names members marks list
   pub held : (i : ℕ) → i < length members / 12 → GoodMember members (length marks) (nameCount names) i
   pub marked : (i : ℕ) → i < length marks → getD marks i 0 ≤ 1
@@ -116,8 +104,8 @@ pub record Good (names members marks list tag : List ℕ) : Type 0 where
   pub short : length tag ≤ 16
   pub shown : (i : ℕ) → i < length tag → (33 ≤ getD tag i 0) × (getD tag i 0 ≤ 126)
 
-pub passed-good : (names members marks list tag : List ℕ) → tested names members marks list tag ≡ Passed → Good names members marks list tag
-passed-good names members marks list tag e =
+pub line-passed : (names members marks list tag : List ℕ) → tested names members marks list tag ≡ Passed → GoodLine names members marks list tag
+line-passed names members marks list tag e =
     let a = passed-first (tooLarge names members marks list) Size _ e in
     let b = passed-first (uneven names members) Length _ (a .1) in
     let c = passed-both (namesTested names) _ (b .1) in
@@ -142,43 +130,43 @@ pub record Fair (names members marks list : List ℕ) : Type 0 where
 pub fair-sizes : {names members marks list : List ℕ} → Fair names members marks list → Sizes names members marks list
 fair-sizes {names} {members} {marks} {list} f = sizes names members marks list (f .small) (f .even)
 
-pub fair-good : (names members marks list tag : List ℕ) → Fair names members marks list → contents names members marks list tag ≡ Passed → Good names members marks list tag
-fair-good names members marks list tag f e = passed-good names members marks list tag (rw (f .small, f .even) e)
+pub fair-good : {names members marks list : List ℕ} (tag : List ℕ) → Fair names members marks list → contents names members marks list tag ≡ Passed → GoodLine names members marks list tag
+fair-good {names} {members} {marks} {list} tag f e = line-passed names members marks list tag (rw (f .small, f .even) e)
 
 -- what was found of the names, and then of the other lists, is what the contents tell
-pub contents-told : (names members marks list tag : List ℕ) (named : Tested) (k : ℕ) (r : Tested) → named ≡ namesTested names → k ≡ nameCount names
+pub contents-told : (names members marks list tag : List ℕ) {named : Tested} {k : ℕ} {r : Tested} → named ≡ namesTested names → k ≡ nameCount names
     → r ≡ andThen named (listsTested members marks list tag k) → r ≡ contents names members marks list tag
-contents-told names members marks list tag named k r p q l = l ∙ ap₂ (λ (x : Tested) (y : ℕ). andThen x (listsTested members marks list tag y)) p q
+contents-told names members marks list tag p q l = l ∙ ap₂ (λ (x : Tested) (y : ℕ). andThen x (listsTested members marks list tag y)) p q
 
 -- not 11
-abbrev pub roomy : Tested → Bool
-roomy Passed = true
-roomy (Refused why) = not (eqb (numberOf why) 11)
+abbrev pub notRoom : Tested → Bool
+notRoom Passed = true
+notRoom (Refused why) = not (eqb (numberOf why) 11)
 
-roomy-cond : (b : Bool) (x y : Tested) → roomy x ≡ true → roomy y ≡ true → roomy (cond b x y) ≡ true
-roomy-cond true x y p q = p
-roomy-cond false x y p q = q
+not-room-cond : (b : Bool) (x y : Tested) → notRoom x ≡ true → notRoom y ≡ true → notRoom (cond b x y) ≡ true
+not-room-cond true x y p q = p
+not-room-cond false x y p q = q
 
-roomy-then : (x y : Tested) → roomy x ≡ true → roomy y ≡ true → roomy (andThen x y) ≡ true
-roomy-then Passed y p q = q
-roomy-then (Refused why) y p q = p
+not-room-then : (x y : Tested) → notRoom x ≡ true → notRoom y ≡ true → notRoom (andThen x y) ≡ true
+not-room-then Passed y p q = q
+not-room-then (Refused why) y p q = p
 
-roomy-wrong : (b : Bool) (at : ℕ) → roomy (Refused (cond b (Name at) (Repeat at))) ≡ true
-roomy-wrong true at = refl
-roomy-wrong false at = refl
+not-room-wrong : (b : Bool) (at : ℕ) → notRoom (Refused (cond b (Name at) (Repeat at))) ≡ true
+not-room-wrong true at = refl
+not-room-wrong false at = refl
 
-roomy-names : (names : List ℕ) → roomy (namesTested names) ≡ true
+not-room-names : (names : List ℕ) → notRoom (namesTested names) ≡ true
 unfolding namesTested
-roomy-names names =
+not-room-names names =
     let at : ℕ = seek (wrongName names) 0 (nameCount names) in
-    roomy-cond (ltb at (nameCount names)) (Refused (wrongAt names at)) Passed (roomy-wrong (badName names at) at) refl
+    not-room-cond (ltb at (nameCount names)) (Refused (wrongAt names at)) Passed (not-room-wrong (badName names at) at) refl
 
-pub roomy-tested : (names members marks list tag : List ℕ) → roomy (tested names members marks list tag) ≡ true
-roomy-tested names members marks list tag =
-    roomy-cond (tooLarge names members marks list) (Refused Size) _ refl
-    (roomy-cond (uneven names members) (Refused Length) _ refl
-    (roomy-then (namesTested names) _ (roomy-names names)
-    (roomy-then (membersTested members (length marks) (nameCount names)) _ (roomy-cond (ltb (firstBadMember members (length marks) (nameCount names)) (length members / 12)) (Refused (Field (firstBadMember members (length marks) (nameCount names)))) Passed refl refl)
-    (roomy-then (marksTested marks) _ (roomy-cond (ltb (firstBadMark marks) (length marks)) (Refused (Field (firstBadMark marks))) Passed refl refl)
-    (roomy-then (listTested list (nameCount names)) (tagTested tag) (roomy-cond (ltb (firstBadProtein list (nameCount names)) (length list)) (Refused (Field (firstBadProtein list (nameCount names)))) Passed refl refl)
-    (roomy-cond (ltb 16 (length tag) || ltb (firstBadTagByte tag) (length tag)) (Refused (Name 0)) Passed refl refl))))))
+pub not-room-tested : (names members marks list tag : List ℕ) → notRoom (tested names members marks list tag) ≡ true
+not-room-tested names members marks list tag =
+    not-room-cond (tooLarge names members marks list) (Refused Size) _ refl
+    (not-room-cond (uneven names members) (Refused Length) _ refl
+    (not-room-then (namesTested names) _ (not-room-names names)
+    (not-room-then (membersTested members (length marks) (nameCount names)) _ (not-room-cond (ltb (firstBadMember members (length marks) (nameCount names)) (length members / 12)) (Refused (Field (firstBadMember members (length marks) (nameCount names)))) Passed refl refl)
+    (not-room-then (marksTested marks) _ (not-room-cond (ltb (firstBadMark marks) (length marks)) (Refused (Field (firstBadMark marks))) Passed refl refl)
+    (not-room-then (listTested list (nameCount names)) (tagTested tag) (not-room-cond (ltb (firstBadProtein list (nameCount names)) (length list)) (Refused (Field (firstBadProtein list (nameCount names)))) Passed refl refl)
+    (not-room-cond (ltb 16 (length tag) || ltb (firstBadTagByte tag) (length tag)) (Refused (Name 0)) Passed refl refl))))))

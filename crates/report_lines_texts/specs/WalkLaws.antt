@@ -1,55 +1,53 @@
 -- A group's text written along its walk: the turns of the code. Assumes nothing.
 use Prim.Native.Nat.{ℕ, _+_, _≤_, _<_}
-use mathlib.Core.Path.{_≡_, sym, ap, _∙_}
+use mathlib.Core.Path.{_≡_}
 use mathlib.Core.List.{List, _∷_}
 use native.Mathlib.Omega.{arith}
 use lib.ListN.{length, getD, set}
-use lib.Seq.{length-sets}
-use Rattle.report_lines_texts.specs.ByteLaws.{Bytes, bytes-joined}
+use Rattle.report_lines_texts.specs.ByteLaws.{AllBytes, bytes-joined}
 use Rattle.sorting_texts.specs.Text.{entryText, joinedText}
-use Rattle.sorting_texts.specs.Walk.{left, Walked}
-use Rattle.sorting_texts.specs.WalkLaws.{left-all}
-use Rattle.report_lines_texts.specs.WriteLaws.{semi, Put, Coming, times-cons, coming-all, coming-one, coming-done, coming-fits}
+use Rattle.sorting_texts.specs.Walk.{leftFrom, WalksOn}
+use Rattle.sorting_texts.specs.WalkLaws.{left-start}
+use Rattle.report_lines_texts.specs.WriteLaws.{semi, Put, Coming, times-cons, coming-all, coming-one, coming-done, coming-length, coming-fits}
 
 -- the walk along the text at x stands at place i of the text of an entry, and what lies before is written
 pub record Writing (names keys : List ℕ) (x : ℕ) (old : List ℕ) (at semis : ℕ) (new : List ℕ) (entry i k s : ℕ) : Type 0 where
-  pub coming : Coming old at semis (joinedText names keys x) new k s (left names keys entry i)
+  pub coming : Coming old at semis (joinedText names keys x) new k s (leftFrom names keys entry i)
   pub within : i ≤ length (entryText names keys (getD keys entry 0))
-  pub bytes : Bytes (left names keys entry i)
+  pub bytes : AllBytes (leftFrom names keys entry i)
 
-module _ (names keys : List ℕ) (x : ℕ) (old : List ℕ) (at semis : ℕ) where
+module _ {names keys : List ℕ} {x : ℕ} {old : List ℕ} {at semis : ℕ} where
   pub writing-start : ((i : ℕ) → getD names i 0 < 256) → ((i : ℕ) → i < 16 → getD keys i 0 < 256) → Writing names keys x old at semis old (16 + x) 0 at semis
   writing-start p q = record {
-    coming = rw (left-all names keys x) (coming-all old at semis (joinedText names keys x));
+    coming = rw (left-start names keys x) coming-all;
     within = omega arith;
-    bytes = rw (left-all names keys x) (bytes-joined names keys p q x);
+    bytes = rw (left-start names keys x) (bytes-joined names keys p q x);
   }
 
-  module _ (new : List ℕ) (entry i k s : ℕ) (c : Writing names keys x old at semis new entry i k s) where
+  module _ {new : List ℕ} {entry i k s : ℕ} (c : Writing names keys x old at semis new entry i k s) where
     pub writing-length : length new ≡ length old
-    writing-length =
-        sym (length-sets new k (left names keys entry i)) ∙ ap length (c .coming .stores) ∙ length-sets old at (joinedText names keys x)
+    writing-length = coming-length (c .coming)
 
-    module _ (n e j : ℕ) (step : Walked names keys entry i n e j) where
+    module _ {n e j : ℕ} (step : WalksOn names keys entry i n e j) where
       pub writing-done : n ≡ 0 → Put old at semis (joinedText names keys x) new k s
-      writing-done z = coming-done old at semis (joinedText names keys x) new k s (left names keys entry i) (step .shows .none z) (c .coming)
+      writing-done z = coming-done (step .shows .none z) (c .coming)
 
       module _ (some : n ≡ 0 → ⊥) where
-        pub writing-byte : n < 256
-        writing-byte = let b : Bytes (n ∷ left names keys e j) = rw (step .shows .one some) at (c .bytes) in b .0
+        next : Coming old at semis (joinedText names keys x) new k s (n ∷ leftFrom names keys e j)
+        next = rw (step .shows .one some) at (c .coming)
 
-        pub writing-less : length (left names keys e j) < length (left names keys entry i)
+        rest : AllBytes (n ∷ leftFrom names keys e j)
+        rest = rw (step .shows .one some) at (c .bytes)
+
+        pub writing-byte : n < 256
+        writing-byte = rest .0
+
+        pub writing-less : length (leftFrom names keys e j) < length (leftFrom names keys entry i)
         writing-less = rw (step .shows .one some) (omega arith)
 
         pub writing-fits : semis ≤ at → at + length (joinedText names keys x) < 4294967296 → (k + 1 < 4294967296) × (s + semi n < 4294967296)
-        writing-fits h f =
-            let g = coming-fits old at semis (joinedText names keys x) new k s (n ∷ left names keys e j) h f (rw (step .shows .one some) at (c .coming)) in
-            (omega (arith, g .0), omega (arith, g .1, times-cons n (left names keys e j)))
+        writing-fits h f = let g = coming-fits h f next in (omega (arith, g .0), omega (arith, g .1, times-cons n (leftFrom names keys e j)))
 
         -- THE LAW of a turn
         pub writing-on : Writing names keys x old at semis (set new k n) e j (k + 1) (s + semi n)
-        writing-on = record {
-          coming = coming-one old at semis (joinedText names keys x) new k s n (left names keys e j) (rw (step .shows .one some) at (c .coming));
-          within = step .within;
-          bytes = (let b : Bytes (n ∷ left names keys e j) = rw (step .shows .one some) at (c .bytes) in b .1);
-        }
+        writing-on = record { coming = coming-one next; within = step .within; bytes = rest .1 }

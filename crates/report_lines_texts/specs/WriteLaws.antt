@@ -48,59 +48,59 @@ times-cons n xs = go (eqb n 59)
     go true = omega arith
     go false = omega arith
 
-module _ (old : List ℕ) (k s : ℕ) (text : List ℕ) where
+module _ {old : List ℕ} {k s : ℕ} {text : List ℕ} where
   pub coming-all : Coming old k s text old k s text
   coming-all = record { stores = refl; counts = refl; semis = refl }
 
-  module _ (new : List ℕ) (k′ s′ : ℕ) where
+  module _ {new : List ℕ} {k′ s′ : ℕ} where
     -- a number is written
-    pub coming-one : (n : ℕ) (rest : List ℕ) → Coming old k s text new k′ s′ (n ∷ rest) → Coming old k s text (set new k′ n) (k′ + 1) (s′ + semi n) rest
-    coming-one n rest c = record {
+    pub coming-one : {n : ℕ} {rest : List ℕ} → Coming old k s text new k′ s′ (n ∷ rest) → Coming old k s text (set new k′ n) (k′ + 1) (s′ + semi n) rest
+    coming-one {n} {rest} c = record {
       stores = ap (λ (j : ℕ). sets (set new k′ n) j rest) (add-one k′) ∙ c .stores;
       counts = omega (arith, c .counts);
       semis = omega (arith, c .semis, times-cons n rest);
     }
 
     -- a text is written
-    pub coming-text : (t rest new″ : List ℕ) (k″ s″ : ℕ) → Coming old k s text new k′ s′ (t ++ rest) → Put new k′ s′ t new″ k″ s″ → Coming old k s text new″ k″ s″ rest
-    coming-text t rest new″ k″ s″ c p = record {
+    pub coming-text : {t rest new″ : List ℕ} {k″ s″ : ℕ} → Coming old k s text new k′ s′ (t ++ rest) → Put new k′ s′ t new″ k″ s″ → Coming old k s text new″ k″ s″ rest
+    coming-text {t} {rest} c p = record {
       stores = rw (p .stores, p .counts) (sym (sets-append t rest new k′) ∙ c .stores);
       counts = omega (arith, c .counts, p .counts, length-append t rest);
       semis = omega (arith, c .semis, p .semis, times-append 59 t rest);
     }
 
     -- nothing is left
-    pub coming-done : (rest : List ℕ) → rest ≡ [] → Coming old k s text new k′ s′ rest → Put old k s text new k′ s′
-    coming-done rest e c =
+    pub coming-done : {rest : List ℕ} → rest ≡ [] → Coming old k s text new k′ s′ rest → Put old k s text new k′ s′
+    coming-done e c =
         let d : Coming old k s text new k′ s′ [] = rw e at c in
         record { stores = d .stores; counts = sym (omega (arith, d .counts)); semis = sym (omega (arith, d .semis)) }
 
-    pub coming-length : (rest : List ℕ) → Coming old k s text new k′ s′ rest → length new ≡ length old
-    coming-length rest c = sym (length-sets new k′ rest) ∙ ap length (c .stores) ∙ length-sets old k text
+    pub coming-length : {rest : List ℕ} → Coming old k s text new k′ s′ rest → length new ≡ length old
+    coming-length {rest} c = sym (length-sets new k′ rest) ∙ ap length (c .stores) ∙ length-sets old k text
 
     -- nothing overflows
-    pub coming-fits : (rest : List ℕ) → s ≤ k → k + length text < 4294967296 → Coming old k s text new k′ s′ rest → (k′ + length rest < 4294967296) × (s′ + times 59 rest < 4294967296)
-    coming-fits rest h f c = (omega (arith, c .counts), omega (arith, c .semis, times-most 59 text))
+    pub coming-fits : {rest : List ℕ} → s ≤ k → k + length text < 4294967296 → Coming old k s text new k′ s′ rest → (k′ + length rest < 4294967296) × (s′ + times 59 rest < 4294967296)
+    coming-fits h f c = (omega (arith, c .counts), omega (arith, c .semis, times-most 59 text))
 
 -- one text, and then another
-pub put-then : (old : List ℕ) (k s : ℕ) (t new : List ℕ) (k′ s′ : ℕ) (u new″ : List ℕ) (k″ s″ : ℕ) → Put old k s t new k′ s′ → Put new k′ s′ u new″ k″ s″ → Put old k s (t ++ u) new″ k″ s″
-put-then old k s t new k′ s′ u new″ k″ s″ p q = record {
+pub put-then : {old : List ℕ} {k s : ℕ} {t new : List ℕ} {k′ s′ : ℕ} {u new″ : List ℕ} {k″ s″ : ℕ} → Put old k s t new k′ s′ → Put new k′ s′ u new″ k″ s″ → Put old k s (t ++ u) new″ k″ s″
+put-then {old} {k} {s} {t} {u = u} p q = record {
   stores = q .stores ∙ rw (p .stores, p .counts) (sym (sets-append t u old k));
   counts = omega (arith, p .counts, q .counts, length-append t u);
   semis = omega (arith, p .semis, q .semis, times-append 59 t u);
 }
 
 -- a `;` and then a text
-pub put-semi : (old : List ℕ) (k s : ℕ) (u new : List ℕ) (k′ s′ : ℕ) → Put (set old k 59) (k + 1) (s + 1) u new k′ s′ → Put old k s (59 ∷ u) new k′ s′
-put-semi old k s u new k′ s′ q = record {
+pub put-semi : {old : List ℕ} {k s : ℕ} {u new : List ℕ} {k′ s′ : ℕ} → Put (set old k 59) (k + 1) (s + 1) u new k′ s′ → Put old k s (59 ∷ u) new k′ s′
+put-semi {old} {k} {u = u} q = record {
   stores = q .stores ∙ ap (λ (j : ℕ). sets (set old k 59) j u) (add-one k);
   counts = omega (arith, q .counts);
   semis = omega (arith, q .semis);
 }
 
 -- semicolons are not more than numbers
-pub put-le : (old : List ℕ) (k s : ℕ) (t new : List ℕ) (k′ s′ : ℕ) → s ≤ k → Put old k s t new k′ s′ → s′ ≤ k′
-put-le old k s t new k′ s′ h p = omega (arith, p .counts, p .semis, times-most 59 t)
+pub put-le : {old : List ℕ} {k s : ℕ} {t new : List ℕ} {k′ s′ : ℕ} → s ≤ k → Put old k s t new k′ s′ → s′ ≤ k′
+put-le {t = t} h p = omega (arith, p .counts, p .semis, times-most 59 t)
 
 -- ---- texts joined by `;`
 
@@ -118,13 +118,12 @@ module _ (f : ℕ → List ℕ) (starts : List ℕ) where
   after-length i h = rw (after-on i h) (omega (arith, length-append (59 ∷ f (getD starts i 0)) (afterFrom (i + 1))))
 
   -- a turn: one text more
-  pub after-turn : (old : List ℕ) (k s : ℕ) (text new : List ℕ) (k′ s′ i : ℕ) (new″ : List ℕ) (k″ s″ : ℕ) → i < length starts → Coming old k s text new k′ s′ (afterFrom i)
+  pub after-turn : {old : List ℕ} {k s : ℕ} {text new : List ℕ} {k′ s′ : ℕ} (i : ℕ) {new″ : List ℕ} {k″ s″ : ℕ} → i < length starts → Coming old k s text new k′ s′ (afterFrom i)
       → Put new k′ s′ (59 ∷ f (getD starts i 0)) new″ k″ s″ → Coming old k s text new″ k″ s″ (afterFrom (i + 1))
-  after-turn old k s text new k′ s′ i new″ k″ s″ h c p =
-      coming-text old k s text new k′ s′ (59 ∷ f (getD starts i 0)) (afterFrom (i + 1)) new″ k″ s″ (subst (Coming old k s text new k′ s′) (after-on i h) c) p
+  after-turn {old} {k} {s} {text} {new} {k′} {s′} i h c p = coming-text (subst (Coming old k s text new k′ s′) (after-on i h) c) p
 
-  pub after-end : (i : ℕ) → length starts ≤ i → afterFrom i ≡ []
-  after-end i h = ap (λ (l : List ℕ). joinAfter 59 (map f l)) (drop-of-length-le starts {i = i} h)
+  pub after-last : (i : ℕ) → length starts ≤ i → afterFrom i ≡ []
+  after-last i h = ap (λ (l : List ℕ). joinAfter 59 (map f l)) (drop-of-length-le starts {i = i} h)
 
   -- the first text, and then the others
   pub line-starts : 0 < length starts → join 59 (map f starts) ≡ f (getD starts 0 0) ++ afterFrom 1
@@ -137,23 +136,15 @@ module _ (f : ℕ → List ℕ) (starts : List ℕ) where
   count-some text h = ap (λ (l : List ℕ). countOf l text) (drop-cons starts 0 0 h)
 
   -- the first text written, and then the others
-  pub line-put : (old new₁ new : List ℕ) (k₁ s₁ k s : ℕ) → 0 < length starts → Put old 0 0 (f (getD starts 0 0)) new₁ k₁ s₁ → Put new₁ k₁ s₁ (afterFrom 1) new k s → Put old 0 0 (join 59 (map f starts)) new k s
-  line-put old new₁ new k₁ s₁ k s h p q =
-      subst (λ (t : List ℕ). Put old 0 0 t new k s) (sym (line-starts h)) (put-then old 0 0 (f (getD starts 0 0)) new₁ k₁ s₁ (afterFrom 1) new k s p q)
+  pub line-put : {old new₁ new : List ℕ} {k₁ s₁ k s : ℕ} → 0 < length starts → Put old 0 0 (f (getD starts 0 0)) new₁ k₁ s₁ → Put new₁ k₁ s₁ (afterFrom 1) new k s → Put old 0 0 (join 59 (map f starts)) new k s
+  line-put {old} {new = new} {k = k} {s = s} h p q = subst (λ (t : List ℕ). Put old 0 0 t new k s) (sym (line-starts h)) (put-then p q)
 
-  pub line-written : (old new : List ℕ) (k s : ℕ) → 0 < length starts → Put old 0 0 (join 59 (map f starts)) new k s
+  pub line-written : {old new : List ℕ} {k s : ℕ} → 0 < length starts → Put old 0 0 (join 59 (map f starts)) new k s
       → (new ≡ sets old 0 (join 59 (map f starts))) × (k ≡ length (join 59 (map f starts))) × (s + 1 ≡ countOf starts (join 59 (map f starts)))
-  line-written old new k s h p = (p .stores, omega (arith, p .counts), omega (arith, p .semis, count-some (join 59 (map f starts)) h))
+  line-written h p = (p .stores, omega (arith, p .counts), omega (arith, p .semis, count-some (join 59 (map f starts)) h))
 
-  pub some-starts : (length starts ≡ 0 → ⊥) → 0 < length starts
-  some-starts n = ⊎-elim (λ (h : 0 < length starts). h) (λ (h : length starts ≤ 0). absurd (n (omega arith))) (below? 0 (length starts))
-
-  pub none-starts : length starts ≡ 0 → starts ≡ []
-  none-starts h = go starts h
-    where
-      go : (l : List ℕ) → length l ≡ 0 → l ≡ []
-      go [] e = refl
-      go (x ∷ xs) e = absurd (omega arith)
+pub some-starts : (starts : List ℕ) → (length starts ≡ 0 → ⊥) → 0 < length starts
+some-starts starts n = ⊎-elim (λ (h : 0 < length starts). h) (λ (h : length starts ≤ 0). absurd (n (omega arith))) (below? 0 (length starts))
 
 -- ---- room
 

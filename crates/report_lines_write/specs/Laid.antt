@@ -23,19 +23,16 @@ stretchIn w b g = slice (boundIn w b g) (boundIn w b (g + 1)) w
 abbrev pub someIn : List ℕ → ℕ → ℕ → Bool
 someIn w b g = ltb (boundIn w b g) (boundIn w b (g + 1))
 
--- the stretches of k groups, and those that have an entry
-abbrev pub stretchesIn : List ℕ → ℕ → ℕ → List (List ℕ)
-stretchesIn w b k = map (stretchIn w b) (upFrom 0 k)
-
+-- the groups among the first k that have an entry
 abbrev pub somes : List ℕ → ℕ → ℕ → List ℕ
 somes w b k = keep (someIn w b) (upFrom 0 k)
 
 -- where these begin
-abbrev pub startsIn : List ℕ → ℕ → ℕ → List ℕ
-startsIn w b k = map (boundIn w b) (somes w b k)
+abbrev pub someStarts : List ℕ → ℕ → ℕ → List ℕ
+someStarts w b k = map (boundIn w b) (somes w b k)
 
 -- a slice with areas of c numbers, the tag's 16 keys from 2c on and then the boundaries
-pub record Laid (w : List ℕ) (c groups : ℕ) : Type 0 where
+pub record StretchesLaid (w : List ℕ) (c groups : ℕ) : Type 0 where
   pub long : 3 * c + 18 ≤ length w
   pub few : c ≤ 131072
   pub fit : groups ≤ c

@@ -21,14 +21,14 @@ use Rattle.sorting_spec.specs.Lex.{lexLe}
 use Rattle.sorting_spec.specs.Joined.{untilZero, nameOf, join}
 use Rattle.sorting_texts.specs.Text.{entryText}
 use Rattle.sorting_spec.specs.PartLaws.{at-slice}
-use Rattle.sorting_texts.specs.EntryLaws.{Whole, until-padded}
+use Rattle.sorting_texts.specs.EntryLaws.{ZeroFree, until-padded}
 use Rattle.protein_groups_members.specs.Members.{Member}
 use Rattle.report_lines_spec.specs.Line.{tagged, inGroup, groupText, holds, applies, applying, lineText, countOf, lineCount}
 use Rattle.report_lines_spec.specs.StretchLaws.{length-keys}
 use Rattle.report_lines_spec.specs.Stretches.{entry, tagKeys, byText, gatheredOf, stretchOf, Stretched}
-use Rattle.report_lines_write.specs.Laid.{boundIn, stretchIn, someIn, somes, textIn, lineIn, countIn, Laid}
+use Rattle.report_lines_write.specs.Laid.{boundIn, stretchIn, someIn, somes, textIn, lineIn, countIn, StretchesLaid}
 use Rattle.report_lines_write.specs.ListLaws.{flat-up}
-use Rattle.report_lines_write.specs.TextLaws.{Evens, front}
+use Rattle.report_lines_write.specs.TextLaws.{Evens, flat-front}
 
 -- ---- the tag among the keys
 
@@ -37,7 +37,7 @@ pub record Tag (tag : List ℕ) : Type 0 where
   pub short : length tag ≤ 16
   pub shown : (i : ℕ) → i < length tag → (33 ≤ getD tag i 0) × (getD tag i 0 ≤ 126)
 
-tag-whole : (tag : List ℕ) → Tag tag → Whole tag
+tag-whole : (tag : List ℕ) → Tag tag → ZeroFree tag
 tag-whole tag t i h e = omega (arith, t .shown i h .0)
 
 keys-small : (tag : List ℕ) → Tag tag → (i : ℕ) → i < 16 → getD (tagKeys tag) i 0 < 256
@@ -144,7 +144,7 @@ module _ (names : List ℕ) (ms : List Member) (marks list : List ℕ) (decoy : 
   tag-there i h = sym (at-slice (2 * c) (2 * c + 16) w i (omega arith)) ∙ ap (λ (l : List ℕ). getD l i 0) (s .tagged)
 
   -- THE LAW of how they stand
-  pub stretched-laid : Laid w c (length marks)
+  pub stretched-laid : StretchesLaid w c (length marks)
   stretched-laid = record {
     long = s .long;
     few = few;
@@ -165,7 +165,7 @@ module _ (names : List ℕ) (ms : List Member) (marks list : List ℕ) (decoy : 
       let hi : ℕ = boundIn w (2 * c + 16) (g + 1) in
       let e : g + 1 + (length marks - (g + 1)) ≡ length marks = omega arith in
       let fr : take hi (flat (length marks)) ≡ flat (g + 1) =
-      ap (λ (k : ℕ). take hi (flat k)) (sym e) ∙ front st (boundIn w (2 * c + 16)) first-is (length marks) adds (length marks - (g + 1)) (g + 1) (omega arith) in
+      ap (λ (k : ℕ). take hi (flat k)) (sym e) ∙ flat-front st (boundIn w (2 * c + 16)) first-is (length marks) adds (length marks - (g + 1)) (g + 1) (omega arith) in
       let up : hi ≤ n = omega (arith, ap length fr, length-take hi (flat (length marks)), bound-is (g + 1) (omega arith)) in
       let whole : take hi w ≡ flat g ++ st g = sym (take-take hi n w up) ∙ ap (take hi) (s .listed) ∙ fr ∙ ap flat (add-one g) ∙ flat-up st g in
       ap (drop (boundIn w (2 * c + 16) g)) whole ∙ drop-at (flat g) (st g) (boundIn w (2 * c + 16) g) (sym (bound-is g (omega arith)))

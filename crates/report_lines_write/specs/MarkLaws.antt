@@ -14,15 +14,15 @@ use Rattle.lists.specs.Tests.{below?}
 use Rattle.lists.specs.Lists.{upFrom, keep}
 use Rattle.sorting_spec.specs.PartLaws.{at-drop, slice-same, slice-join, slice-snoc, slice-set}
 use Rattle.report_lines_spec.specs.Stretches.{lasted}
-use Rattle.report_lines_write.specs.Laid.{boundIn, stretchIn, someIn, startsIn, Laid}
+use Rattle.report_lines_write.specs.Laid.{boundIn, stretchIn, someIn, someStarts, StretchesLaid}
 use Rattle.report_lines_write.specs.ListLaws.{flat-up, kept-up, lasted-snoc}
 
 -- boundaries rise
-pub below-bound : (w : List ℕ) (c groups : ℕ) → Laid w c groups → (k g : ℕ) → g + k ≡ groups → boundIn w (2 * c + 16) g ≤ boundIn w (2 * c + 16) groups
+pub below-bound : (w : List ℕ) (c groups : ℕ) → StretchesLaid w c groups → (k g : ℕ) → g + k ≡ groups → boundIn w (2 * c + 16) g ≤ boundIn w (2 * c + 16) groups
 below-bound w c groups l zero g e = let z : g ≡ groups = omega arith in rw z (omega arith)
 below-bound w c groups l (suc k) g e = omega (arith, l .rising g (omega arith), below-bound w c groups l k (g + 1) (omega arith))
 
-pub bound-within : (w : List ℕ) (c groups g : ℕ) → Laid w c groups → g ≤ groups → boundIn w (2 * c + 16) g ≤ boundIn w (2 * c + 16) groups
+pub bound-within : (w : List ℕ) (c groups g : ℕ) → StretchesLaid w c groups → g ≤ groups → boundIn w (2 * c + 16) g ≤ boundIn w (2 * c + 16) groups
 bound-within w c groups g l h = below-bound w c groups l (groups - g) g (omega arith)
 
 -- the slice with a group's last entry marked and its start noted
@@ -30,18 +30,18 @@ abbrev pub marked : ℕ → ℕ → ℕ → ℕ → List ℕ → List ℕ
 marked c b g count w = cond (someIn w b g) (set (set w (boundIn w b (g + 1) - 1) (getD w (boundIn w b (g + 1) - 1) 0 + 1)) (c + count) (boundIn w b g)) w
 
 -- after g groups of w₀, with `count` starts noted
-pub record Marked (w₀ : List ℕ) (c g : ℕ) (w : List ℕ) (count : ℕ) : Type 0 where
+pub record LastsMarked (w₀ : List ℕ) (c g : ℕ) (w : List ℕ) (count : ℕ) : Type 0 where
   pub as-long : length w ≡ length w₀
   pub behind : drop (2 * c) w ≡ drop (2 * c) w₀
   pub ahead : (i : ℕ) → boundIn w₀ (2 * c + 16) g ≤ i → i < c → getD w i 0 ≡ getD w₀ i 0
   pub done : take (boundIn w₀ (2 * c + 16) g) w ≡ flatten (map (λ (k : ℕ). lasted (stretchIn w₀ (2 * c + 16) k)) (upFrom 0 g))
-  pub starts : slice c (c + count) w ≡ startsIn w₀ (2 * c + 16) g
+  pub starts : slice c (c + count) w ≡ someStarts w₀ (2 * c + 16) g
   pub counted : count ≤ g
 
 -- before the first group
-pub marked-none : (w : List ℕ) (c groups : ℕ) → Laid w c groups → Marked w c 0 w 0
+pub lasts-none : {w : List ℕ} {c groups : ℕ} → StretchesLaid w c groups → LastsMarked w c 0 w 0
 unfolding flatten
-marked-none w c groups l = record {
+lasts-none {w} {c} {groups} l = record {
   as-long = refl;
   behind = refl;
   ahead = λ i h k. refl;
@@ -50,7 +50,7 @@ marked-none w c groups l = record {
   counted = omega arith;
 }
 
-module _ (w₀ : List ℕ) (c groups : ℕ) (l : Laid w₀ c groups) (g : ℕ) (few : g < groups) (w : List ℕ) (count : ℕ) (m : Marked w₀ c g w count) where
+module _ {w₀ : List ℕ} {c groups : ℕ} (l : StretchesLaid w₀ c groups) {g : ℕ} (few : g < groups) {w : List ℕ} {count : ℕ} (m : LastsMarked w₀ c g w count) where
   abbrev lo : ℕ
   lo = boundIn w₀ (2 * c + 16) g
 
@@ -67,14 +67,14 @@ module _ (w₀ : List ℕ) (c groups : ℕ) (l : Laid w₀ c groups) (g : ℕ) (
   one-more : upFrom 0 (g + 1) ≡ upFrom 0 (suc g)
   one-more = ap (upFrom 0) (add-one g)
 
-  kept : startsIn w₀ (2 * c + 16) (g + 1) ≡ startsIn w₀ (2 * c + 16) g ++ cond (someIn w₀ (2 * c + 16) g) (lo ∷ []) []
+  kept : someStarts w₀ (2 * c + 16) (g + 1) ≡ someStarts w₀ (2 * c + 16) g ++ cond (someIn w₀ (2 * c + 16) g) (lo ∷ []) []
   kept = ap (λ (u : List ℕ). map (boundIn w₀ (2 * c + 16)) (keep (someIn w₀ (2 * c + 16)) u)) one-more ∙ kept-up (someIn w₀ (2 * c + 16)) (boundIn w₀ (2 * c + 16)) g
 
   flat : flatten (map (λ (k : ℕ). lasted (stretchIn w₀ (2 * c + 16) k)) (upFrom 0 (g + 1))) ≡ flatten (map (λ (k : ℕ). lasted (stretchIn w₀ (2 * c + 16) k)) (upFrom 0 g)) ++ lasted (slice lo hi w₀)
   flat = ap (λ (u : List ℕ). flatten (map (λ (k : ℕ). lasted (stretchIn w₀ (2 * c + 16) k)) u)) one-more ∙ flat-up (λ (k : ℕ). lasted (stretchIn w₀ (2 * c + 16) k)) g
 
   -- an empty stretch
-  mark-none : hi ≤ lo → Marked w₀ c (g + 1) w count
+  mark-none : hi ≤ lo → LastsMarked w₀ c (g + 1) w count
   mark-none h =
       let e : lo ≡ hi = omega (arith, l .rising g few) in
       let nil : slice lo hi w₀ ≡ [] = ap (λ (k : ℕ). slice k hi w₀) e ∙ slice-empty hi w₀ in
@@ -84,7 +84,7 @@ module _ (w₀ : List ℕ) (c groups : ℕ) (l : Laid w₀ c groups) (g : ℕ) (
         behind = m .behind;
         ahead = λ i p q. m .ahead i (omega arith) q;
         done = ap (λ (k : ℕ). take k w) (sym e) ∙ m .done ∙ sym (append-nil f) ∙ ap (λ (x : List ℕ). f ++ lasted x) (sym nil) ∙ sym flat;
-        starts = m .starts ∙ sym (append-nil (startsIn w₀ (2 * c + 16) g)) ∙ ap (λ (t : Bool). startsIn w₀ (2 * c + 16) g ++ cond t (lo ∷ []) []) (sym (le-ltb lo hi h)) ∙ sym kept;
+        starts = m .starts ∙ sym (append-nil (someStarts w₀ (2 * c + 16) g)) ∙ ap (λ (t : Bool). someStarts w₀ (2 * c + 16) g ++ cond t (lo ∷ []) []) (sym (le-ltb lo hi h)) ∙ sym kept;
         counted = omega (arith, m .counted);
       }
 
@@ -117,7 +117,7 @@ module _ (w₀ : List ℕ) (c groups : ℕ) (l : Laid w₀ c groups) (g : ℕ) (
         ∙ ap (λ (x : List ℕ). x ++ (lo ∷ []))
         (slice-same c (c + count) (set w p v) w (omega (arith, length-set w p v)) (omega arith) (λ i q r. getD-set-other w p i v 0 (λ (z : i ≡ p). omega (arith, high))))
 
-    mark-some : Marked w₀ c (g + 1) (set (set w p v) (c + count) lo) (count + 1)
+    mark-some : LastsMarked w₀ c (g + 1) (set (set w p v) (c + count) lo) (count + 1)
     mark-some = record {
       as-long = length-set (set w p v) (c + count) lo ∙ length-set w p v ∙ m .as-long;
       behind =
@@ -129,7 +129,7 @@ module _ (w₀ : List ℕ) (c groups : ℕ) (l : Laid w₀ c groups) (g : ℕ) (
           ∙ getD-set-other w p i v 0 (λ (z : i ≡ p). omega arith)
           ∙ m .ahead i (omega arith) r;
       done = last-marked ∙ ap (λ (x : List ℕ). x ++ lasted (slice lo hi w₀)) (m .done) ∙ sym flat;
-      starts = noted ∙ ap (λ (x : List ℕ). x ++ (lo ∷ [])) (m .starts) ∙ ap (λ (t : Bool). startsIn w₀ (2 * c + 16) g ++ cond t (lo ∷ []) []) (sym (lt-ltb lo hi h)) ∙ sym kept;
+      starts = noted ∙ ap (λ (x : List ℕ). x ++ (lo ∷ [])) (m .starts) ∙ ap (λ (t : Bool). someStarts w₀ (2 * c + 16) g ++ cond t (lo ∷ []) []) (sym (lt-ltb lo hi h)) ∙ sym kept;
       counted = omega (arith, m .counted);
     }
 
@@ -148,13 +148,13 @@ module _ (w₀ : List ℕ) (c groups : ℕ) (l : Laid w₀ c groups) (g : ℕ) (
       rw (bound-kept (g + 1)) (omega (arith, r (hi - 1), m .ahead (hi - 1) (omega arith) (omega (arith, high))))
 
   -- THE LAW of a turn
-  pub mark-turn : Marked w₀ c (g + 1) (marked c (2 * c + 16) g count w) (cond (someIn w (2 * c + 16) g) (count + 1) count)
+  pub mark-turn : LastsMarked w₀ c (g + 1) (marked c (2 * c + 16) g count w) (cond (someIn w (2 * c + 16) g) (count + 1) count)
   mark-turn = rw (bound-kept g, bound-kept (g + 1)) (⊎-elim more none (below? lo hi))
     where
-      none : hi ≤ lo → Marked w₀ c (g + 1) (cond (ltb lo hi) (set (set w (hi - 1) (getD w (hi - 1) 0 + 1)) (c + count) lo) w) (cond (ltb lo hi) (count + 1) count)
+      none : hi ≤ lo → LastsMarked w₀ c (g + 1) (cond (ltb lo hi) (set (set w (hi - 1) (getD w (hi - 1) 0 + 1)) (c + count) lo) w) (cond (ltb lo hi) (count + 1) count)
       none h = rw (le-ltb lo hi h) (mark-none h)
 
-      more : lo < hi → Marked w₀ c (g + 1) (cond (ltb lo hi) (set (set w (hi - 1) (getD w (hi - 1) 0 + 1)) (c + count) lo) w) (cond (ltb lo hi) (count + 1) count)
+      more : lo < hi → LastsMarked w₀ c (g + 1) (cond (ltb lo hi) (set (set w (hi - 1) (getD w (hi - 1) 0 + 1)) (c + count) lo) w) (cond (ltb lo hi) (count + 1) count)
       more h =
           rw (lt-ltb lo hi h)
           (mark-some h (hi - 1) (getD w (hi - 1) 0 + 1) (omega arith) (add-one (getD w (hi - 1) 0) ∙ ap suc (m .ahead (hi - 1) (omega arith) (omega (arith, high)))))

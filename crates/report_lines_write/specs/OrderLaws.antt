@@ -18,20 +18,20 @@ use Rattle.sorting_spec.specs.PartLaws.{rest-all}
 use Rattle.sorting_slices.specs.Sorting.{fitting, arranged}
 use Rattle.sorting_slices.specs.SortingLaws.{order-fitting, length-arranged, arranged-sorted, arranged-drop}
 use Rattle.report_lines_spec.specs.Line.{countOf}
-use Rattle.report_lines_write.specs.Laid.{boundIn, somes, textIn, lineIn, countIn, Laid}
-use Rattle.report_lines_write.specs.ReadyLaws.{Ready, ready-texts}
+use Rattle.report_lines_write.specs.Laid.{boundIn, somes, textIn, lineIn, countIn, StretchesLaid}
+use Rattle.report_lines_write.specs.ReadyLaws.{TextsReady, ready-texts}
 use Rattle.report_lines_write.specs.SizeLaws.{line-short}
 use Rattle.report_lines_texts.specs.WriteLaws.{put-fits}
 
 -- the texts of the first `count` numbers are the line's, in its order
-pub record Lined (names w₀ : List ℕ) (c groups : ℕ) (w : List ℕ) (count : ℕ) : Type 0 where
+pub record LineOrdered (names w₀ : List ℕ) (c groups : ℕ) (w : List ℕ) (count : ℕ) : Type 0 where
   pub as-long : length w ≡ length w₀
   pub counted : count ≤ groups
   pub texts : join 59 (map (joinedText names (drop (2 * c) w)) (take count w)) ≡ lineIn names w₀ c groups
   pub as-many : length (take count w) ≡ length (somes w₀ (2 * c + 16) groups)
   pub small : (i : ℕ) → i < 16 → getD (drop (2 * c) w) i 0 < 256
 
-module _ (names w₀ : List ℕ) (c groups : ℕ) (l : Laid w₀ c groups) (w : List ℕ) (count : ℕ) (r : Ready w₀ c groups w count) where
+module _ (names : List ℕ) {w₀ : List ℕ} {c groups : ℕ} (l : StretchesLaid w₀ c groups) {w : List ℕ} {count : ℕ} (r : TextsReady w₀ c groups w count) where
   pub sort-fits : fitting 0 count c (2 * c) (length w) ≡ true
   sort-fits =
       order-fitting 0 count c (2 * c) (length w) (omega arith) (omega (arith, r .counted, l .fit)) (omega (arith, r .counted, l .fit)) (omega (arith, r .as-long, l .long))
@@ -66,9 +66,9 @@ module _ (names w₀ : List ℕ) (c groups : ℕ) (l : Laid w₀ c groups) (w : 
       rw e (l .small i h)
 
   -- THE LAW of the order
-  pub ordered : Lined names w₀ c groups (arranged Joined names 0 count c (2 * c) w) count
+  pub line-ordered : LineOrdered names w₀ c groups (arranged Joined names 0 count c (2 * c) w) count
   unfolding lineIn
-  ordered = record {
+  line-ordered = record {
     as-long = same-length ∙ r .as-long;
     counted = r .counted;
     texts = ap (join 59) text-order;
@@ -91,7 +91,7 @@ pub front-all : (n : ℕ) (w : List ℕ) → take (n - 0) (drop 0 w) ≡ take n 
 front-all n w = ap (λ (k : ℕ). take k w) (sub-zero n)
 
 -- THE LAW of the line
-pub lined-line : (names w₀ : List ℕ) (c groups : ℕ) (w : List ℕ) (count : ℕ) → Lined names w₀ c groups w count → (old new : List ℕ) (bytes semis : ℕ)
+pub lined-line : (names w₀ : List ℕ) (c groups : ℕ) (w : List ℕ) (count : ℕ) → LineOrdered names w₀ c groups w count → (old new : List ℕ) (bytes semis : ℕ)
     → (new ≡ sets old 0 (join 59 (map (joinedText names (drop (2 * c) w)) (take count w)))) × (bytes ≡ length (join 59 (map (joinedText names (drop (2 * c) w)) (take count w)))) × (semis ≡ countOf (take count w) (join 59 (map (joinedText names (drop (2 * c) w)) (take count w))))
     → (new ≡ fitted 1 (length old) old (singly (lineIn names w₀ c groups))) × (bytes ≡ length (lineIn names w₀ c groups)) × (semis ≡ countIn names w₀ c groups)
 unfolding countIn
@@ -102,7 +102,7 @@ lined-line names w₀ c groups w count o old new bytes semis p = (
 )
 
 -- the parts of the slice as they are lent
-module _ (names w₀ : List ℕ) (c groups : ℕ) (w : List ℕ) (count : ℕ) (o : Lined names w₀ c groups w count) where
+module _ {names w₀ : List ℕ} {c groups : ℕ} {w : List ℕ} {count : ℕ} (o : LineOrdered names w₀ c groups w count) where
   abbrev starts : List ℕ
   starts = take (count - 0) (drop 0 w)
 
@@ -112,7 +112,7 @@ module _ (names w₀ : List ℕ) (c groups : ℕ) (w : List ℕ) (count : ℕ) (
   lent : join 59 (map (joinedText names keys) starts) ≡ join 59 (map (joinedText names (drop (2 * c) w)) (take count w))
   lent = ap (λ (k : List ℕ). join 59 (map (joinedText names k) starts)) (rest-all (2 * c) w) ∙ ap (λ (s : List ℕ). join 59 (map (joinedText names (drop (2 * c) w)) s)) (front-all count w)
 
-  pub lined-fits : Laid w₀ c groups → ((i : ℕ) → i < 16 → getD (take (length w - 2 * c) (drop (2 * c) w)) i 0 < 256) × (length (join 59 (map (joinedText names (take (length w - 2 * c) (drop (2 * c) w))) (take (count - 0) (drop 0 w)))) < 4294967295)
+  pub lined-fits : StretchesLaid w₀ c groups → ((i : ℕ) → i < 16 → getD (take (length w - 2 * c) (drop (2 * c) w)) i 0 < 256) × (length (join 59 (map (joinedText names (take (length w - 2 * c) (drop (2 * c) w))) (take (count - 0) (drop 0 w)))) < 4294967295)
   lined-fits l = (
     λ i h. rw (rest-all (2 * c) w) (o .small i h),
     omega (arith, ap length (lent ∙ o .texts), line-short names w₀ c groups l),

@@ -2,6 +2,7 @@
 use Prim.Native.Nat.{ℕ, suc, _+_, _-_, _*_, _/_, _%_, _≤_, _<_}
 use mathlib.Core.Path.{_≡_, sym, ap, _∙_}
 use mathlib.Core.Bool.{true, cond}
+use mathlib.Core.Logic.{inl, inr}
 use mathlib.Core.List.{List, [], _∷_, _++_, flatten, map, map-map}
 use native.Mathlib.Omega.{arith}
 use native.Mathlib.Nat.{zero-add}
@@ -16,19 +17,19 @@ use Rattle.sorting_spec.specs.Joined.{untilZero, nameOf, join}
 use Rattle.sorting_texts.specs.Text.{entryText, joinedText}
 use Rattle.sorting_spec.specs.PartLaws.{at-drop, at-slice, slice-same}
 use Rattle.report_lines_spec.specs.Stretches.{lasted}
-use Rattle.report_lines_write.specs.Laid.{boundIn, stretchIn, someIn, somes, startsIn, textIn, Laid}
+use Rattle.report_lines_write.specs.Laid.{boundIn, stretchIn, someIn, somes, someStarts, textIn, StretchesLaid}
 use Rattle.report_lines_write.specs.ListLaws.{length-lasted}
-use Rattle.report_lines_write.specs.MarkLaws.{bound-within, Marked}
-use Rattle.report_lines_write.specs.CopyLaws.{Copied, copied-part}
+use Rattle.report_lines_write.specs.MarkLaws.{bound-within, LastsMarked}
+use Rattle.report_lines_write.specs.CopyLaws.{NumbersCopied, copied-part}
 use Rattle.report_lines_write.specs.TextLaws.{Evens, text-there, flat-at}
 
 -- the stretches with their last entries marked, one behind the other
 abbrev pub lastedIn : List ℕ → ℕ → ℕ → List ℕ
 lastedIn w b k = flatten (map (λ (g : ℕ). lasted (stretchIn w b g)) (upFrom 0 k))
 
-pub record Ready (w₀ : List ℕ) (c groups : ℕ) (w : List ℕ) (count : ℕ) : Type 0 where
+pub record TextsReady (w₀ : List ℕ) (c groups : ℕ) (w : List ℕ) (count : ℕ) : Type 0 where
   pub as-long : length w ≡ length w₀
-  pub starts : take count w ≡ startsIn w₀ (2 * c + 16) groups
+  pub starts : take count w ≡ someStarts w₀ (2 * c + 16) groups
   pub counted : count ≤ groups
   pub tag : take 16 (drop (2 * c) w) ≡ take 16 (drop (2 * c) w₀)
   pub entries : take (boundIn w₀ (2 * c + 16) groups) (drop (2 * c + 16) w) ≡ lastedIn w₀ (2 * c + 16) groups
@@ -44,40 +45,40 @@ part-same n m k x y hx hy f =
     long : (j : ℕ) (z : List ℕ) → j + n ≤ length z → length (take n (drop j z)) ≡ n
     long j z h = length-take-le n (drop j z) (omega (arith, length-drop j z))
 
-module _ (w₀ : List ℕ) (c groups : ℕ) (l : Laid w₀ c groups) (w₁ : List ℕ) (count : ℕ) (m : Marked w₀ c groups w₁ count) (w₂ : List ℕ) (p : Copied w₁ 0 (2 * c + 16) (boundIn w₀ (2 * c + 16) groups) w₂)
-    (w₃ : List ℕ) (q : Copied w₂ c 0 count w₃) where
-  ready-starts : take count w₃ ≡ startsIn w₀ (2 * c + 16) groups
+module _ {w₀ : List ℕ} {c groups : ℕ} (l : StretchesLaid w₀ c groups) {w₁ : List ℕ} {count : ℕ} (m : LastsMarked w₀ c groups w₁ count) {w₂ : List ℕ} (p : NumbersCopied w₁ 0 (2 * c + 16) (boundIn w₀ (2 * c + 16) groups) w₂)
+    {w₃ : List ℕ} (q : NumbersCopied w₂ c 0 count w₃) where
+  ready-starts : take count w₃ ≡ someStarts w₀ (2 * c + 16) groups
   ready-starts =
       let z : 0 + count ≡ count = zero-add count in
       ap (λ (k : ℕ). slice 0 k w₃) (sym z)
       ∙ copied-part w₂ c 0 count w₃ (omega (arith, p .as-long, m .as-long, l .long, m .counted, l .fit)) (omega (arith, p .as-long, m .as-long, l .long, m .counted, l .fit)) q
       ∙ slice-same c (c + count) w₂ w₁ (omega (arith, p .as-long, m .as-long, l .long, m .counted, l .fit)) (omega (arith, m .as-long, l .long, m .counted, l .fit))
-      (λ i h k. p .before i (omega (arith, m .counted, l .fit)))
+      (λ i h k. p .rest i (inl (omega (arith, m .counted, l .fit))))
       ∙ m .starts
 
   ready-tag : take 16 (drop (2 * c) w₃) ≡ take 16 (drop (2 * c) w₀)
   ready-tag =
       part-same 16 (2 * c) (2 * c) w₃ w₀ (omega (arith, q .as-long, p .as-long, m .as-long, l .long)) (omega (arith, l .long))
       (λ i h.
-      q .behind (2 * c + i) (omega (arith, m .counted, l .fit))
-      ∙ p .before (2 * c + i) (omega arith)
+      q .rest (2 * c + i) (inr (omega (arith, m .counted, l .fit)))
+      ∙ p .rest (2 * c + i) (inl (omega arith))
       ∙ at-drop (2 * c) w₁ w₀ (m .behind) (2 * c + i) (omega arith))
 
   ready-entries : take (boundIn w₀ (2 * c + 16) groups) (drop (2 * c + 16) w₃) ≡ lastedIn w₀ (2 * c + 16) groups
   ready-entries =
       part-same (boundIn w₀ (2 * c + 16) groups) (2 * c + 16) 0 w₃ w₁ (omega (arith, q .as-long, p .as-long, m .as-long, l .long, l .within)) (omega (arith, m .as-long, l .long, l .within))
-      (λ i h. q .behind (2 * c + 16 + i) (omega (arith, m .counted, l .fit)) ∙ p .copied i h)
+      (λ i h. q .rest (2 * c + 16 + i) (inr (omega (arith, m .counted, l .fit))) ∙ p .copied i h)
       ∙ m .done
 
   -- THE LAW of what is ready
-  pub ready : Ready w₀ c groups w₃ count
-  ready = record { as-long = q .as-long ∙ p .as-long ∙ m .as-long; starts = ready-starts; counted = m .counted; tag = ready-tag; entries = ready-entries }
+  pub texts-ready : TextsReady w₀ c groups w₃ count
+  texts-ready = record { as-long = q .as-long ∙ p .as-long ∙ m .as-long; starts = ready-starts; counted = m .counted; tag = ready-tag; entries = ready-entries }
 
 evens-of : (xs : List ℕ) → ((i : ℕ) → i < length xs → getD xs i 0 % 2 ≡ 0) → Evens xs
 evens-of [] h = tt
 evens-of (x ∷ xs) h = (h 0 (omega arith), evens-of xs (λ i k. h (suc i) (omega arith)))
 
-module _ (w₀ : List ℕ) (c groups : ℕ) (l : Laid w₀ c groups) where
+module _ (w₀ : List ℕ) (c groups : ℕ) (l : StretchesLaid w₀ c groups) where
   stretch-length : (g : ℕ) → g < groups → length (stretchIn w₀ (2 * c + 16) g) ≡ boundIn w₀ (2 * c + 16) (g + 1) - boundIn w₀ (2 * c + 16) g
   stretch-length g h =
       length-slice (boundIn w₀ (2 * c + 16) g) (boundIn w₀ (2 * c + 16) (g + 1)) w₀ (omega (arith, bound-within w₀ c groups (g + 1) l (omega arith), l .within, l .long))
@@ -93,7 +94,7 @@ module _ (w₀ : List ℕ) (c groups : ℕ) (l : Laid w₀ c groups) where
       let e : getD (stretchIn w₀ (2 * c + 16) g) i 0 ≡ getD w₀ (boundIn w₀ (2 * c + 16) g + i) 0 = at-slice (boundIn w₀ (2 * c + 16) g) (boundIn w₀ (2 * c + 16) (g + 1)) w₀ i r in
       rw e (l .even (boundIn w₀ (2 * c + 16) g + i) (omega (arith, bound-within w₀ c groups (g + 1) l (omega arith)))))
 
-  module _ (w : List ℕ) (count : ℕ) (r : Ready w₀ c groups w count) (names : List ℕ) where
+  module _ (w : List ℕ) (count : ℕ) (r : TextsReady w₀ c groups w count) (names : List ℕ) where
     tagged-alike : (s : List ℕ) → join 47 (map (entryText names (drop (2 * c) w)) s) ≡ join 47 (map (entryText names (drop (2 * c) w₀)) s)
     tagged-alike s = ap (λ (t : List ℕ). join 47 (map (λ (x : ℕ). cond (eqb (x / 2 % 2) 1) (untilZero t) [] ++ untilZero (nameOf names (x / 4))) s)) (r .tag)
 

@@ -14,7 +14,7 @@ use Rattle.sorting_spec.specs.Lex.{lexLe}
 use Rattle.sorting_spec.specs.Joined.{joinAfter, join}
 use Rattle.sorting_texts.specs.Text.{entryText}
 use Rattle.sorting_texts.specs.EntryLaws.{entry-short}
-use Rattle.report_lines_write.specs.Laid.{boundIn, stretchIn, someIn, somes, textIn, lineIn, Laid}
+use Rattle.report_lines_write.specs.Laid.{boundIn, stretchIn, someIn, somes, textIn, lineIn, StretchesLaid}
 use Rattle.report_lines_write.specs.ListLaws.{kept-up}
 use Rattle.report_lines_write.specs.ReadyLaws.{stretch-adds}
 
@@ -53,7 +53,7 @@ text-short : (names keys xs : List ℕ) → 0 < length xs → suc (length (join 
 text-short names keys [] h = absurd (omega arith)
 text-short names keys (x ∷ xs) h = omega (arith, length-append (entryText names keys x) (joinAfter 47 (map (entryText names keys) xs)), entry-short names keys x, entries-short names keys xs)
 
-module _ (names w : List ℕ) (c groups : ℕ) (l : Laid w c groups) where
+module _ (names w : List ℕ) (c groups : ℕ) (l : StretchesLaid w c groups) where
   -- one group more
   text-more : (k : ℕ) (ts : List (List ℕ)) → k < groups → length (joinAfter 59 ts) ≤ 81 * boundIn w (2 * c + 16) k
       → length (joinAfter 59 (ts ++ cond (someIn w (2 * c + 16) k) (textIn names w c k ∷ []) [])) ≤ 81 * boundIn w (2 * c + 16) (k + 1)

@@ -53,16 +53,16 @@ module _ (f : ℕ → List ℕ) (bound : ℕ → ℕ) (first : bound 0 ≡ 0) wh
         ap length (flat-up f k) ∙ length-append (flat k) (f k) ∙ omega (arith, flat-length k (omega arith), each k (omega arith), ap bound (add-one k))
 
     -- a front of them
-    pub front : (d g : ℕ) → g + d ≤ groups → take (bound g) (flat (g + d)) ≡ flat g
-    front zero g h =
+    pub flat-front : (d g : ℕ) → g + d ≤ groups → take (bound g) (flat (g + d)) ≡ flat g
+    flat-front zero g h =
         let e : g + 0 ≡ g = omega arith in
         ap (λ (k : ℕ). take (bound g) (flat k)) e ∙ take-all (bound g) (flat g) (omega (arith, flat-length g (omega arith)))
-    front (suc d) g h =
+    flat-front (suc d) g h =
         let e : g + suc d ≡ suc (g + d) = omega arith in
         ap (λ (k : ℕ). take (bound g) (flat k)) e
         ∙ ap (take (bound g)) (flat-up f (g + d))
         ∙ take-append-le (bound g) (flat (g + d)) (f (g + d)) (omega (arith, flat-length (g + d) (omega arith), rises d g (omega arith)))
-        ∙ front d g (omega arith)
+        ∙ flat-front d g (omega arith)
       where
         rises : (d g : ℕ) → g + d ≤ groups → bound g ≤ bound (g + d)
         rises zero g h = let e : g + 0 ≡ g = omega arith in omega (arith, ap bound e)
@@ -77,7 +77,7 @@ module _ (f : ℕ → List ℕ) (bound : ℕ → ℕ) (first : bound 0 ≡ 0) wh
         let e : g + 1 + d ≡ groups = omega arith in
         let rest : List ℕ = drop (bound (g + 1)) (flat groups) in
         let p : take (bound (g + 1)) (flat groups) ≡ flat g ++ f g =
-        ap (λ (k : ℕ). take (bound (g + 1)) (flat k)) (sym e) ∙ front d (g + 1) (omega arith) ∙ ap flat (add-one g) ∙ flat-up f g in
+        ap (λ (k : ℕ). take (bound (g + 1)) (flat k)) (sym e) ∙ flat-front d (g + 1) (omega arith) ∙ ap flat (add-one g) ∙ flat-up f g in
         let whole : flat groups ≡ flat g ++ (f g ++ rest) =
         sym (take-append-drop (bound (g + 1)) (flat groups)) ∙ ap (λ (l : List ℕ). l ++ rest) p ∙ append-assoc (flat g) (f g) rest in
         ap (λ (l : List ℕ). drop (bound g) (l ++ more)) whole

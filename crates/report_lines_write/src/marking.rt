@@ -3,8 +3,8 @@ ghost use mathlib.Core.Path.{_≡_};
 ghost use mathlib.Core.Bool.{cond};
 ghost use Prim.Native.Nat.{_+_, _-_, _*_, _≤_, _<_};
 ghost use lib.ListN.{length, getD};
-ghost use Rattle.report_lines_write.specs.Laid.{boundIn, someIn, Laid};
-ghost use Rattle.report_lines_write.specs.MarkLaws.{marked, Marked};
+ghost use Rattle.report_lines_write.specs.Laid.{boundIn, someIn, StretchesLaid};
+ghost use Rattle.report_lines_write.specs.MarkLaws.{marked, LastsMarked};
 
 // Marks the last entry of stretch g, whose boundaries stand among those from b on, and puts where it begins behind the others from
 // c on; an empty one is passed over.
@@ -27,8 +27,8 @@ fn mark_one(w: &mut [u32], c: usize, b: usize, g: usize, count: usize) -> usize
 
 // Marks the last entry of each of so many stretches, and puts where those begin that have an entry from c on. Answers how many.
 pub(crate) fn mark_lasts(w: &mut [u32], c: usize, groups: usize) -> usize
-    requires { ⌜ Laid (now w) c groups ⌝ }
-    ensures { λ r. ⌜ Marked (now (w .entry)) c groups (now (w .exit)) r ⌝ }
+    requires { ⌜ StretchesLaid (now w) c groups ⌝ }
+    ensures { λ r. ⌜ LastsMarked (now (w .entry)) c groups (now (w .exit)) r ⌝ }
 {
     let b = 2 * c + 16;
     let mut count = 0;

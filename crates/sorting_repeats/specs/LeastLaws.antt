@@ -11,7 +11,7 @@ use native.Mathlib.Omega.{arith}
 use borrow.Author.Tests.{leb-true, leb-false, le-leb, lt-leb, lt-ltb, le-ltb, ltb-true}
 use lib.Dec.{leb}
 use lib.ListN.{length, getD, take, drop, replicate}
-use lib.Seq.{slice, slice-cons}
+use lib.Seq.{slice, slice-cons, length-take-le}
 use Rattle.lists.specs.Tests.{below?, both, clash}
 use Rattle.lists.specs.Lists.{same, upFrom}
 use Rattle.lists.specs.SameLaws.{same-refl, same-eq}
@@ -32,7 +32,7 @@ use Rattle.sorting_spec.specs.Repeats.{repeats, firstRepeat}
 use Rattle.sorting_repeats.specs.Repeating.{roomy, repeatOutcome}
 use Rattle.sorting_spec.specs.PartLaws.{drop-same, at-drop}
 use Rattle.sorting_spec.specs.RepeatLaws.{Second, Later, sound, complete}
-use Rattle.sorting_merge.specs.RangeLaws.{Ranged}
+use Rattle.sorting_merge.specs.RangeLaws.{SortedRange}
 
 module _ (le : ℕ → ℕ → Bool) where
   -- the least so far, after x behind p
@@ -96,11 +96,11 @@ module _ (le : ℕ → ℕ → Bool) where
   least-is b (x ∷ xs) = from-is b x xs
 
   -- a turn of the code
-  pub turn : (w : List ℕ) (i hi b p : ℕ) → i < hi → hi ≤ length w → leastFrom b p (slice i hi w) ≡ leastFrom (lesser b p (getD w i 0)) (getD w i 0) (slice (i + 1) hi w)
-  turn w i hi b p h k = rw (add-one i, slice-cons i hi w 0 h k)
+  pub least-turn : (w : List ℕ) (i hi b p : ℕ) → i < hi → hi ≤ length w → leastFrom b p (slice i hi w) ≡ leastFrom (lesser b p (getD w i 0)) (getD w i 0) (slice (i + 1) hi w)
+  least-turn w i hi b p h k = rw (add-one i, slice-cons i hi w 0 h k)
 
-  pub begin : (w : List ℕ) (lo hi b : ℕ) → lo < hi → hi ≤ length w → least b (slice lo hi w) ≡ leastFrom b (getD w lo 0) (slice (lo + 1) hi w)
-  begin w lo hi b h k = rw (add-one lo, slice-cons lo hi w 0 h k)
+  pub least-begin : (w : List ℕ) (lo hi b : ℕ) → lo < hi → hi ≤ length w → least b (slice lo hi w) ≡ leastFrom b (getD w lo 0) (slice (lo + 1) hi w)
+  least-begin w lo hi b h k = rw (add-one lo, slice-cons lo hi w 0 h k)
 
 -- THE LAW: of the sorted numbers below n, `least n` is the first that has an equal before it among them, or n
 module _ (le : ℕ → ℕ → Bool) (o : Orders le) where
@@ -135,8 +135,8 @@ up-later le i a (suc k) (inl h) = let r = up-in i (suc a) k (h .2) in (a, omega 
 up-later le i a (suc k) (inr h) = let r = up-later le i (suc a) k h in (r .0, r .1, omega arith, r .3, r .4)
 
 -- THE LAW: what one pass over the sorted numbers finds is the first repeat
-pub found : (text : ℕ → List ℕ) (n : ℕ) → FirstRepeat text n (least (λ (a b : ℕ). lexLe (text a) (text b)) n (sorted (λ (a b : ℕ). lexLe (text a) (text b)) (upFrom 0 n)))
-found text n = record {
+pub first-found : (text : ℕ → List ℕ) (n : ℕ) → FirstRepeat text n (least (λ (a b : ℕ). lexLe (text a) (text b)) n (sorted (λ (a b : ℕ). lexLe (text a) (text b)) (upFrom 0 n)))
+first-found text n = record {
   low = λ i h r. first-low le o n i (later-up le i (r .0) 0 n (omega arith) (r .1) (omega arith) (same (r .2)) (same (sym (r .2))));
   is = ⊎-elim (λ e. inl e) (λ h. let r = up-later le (least le n (sorted le (upFrom 0 n))) 0 n h in inr (omega (arith, r .2), (r .0, r .1, lex-antisym (text (r .0)) (text (least le n (sorted le (upFrom 0 n)))) (r .3) (r .4)))) (first-is le o n);
 }
@@ -184,17 +184,21 @@ module _ (text : ℕ → List ℕ) where
 -- ---- for the code
 
 -- counted up, sorted and passed over, n names give the first that repeats
-pub repeated : (names w₁ w₂ : List ℕ) (n r : ℕ) → take n w₁ ≡ upFrom 0 n → Ranged (leBy Name names) w₁ w₂ 0 n n (n + n)
+pub repeated : (names w₁ w₂ : List ℕ) (n r : ℕ) → take n w₁ ≡ upFrom 0 n → SortedRange (leBy Name names) w₁ w₂ 0 n n (n + n)
     → r ≡ least (leBy Name names (drop (n + n) w₂)) n (slice 0 n w₂) → r ≡ firstRepeat (nameOf names) n
 repeated names w₁ w₂ n r c s f =
     let le : ℕ → ℕ → Bool = λ (a b : ℕ). lexLe (nameOf names a) (nameOf names b) in
     let z : r ≡ least le n (sorted le (upFrom 0 n)) = f ∙ ap (least le n) (s .sorts ∙ ap (sorted le) c) in
-    first-only (nameOf names) n r (rw z (found (nameOf names) n))
+    first-only (nameOf names) n r (rw z (first-found (nameOf names) n))
 
-pub repeated-rest : (names w₀ w₁ w₂ : List ℕ) (n : ℕ) → length w₁ ≡ length w₀ → length w₂ ≡ length w₁ → drop n w₁ ≡ drop n w₀ → Ranged (leBy Name names) w₁ w₂ 0 n n (n + n)
+pub repeated-rest : (names w₀ w₁ w₂ : List ℕ) (n : ℕ) → length w₁ ≡ length w₀ → length w₂ ≡ length w₁ → drop n w₁ ≡ drop n w₀ → SortedRange (leBy Name names) w₁ w₂ 0 n n (n + n)
     → drop (n + n) w₂ ≡ drop (n + n) w₀
 repeated-rest names w₀ w₁ w₂ n l₁ l₂ d s =
-    drop-same (n + n) w₂ w₁ l₂ (λ i m. s .after i (omega arith)) ∙ drop-same (n + n) w₁ w₀ l₁ (λ i m. at-drop n w₁ w₀ d i (omega arith))
+    drop-same (n + n) w₂ w₁ l₂ (λ i m. s .rest i (inr (omega arith))) ∙ drop-same (n + n) w₁ w₀ l₁ (λ i m. at-drop n w₁ w₀ d i (omega arith))
+
+-- a front that was lent and cleared
+pub front-cleared : (n : ℕ) (w z : List ℕ) → n ≤ length w → z ≡ replicate (length (take n w)) 0 → z ++ drop n w ≡ replicate n 0 ++ drop n w
+front-cleared n w z h e = ap (λ (x : List ℕ). x ++ drop n w) (e ∙ ap (λ (k : ℕ). replicate k 0) (length-take-le n w h))
 
 half : (n m : ℕ) → leb n (m / 2) ≡ leb (n + n) m
 half n m = ⊎-elim (λ (h : m < n + n). lt-leb n (m / 2) (omega arith) ∙ sym (lt-leb (n + n) m h)) (λ (h : n + n ≤ m). le-leb n (m / 2) (omega arith) ∙ sym (le-leb (n + n) m h)) (below? m (n + n))

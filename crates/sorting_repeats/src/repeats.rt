@@ -73,7 +73,7 @@ fn repeat_among(names: &[u8], w: &mut [u32], n: u32) -> u32
     count_up(w, n);
     sorting_merge::sort_range(By::Name, names, w, 0, k, k, e);
     let r = least_repeat(By::Name, names, w, k, e, n);
-    sorting_slices::clear(w, 0, e);
+    records::clear(&mut w[..e]);
     r
 }
 

@@ -1,6 +1,6 @@
 -- Laws of the numbers of runs. Assumes nothing.
 use mathlib.Core.Path.{_≡_, refl, sym, ap, _∙_}
-use mathlib.Core.Bool.{Bool, true, false, cond}
+use mathlib.Core.Bool.{Bool, true, false, cond, _&&_}
 use mathlib.Core.List.{List, [], _∷_, _++_, append-nil}
 use Prim.Native.Nat.{ℕ, suc, _+_, _-_, _≤_, _<_}
 use native.Mathlib.Nat.{zero-add}
@@ -8,12 +8,12 @@ use native.Mathlib.Numerals.{add-one}
 use native.Mathlib.Omega.{arith}
 use borrow.Author.Tests.{leb-true}
 use lib.Dec.{leb}
-use lib.ListN.{length, getD, take, drop, set, take-append-drop, length-append, length-drop}
-use lib.Seq.{slice, slice-cons, slice-empty, append-snoc, drop-set-lt, take-set-le, take-take, take-append-le, take-at, drop-at, length-take-le, length-slice}
+use lib.ListN.{length, getD, take, drop, set, take-append-drop, length-append, length-set}
+use lib.Seq.{slice, getD-set-other, slice-cons, slice-empty, append-snoc, drop-set-lt, take-set-le, take-take, take-append-le, take-at, drop-at, length-take-le, length-slice}
 use Rattle.sorting_runs.specs.Numbering.{numberable, numbered, numbersOutcome}
 use Rattle.lists.specs.Tests.{both}
 use Rattle.sorting_spec.specs.Runs.{equalsAfter, runsOf, next, numbersFrom, runNumbers}
-use Rattle.sorting_spec.specs.RunLaws.{run-behind, countFrom, length-numbers}
+use Rattle.sorting_spec.specs.RunLaws.{count-on, countFrom, next-le, length-numbers}
 use Rattle.records.specs.Outcome.{outcome, only}
 use Rattle.sorting_texts.specs.declared.text.By.{By}
 use Rattle.sorting_runs.specs.declared.runs.Numbered.{Numbered}
@@ -24,16 +24,9 @@ use Rattle.sorting_slices.specs.SortingLaws.{fitting-order}
 use Rattle.sorting_spec.specs.PartLaws.{slice-set, drop-same, at-drop, at-take}
 
 module _ (le : ℕ → ℕ → Bool) where
-  count-on : (g p x : ℕ) (xs : List ℕ) → countFrom le g p (x ∷ xs) ≡ countFrom le (next le g p x) x xs
-  count-on g p x xs = rw (run-behind le x xs) (go (le x p) (take (equalsAfter le x xs) xs) (runsOf le (drop (equalsAfter le x xs) xs)))
-    where
-      go : (t : Bool) (ys : List ℕ) (rs : List (List ℕ)) → g + length (cond t ((p ∷ x ∷ ys) ∷ rs) ((p ∷ []) ∷ (x ∷ ys) ∷ rs)) ≡ cond t g (g + 1) + suc (length rs)
-      go true ys rs = omega arith
-      go false ys rs = omega arith
-
   -- a turn: the element at i of w₀ is numbered at k of w
   module _ (w₀ w : List ℕ) (to i hi k g p : ℕ) (o₁ : i < hi) (o₂ : hi ≤ length w₀) (o₃ : to ≤ k) (o₄ : k < length w) where
-    pub number-turn : slice to k w ++ numbersFrom le g p (slice i hi w₀)
+    number-turn : slice to k w ++ numbersFrom le g p (slice i hi w₀)
         ≡ slice to (k + 1) (set w k (next le g p (getD w₀ i 0))) ++ numbersFrom le (next le g p (getD w₀ i 0)) (getD w₀ i 0) (slice (i + 1) hi w₀)
     number-turn =
         let x = getD w₀ i 0 in
@@ -41,58 +34,98 @@ module _ (le : ℕ → ℕ → Bool) where
         rw (add-one k, add-one i, slice-cons i hi w₀ 0 o₁ o₂, slice-set to k n w o₃ o₄)
         (sym (append-snoc (slice to k w) n (numbersFrom le n x (slice (suc i) hi w₀))))
 
-    pub count-turn : countFrom le g p (slice i hi w₀) ≡ countFrom le (next le g p (getD w₀ i 0)) (getD w₀ i 0) (slice (i + 1) hi w₀)
-    count-turn = rw (add-one i, slice-cons i hi w₀ 0 o₁ o₂) (count-on g p (getD w₀ i 0) (slice (suc i) hi w₀))
+    count-turn : countFrom le g p (slice i hi w₀) ≡ countFrom le (next le g p (getD w₀ i 0)) (getD w₀ i 0) (slice (i + 1) hi w₀)
+    count-turn = rw (add-one i, slice-cons i hi w₀ 0 o₁ o₂) (count-on le g p (getD w₀ i 0) (slice (suc i) hi w₀))
 
-  -- the start: the first element is numbered 0
-  pub started : (w₀ : List ℕ) (lo hi to : ℕ) → lo < hi → hi ≤ length w₀ → to < length w₀
-      → (runNumbers le (slice lo hi w₀) ≡ slice to (to + 1) (set w₀ to 0) ++ numbersFrom le 0 (getD w₀ lo 0) (slice (lo + 1) hi w₀))
-      × (length (runsOf le (slice lo hi w₀)) ≡ countFrom le 0 (getD w₀ lo 0) (slice (lo + 1) hi w₀))
-  started w₀ lo hi to h k n =
-      rw (add-one to, add-one lo, slice-cons lo hi w₀ 0 h k, slice-set to to 0 w₀ (omega arith) n, slice-empty to w₀) (refl, sym (zero-add (length (runsOf le (getD w₀ lo 0 ∷ slice (suc lo) hi w₀)))))
+-- THE STATE of the numbering of the runs of w₀'s lo..hi from `to` on by the keys from e on: the next number is read at i and its run's
+-- written at k; p of run g was the last
+pub record NumberingTo (by : List ℕ → ℕ → ℕ → Bool) (w₀ w : List ℕ) (lo hi to e p g i k : ℕ) : Type 0 where
+  pub from : lo < i
+  pub within : i ≤ hi
+  pub placed : k + lo ≡ to + i
+  pub few : g + lo < i
+  pub keys : e ≤ length w
+  pub same-length : length w ≡ length w₀
+  pub front : take to w ≡ take to w₀
+  pub tail : drop (to + (hi - lo)) w ≡ drop (to + (hi - lo)) w₀
+  pub numbers : runNumbers (by (drop e w₀)) (slice lo hi w₀) ≡ slice to k w ++ numbersFrom (by (drop e w₀)) g p (slice i hi w₀)
+  pub count : length (runsOf (by (drop e w₀)) (slice lo hi w₀)) ≡ countFrom (by (drop e w₀)) g p (slice i hi w₀)
 
--- a turn of the code: r is the run that it found, x the number that it read
-pub turned : (by : List ℕ → ℕ → ℕ → Bool) (w₀ w : List ℕ) (to i hi k g p t e r : ℕ) → i < hi → hi ≤ to → to ≤ k → k < t → t ≤ e → e ≤ length w → length w ≡ length w₀
-    → take to w ≡ take to w₀ → drop t w ≡ drop t w₀ → r ≡ next (by (drop e w)) g p (getD w i 0)
-    → (r ≡ next (by (drop e w₀)) g p (getD w₀ i 0)) × (getD w i 0 ≡ getD w₀ i 0)
-    × (slice to k w ++ numbersFrom (by (drop e w₀)) g p (slice i hi w₀) ≡ slice to (k + 1) (set w k r) ++ numbersFrom (by (drop e w₀)) r (getD w i 0) (slice (i + 1) hi w₀))
-    × (countFrom (by (drop e w₀)) g p (slice i hi w₀) ≡ countFrom (by (drop e w₀)) r (getD w i 0) (slice (i + 1) hi w₀))
-turned by w₀ w to i hi k g p t e r o₁ o₂ o₃ o₄ o₅ o₆ n front tail q =
-    let keys : drop e w ≡ drop e w₀ = drop-same e w w₀ n (λ x h. at-drop t w w₀ tail x (omega arith)) in
-    let x : getD w i 0 ≡ getD w₀ i 0 = at-take to w w₀ front i (omega arith) in
-    let s : r ≡ next (by (drop e w₀)) g p (getD w₀ i 0) = q ∙ ap (λ (d : List ℕ). next (by d) g p (getD w i 0)) keys ∙ ap (next (by (drop e w₀)) g p) x in (
-      s,
-      x,
-      rw (x, s) (number-turn (by (drop e w₀)) w₀ w to i hi k g p o₁ (omega arith) o₃ (omega arith)),
-      rw (x, s) (count-turn (by (drop e w₀)) w₀ w to i hi k g p o₁ (omega arith) o₃ (omega arith)),
-    )
+module _ {by : List ℕ → ℕ → ℕ → Bool} {lo hi to e : ℕ} (o₁ : hi ≤ to) (o₂ : to + (hi - lo) ≤ e) where
+  -- the start: the first is of run 0
+  pub numbering-start : (v : List ℕ) → lo < hi → e ≤ length v → NumberingTo by (set v to 0) (set v to 0) lo hi to e (getD v lo 0) 0 (lo + 1) (to + 1)
+  numbering-start v h k =
+      let n : length (set v to 0) ≡ length v = length-set v to 0 in
+      let le : ℕ → ℕ → Bool = by (drop e (set v to 0)) in
+      let x : getD (set v to 0) lo 0 ≡ getD v lo 0 = getD-set-other v to lo 0 0 (λ (z : lo ≡ to). let f : ⊥ = omega arith in f) in
+      let c : slice lo hi (set v to 0) ≡ getD v lo 0 ∷ slice (suc lo) hi (set v to 0) =
+      slice-cons lo hi (set v to 0) 0 h (omega arith) ∙ ap (λ (y : ℕ). y ∷ slice (suc lo) hi (set v to 0)) x in
+      let z : slice to (suc to) (set v to 0) ≡ 0 ∷ [] = slice-set to to 0 v (omega arith) (omega arith) ∙ ap (λ (l : List ℕ). l ++ (0 ∷ [])) (slice-empty to v) in
+      record {
+        from = omega arith;
+        within = omega arith;
+        placed = omega arith;
+        few = omega arith;
+        keys = omega arith;
+        same-length = refl;
+        front = refl;
+        tail = refl;
+        numbers = rw (add-one to, add-one lo, c, z);
+        count = rw (add-one lo, c) (sym (zero-add (length (runsOf le (getD v lo 0 ∷ slice (suc lo) hi (set v to 0))))));
+      }
 
--- the end, in terms of the slice before the first store
-pub ended : (by : List ℕ → ℕ → ℕ → Bool) (we w : List ℕ) (lo hi to t e g p : ℕ) → lo < hi → hi ≤ to → to < t → t ≤ e → e ≤ length we
-    → slice to (to + 1) (set we to 0) ++ numbersFrom (by (drop e (set we to 0))) 0 (getD we lo 0) (slice (lo + 1) hi (set we to 0)) ≡ slice to t w ++ numbersFrom (by (drop e (set we to 0))) g p (slice hi hi (set we to 0))
-    → countFrom (by (drop e (set we to 0))) 0 (getD we lo 0) (slice (lo + 1) hi (set we to 0)) ≡ countFrom (by (drop e (set we to 0))) g p (slice hi hi (set we to 0))
-    → (g + 1 ≡ length (runsOf (by (drop e we)) (slice lo hi we))) × (slice to t w ≡ runNumbers (by (drop e we)) (slice lo hi we))
-ended by we w lo hi to t e g p o₁ o₂ o₃ o₄ o₅ q r =
-    let keys : drop e (set we to 0) ≡ drop e we = drop-set-lt e we to 0 (omega arith) in
-    let whole : take hi (set we to 0) ≡ take hi we = take-set-le hi we to 0 o₂ in
-    let s = started (by (drop e we)) we lo hi to o₁ (omega arith) (omega arith) in (
-      sym (
-          s .1
-          ∙ ap (λ (d : List ℕ). countFrom (by d) 0 (getD we lo 0) (slice (lo + 1) hi we)) (sym keys)
-          ∙ ap (λ (v : List ℕ). countFrom (by (drop e (set we to 0))) 0 (getD we lo 0) (drop (lo + 1) v)) (sym whole)
-          ∙ r
-          ∙ ap (countFrom (by (drop e (set we to 0))) g p) (slice-empty hi (set we to 0))
-          ),
-      sym (s .0 ∙ (rw (keys, whole, slice-empty hi we) at q) ∙ append-nil (slice to t w)),
-    )
+  -- a turn: r is the run that was found
+  pub numbering-turn : {w₀ w : List ℕ} {p g i k r : ℕ} → NumberingTo by w₀ w lo hi to e p g i k → i < hi → r ≡ next (by (drop e w)) g p (getD w i 0)
+      → NumberingTo by w₀ (set w k r) lo hi to e (getD w i 0) r (i + 1) (k + 1)
+  numbering-turn {w₀} {w} {p} {g} {i} {k} {r} c h q =
+      let n : length (set w k r) ≡ length w = length-set w k r in
+      let same : drop e w ≡ drop e w₀ = drop-same e w w₀ (c .same-length) (λ x z. at-drop (to + (hi - lo)) w w₀ (c .tail) x (omega arith)) in
+      let x : getD w i 0 ≡ getD w₀ i 0 = at-take to w w₀ (c .front) i (omega arith) in
+      let s : r ≡ next (by (drop e w₀)) g p (getD w₀ i 0) = q ∙ ap (λ (d : List ℕ). next (by d) g p (getD w i 0)) same ∙ ap (next (by (drop e w₀)) g p) x in
+      let le : ℕ → ℕ → Bool = by (drop e w₀) in
+      record {
+        from = omega arith;
+        within = omega arith;
+        placed = omega arith;
+        few = omega (arith, next-le le g p (getD w₀ i 0));
+        keys = omega arith;
+        same-length = n ∙ c .same-length;
+        front = take-set-le to w k r (omega arith) ∙ c .front;
+        tail = drop-set-lt (to + (hi - lo)) w k r (omega arith) ∙ c .tail;
+        numbers = c .numbers ∙ rw (x, s) (number-turn le w₀ w to i hi k g p h (omega arith) (omega arith) (omega arith));
+        count = c .count ∙ rw (x, s) (count-turn le w₀ w to i hi k g p h (omega arith) (omega arith) (omega arith));
+      }
+
+  -- the end, in terms of the slice before the first store
+  pub numbering-end : (v : List ℕ) {w : List ℕ} {p g i k : ℕ} → NumberingTo by (set v to 0) w lo hi to e p g i k → hi ≤ i → e ≤ length v
+      → (g + 1 ≡ length (runsOf (by (drop e v)) (slice lo hi v))) × (slice to (to + (hi - lo)) w ≡ runNumbers (by (drop e v)) (slice lo hi v))
+      × (take to w ≡ take to v) × (drop (to + (hi - lo)) w ≡ drop (to + (hi - lo)) v)
+  numbering-end v {w} {p} {g} {i} {k} c h m =
+      let a : i ≡ hi = omega arith in
+      let b : k ≡ to + (hi - lo) = omega arith in
+      let same : drop e (set v to 0) ≡ drop e v = drop-set-lt e v to 0 (omega arith) in
+      let whole : take hi (set v to 0) ≡ take hi v = take-set-le hi v to 0 o₁ in (
+        sym (rw (a, same, whole, slice-empty hi v) at (c .count)),
+        sym ((rw (a, b, same, whole, slice-empty hi v) at (c .numbers)) ∙ append-nil (slice to (to + (hi - lo)) w)),
+        c .front ∙ take-set-le to v to 0 (omega arith),
+        c .tail ∙ drop-set-lt (to + (hi - lo)) v to 0 (omega arith),
+      )
 
 -- of an empty list there is no run
-pub none : (le : ℕ → ℕ → Bool) (we : List ℕ) (lo hi to t : ℕ) → lo ≡ hi → t ≡ to → (0 ≡ length (runsOf le (slice lo hi we))) × (slice to t we ≡ runNumbers le (slice lo hi we))
-none le we lo hi to t p q = rw (p, q, slice-empty hi we, slice-empty to we) (refl, refl)
+pub runs-none-numbered : (le : ℕ → ℕ → Bool) (v : List ℕ) (lo hi to : ℕ) → lo ≡ hi
+    → (0 ≡ length (runsOf le (slice lo hi v))) × (slice to (to + (hi - lo)) v ≡ runNumbers le (slice lo hi v))
+runs-none-numbered le v lo hi to p = let q : to + (hi - hi) ≡ to = omega arith in rw (p, q, slice-empty hi v, slice-empty to v) (refl, refl)
+
+-- a stretch and its keys stand in a slice of n
+pub run-stands : (lo hi e n : ℕ) → (leb lo hi && leb hi n && leb e n) ≡ true → (lo ≤ hi) × (hi ≤ n) × (e ≤ n)
+run-stands lo hi e n h =
+    let a = both (leb lo hi && leb hi n) (leb e n) h in
+    let b = both (leb lo hi) (leb hi n) (a .0) in
+    (leb-true _ _ (b .0), leb-true _ _ (b .1), leb-true _ _ (a .1))
 
 -- a slice is its front, a part and the rest
-pub three : (w : List ℕ) (f t : ℕ) → f ≤ t → w ≡ take f w ++ slice f t w ++ drop t w
-three w f t h =
+pub in-three : (w : List ℕ) (f t : ℕ) → f ≤ t → w ≡ take f w ++ slice f t w ++ drop t w
+in-three w f t h =
     sym (take-append-drop t w)
     ∙ ap (λ (x : List ℕ). x ++ drop t w) (sym (take-append-drop f (take t w)) ∙ ap (λ (x : List ℕ). x ++ slice f t w) (take-take f t w h))
 
@@ -111,7 +144,7 @@ module _ (by : By) (letters : List ℕ) (lo hi to e : ℕ) (w : List ℕ) where
       → outcome (Runs r) (x ∷ []) ≡ numbersOutcome by letters lo hi to e w
   number-fits x r q c m f d =
       let y : x ≡ numbered by letters lo hi to e w =
-      three x to (to + (hi - lo)) (omega arith)
+      in-three x to (to + (hi - lo)) (omega arith)
       ∙ ap (λ (v : List ℕ). v ++ slice to (to + (hi - lo)) x ++ drop (to + (hi - lo)) x) f
       ∙ ap (λ (v : List ℕ). take to w ++ v ++ drop (to + (hi - lo)) x) m
       ∙ ap (λ (v : List ℕ). take to w ++ runNumbers (leBy by letters (drop e w)) (slice lo hi w) ++ v) d in
@@ -127,9 +160,6 @@ module _ (by : By) (letters : List ℕ) (lo hi to e : ℕ) (w : List ℕ) (o₁ 
   length-front =
       length-append (take to w) numbers
       ∙ omega (arith, length-take-le to w (omega arith), length-numbers (leBy by letters (drop e w)) (slice lo hi w), length-slice lo hi w (omega arith))
-
-  pub length-numbered : length (numbered by letters lo hi to e w) ≡ length w
-  length-numbered = length-append (take to w ++ numbers) (drop (to + (hi - lo)) w) ∙ omega (arith, length-front, length-drop (to + (hi - lo)) w)
 
   pub numbered-take : take to (numbered by letters lo hi to e w) ≡ take to w
   numbered-take =

@@ -64,7 +64,7 @@ fn next_run(by: By, letters: &[u8], keys: &[u32], g: u32, p: u32, x: u32) -> u32
     }
 }
 
-// Writes the numbers of the runs of the sorted w[lo..hi] to w[to..t], and answers how many runs there are.
+// Writes the numbers of the runs of the sorted w[lo..hi] from w[to] on, and answers how many runs there are.
 fn number_fitting(
     by: By,
     letters: &[u8],
@@ -72,11 +72,10 @@ fn number_fitting(
     lo: usize,
     hi: usize,
     to: usize,
-    t: usize,
     e: usize,
 ) -> u32
-    requires { ⌜ (lo ≤ hi) × (hi ≤ to) × (t ≡ to + (hi - lo)) × (t ≤ e) × (e ≤ length (now w)) × (hi - lo < 4294967296) ⌝ }
-    ensures { λ r. ⌜ (r ≡ length (runsOf (leBy by (now (letters .entry)) (drop e (now (w .entry)))) (slice lo hi (now (w .entry))))) × (slice to t (now (w .exit)) ≡ runNumbers (leBy by (now (letters .entry)) (drop e (now (w .entry)))) (slice lo hi (now (w .entry)))) × (take to (now (w .exit)) ≡ take to (now (w .entry))) × (drop t (now (w .exit)) ≡ drop t (now (w .entry))) ⌝ }
+    requires { ⌜ (lo ≤ hi) × (hi ≤ to) × (to + (hi - lo) ≤ e) × (e ≤ length (now w)) × (hi - lo < 4294967296) ⌝ }
+    ensures { λ r. ⌜ (r ≡ length (runsOf (leBy by (now (letters .entry)) (drop e (now (w .entry)))) (slice lo hi (now (w .entry))))) × (slice to (to + (hi - lo)) (now (w .exit)) ≡ runNumbers (leBy by (now (letters .entry)) (drop e (now (w .entry)))) (slice lo hi (now (w .entry)))) × (take to (now (w .exit)) ≡ take to (now (w .entry))) × (drop (to + (hi - lo)) (now (w .exit)) ≡ drop (to + (hi - lo)) (now (w .entry))) ⌝ }
 {
     if lo == hi {
         return 0;
@@ -122,8 +121,7 @@ pub fn number_runs(
     ensures { λ r. ⌜ outcome r (now (w .exit) ∷ []) ≡ numbersOutcome by (now (letters .entry)) lo hi to e (now (w .entry)) ⌝ }
 {
     if counts(lo, hi, to, e, w.len()) {
-        let t = to + (hi - lo);
-        let count = number_fitting(by, letters, w, lo, hi, to, t, e);
+        let count = number_fitting(by, letters, w, lo, hi, to, e);
         Numbered::Runs(count)
     } else {
         Numbered::Unfit

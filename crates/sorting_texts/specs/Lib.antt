@@ -5,4 +5,3 @@ pub mod TextLaws
 pub mod Walk
 pub mod EntryLaws
 pub mod WalkLaws
-pub mod JoinLaws

@@ -7,7 +7,7 @@ ghost use lib.Dec.{eqb};
 ghost use lib.ListN.{length, getD};
 ghost use Rattle.sorting_spec.specs.Joined.{nameOf};
 ghost use Rattle.sorting_texts.specs.Text.{tagIn, entryText};
-ghost use Rattle.sorting_texts.specs.Walk.{Stood, Walked};
+ghost use Rattle.sorting_texts.specs.Walk.{Stood, WalksOn};
 
 // A number, and where the walk goes on.
 pub struct Step {
@@ -65,7 +65,7 @@ pub fn entry_number(letters: &[u8], keys: &[u32], t: usize, x: u32, i: usize) ->
 // The number that the walk along a group's text stands at, 0 where nothing is left, and where it goes on.
 pub fn walk(letters: &[u8], keys: &[u32], t: usize, at: usize, i: usize) -> Step
     requires { ⌜ Stood (now letters) (now keys) t at i ⌝ }
-    ensures { λ r. ⌜ Walked (now (letters .entry)) (now (keys .entry)) at i (r .number) (r .at) (r .i) ⌝ }
+    ensures { λ r. ⌜ WalksOn (now (letters .entry)) (now (keys .entry)) at i (r .number) (r .at) (r .i) ⌝ }
 {
     let n = keys.len();
     if n <= at {

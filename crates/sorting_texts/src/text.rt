@@ -5,8 +5,8 @@ ghost use lib.Dec.{eqb};
 ghost use lib.ListN.{getD};
 ghost use lib.Seq.{slice};
 ghost use Rattle.sorting_spec.specs.Joined.{nameOf};
-ghost use Rattle.sorting_texts.specs.Text.{listOf};
-ghost use Rattle.sorting_texts.specs.TextLaws.{Stands};
+ghost use Rattle.sorting_texts.specs.Text.{listAmong};
+ghost use Rattle.sorting_texts.specs.TextLaws.{TextStands};
 
 // What numbers are sorted by: each stands for a list of numbers, its text.
 pub enum By {
@@ -59,7 +59,7 @@ fn cut(from: usize, to: usize, n: usize) -> Part
 
 // Where x's list stands among the keys.
 pub fn list_of(keys: &[u32], base: u32, x: u32) -> Part
-    ensures { λ r. ⌜ Stands (r .from) (r .to) (now (keys .entry)) (listOf base (now (keys .entry)) x) ⌝ }
+    ensures { λ r. ⌜ TextStands (r .from) (r .to) (now (keys .entry)) (listAmong base (now (keys .entry)) x) ⌝ }
 {
     let i = x as usize;
     let lists = base as usize;
@@ -70,7 +70,7 @@ pub fn list_of(keys: &[u32], base: u32, x: u32) -> Part
 
 // Where x's name stands among the letters.
 pub fn name_of(letters: &[u8], x: u32) -> Part
-    ensures { λ r. ⌜ Stands (r .from) (r .to) (now (letters .entry)) (nameOf (now (letters .entry)) x) ⌝ }
+    ensures { λ r. ⌜ TextStands (r .from) (r .to) (now (letters .entry)) (nameOf (now (letters .entry)) x) ⌝ }
 {
     let from = x as usize * 64;
     cut(from, from + 64, letters.len())
@@ -78,7 +78,7 @@ pub fn name_of(letters: &[u8], x: u32) -> Part
 
 // Where x's letters stand among the letters.
 pub fn range_of(letters: &[u8], keys: &[u32], n: u32, x: u32) -> Range
-    ensures { λ r. ⌜ (r .decoy ≡ eqb (getD (now (keys .entry)) (2 * n + x) 0 % 2) 1) × Stands (r .from) (r .to) (now (letters .entry)) (slice (getD (now (keys .entry)) (n + x) 0) (getD (now (keys .entry)) (n + x) 0 + getD (now (keys .entry)) (2 * n + x) 0 / 2) (now (letters .entry))) ⌝ }
+    ensures { λ r. ⌜ (r .decoy ≡ eqb (getD (now (keys .entry)) (2 * n + x) 0 % 2) 1) × TextStands (r .from) (r .to) (now (letters .entry)) (slice (getD (now (keys .entry)) (n + x) 0) (getD (now (keys .entry)) (n + x) 0 + getD (now (keys .entry)) (2 * n + x) 0 / 2) (now (letters .entry))) ⌝ }
 {
     let i = x as usize;
     let k = n as usize;

@@ -4,7 +4,7 @@ use Rattle.catalogue_book.proofs.book.ends_wrong.Statement.{statement}
 use Rattle.catalogue_book.proofs.book.ends_wrong.Tie as tie
 
 returns : tie.Need-returns
-returns c = rw (c .wide .ensures)
+returns c = rw (c .wide .ensures .0)
 
 pub ends-wrong-spec : {M : Type 1} → statement M
 ends-wrong-spec =

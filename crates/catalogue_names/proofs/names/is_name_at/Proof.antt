@@ -8,7 +8,9 @@ use Rattle.catalogue_names.proofs.names.is_name_at.Statement.{statement
 use Rattle.catalogue_names.proofs.names.is_name_at.Tie as tie
 
 returns : tie.Need-returns
-returns c = c .is-name .ensures ∙ ap isName (name-part (now (c .before .before .before .args .names)) (c .before .before .before .args .i) (c .before .before .before .pre))
+returns c =
+    let a = c .before .before .before .args in
+    c .is-name .ensures ∙ ap isName (name-part (now (a .names)) (a .i) (c .before .before .before .pre))
 
 pub is-name-at-spec : {M : Type 1} → statement M
 is-name-at-spec =

@@ -4,13 +4,19 @@ use Rattle.catalogue_names.proofs.names.told.Statement.{statement}
 use Rattle.catalogue_names.proofs.names.told.Tie as tie
 
 returns : tie.Need-returns
-returns c = rw (lt-ltb (c .before .args .again) (c .before .args .bad) (c .if1 .taken))
+returns c =
+    let a = c .before .args in
+    rw (lt-ltb (a .again) (a .bad) (c .if1 .taken))
 
 returns-2 : tie.Need-returns-2
-returns-2 c = rw (le-ltb (c .before .before .args .again) (c .before .before .args .bad) (c .before .if1 .left), lt-ltb (c .before .before .args .bad) (c .before .before .args .n) (c .if2 .taken))
+returns-2 c =
+    let a = c .before .before .args in
+    rw (le-ltb (a .again) (a .bad) (c .before .if1 .left), lt-ltb (a .bad) (a .n) (c .if2 .taken))
 
 returns-3 : tie.Need-returns-3
-returns-3 c = rw (le-ltb (c .before .before .args .again) (c .before .before .args .bad) (c .before .if1 .left), le-ltb (c .before .before .args .bad) (c .before .before .args .n) (c .if2 .left))
+returns-3 c =
+    let a = c .before .before .args in
+    rw (le-ltb (a .again) (a .bad) (c .before .if1 .left), le-ltb (a .bad) (a .n) (c .if2 .left))
 
 pub told-spec : {M : Type 1} → statement M
 told-spec = tie.close (tie.spec returns returns-2 returns-3)

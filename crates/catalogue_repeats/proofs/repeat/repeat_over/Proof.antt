@@ -2,7 +2,7 @@
 use mathlib.Core.Path.{_∙_}
 use denote.Ref.{now}
 use borrow.Author.Needs.{needs}
-use Rattle.catalogue_repeats.specs.RepeatingLaws.{place-found, table-left}
+use Rattle.catalogue_repeats.specs.RepeatingLaws.{repeat-placed, table-left}
 use Rattle.catalogue_repeats.proofs.repeat.repeat_over.Statement.{statement}
 use Rattle.catalogue_repeats.proofs.repeat.repeat_over.Tie as tie
 
@@ -11,7 +11,7 @@ returns c =
     let a = c .before .before .before .before .before .before .before .args in
     let p = c .before .before .before .before .before .before .before .pre in
     let f = c .before .before .before .first-repeated in (
-      c .place-in .ensures ∙ place-found (now (a .names)) (now (a .tab)) (f .result) _ (p .0) (p .1) (f .ensures),
+      c .place-in .ensures ∙ repeat-placed (now (a .names)) (now (a .tab)) (f .result) _ (p .0) (p .1) (f .ensures),
       table-left (now (a .names)) (now (a .tab)) (f .result) (f .last .1 .0) (p .0) (p .1) (f .ensures),
     )
 

@@ -2,9 +2,6 @@
 use borrow.Author.Needs.{needs}
 use Rattle.digest_groups.proofs.tests.is_good_digest.Statement.{statement}
 use Rattle.digest_groups.proofs.tests.is_good_digest.Tie as tie
-use Rattle.digest_groups.proofs.tests.width.Reads as width-reads
-use Rattle.enzyme_keep.proofs.is_good.Reads as is-good-reads
-use Rattle.records.proofs.u32_at.Reads as u32-at-reads
 
 returns : tie.Need-returns
 returns c = rw (c .is-good .ensures, c .before .width .ensures, c .before .before .u32-at2 .ensures, c .before .before .before .u32-at .ensures)

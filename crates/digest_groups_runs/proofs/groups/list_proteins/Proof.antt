@@ -8,8 +8,6 @@ use Rattle.digest_groups_runs.specs.TurnLaws.{listed-of}
 use borrow.Author.Needs.{needs}
 use Rattle.digest_groups_runs.proofs.groups.list_proteins.Statement.{statement}
 use Rattle.digest_groups_runs.proofs.groups.list_proteins.Tie as tie
-use Rattle.digest_groups_runs.proofs.groups.take_proteins.Reads as take-proteins-reads
-use Rattle.sorting_slices.proofs.sort.Reads as sort-reads
 
 take-proteins-requires : tie.Need-take-proteins-requires
 take-proteins-requires c κs =

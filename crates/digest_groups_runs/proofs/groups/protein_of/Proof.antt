@@ -5,7 +5,6 @@ use mathlib.Core.Path.{_≡_}
 use borrow.Author.Needs.{needs}
 use Rattle.digest_groups_runs.proofs.groups.protein_of.Statement.{statement}
 use Rattle.digest_groups_runs.proofs.groups.protein_of.Tie as tie
-use Rattle.records.proofs.u32_at.Reads as u32-at-reads
 
 returns : tie.Need-returns
 returns c = let x = c .before .before .before .args .x in let n : 16 * x + 16 - 16 * x ≡ 16 = omega arith in rw n at (c .u32-at .ensures)

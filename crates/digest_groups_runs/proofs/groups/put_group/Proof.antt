@@ -5,13 +5,10 @@ use mathlib.Core.List.{_++_}
 use Rattle.records.specs.Le.{le}
 use Rattle.records.specs.Room.{roomOf}
 use Rattle.records.specs.StoreLaws.{stored-full, stored-free}
-use Rattle.digest_groups_runs.specs.TurnLaws.{three}
+use Rattle.digest_groups_runs.specs.TurnLaws.{group-stores}
 use borrow.Author.Needs.{needs}
 use Rattle.digest_groups_runs.proofs.groups.put_group.Statement.{statement}
 use Rattle.digest_groups_runs.proofs.groups.put_group.Tie as tie
-use Rattle.records.proofs.put_bytes.Reads as put-bytes-reads
-use Rattle.records.proofs.put_u32.Reads as put-u32-reads
-use Rattle.records.proofs.room_for.Reads as room-for-reads
 
 returns : tie.Need-returns
 returns c =
@@ -25,7 +22,7 @@ returns-2 c =
     let x = c .before .before .before .before .before .before .before .before .before .before .put-bytes .ensures in
     let y = c .before .before .before .before .before .before .put-u32 .ensures in
     let z = c .before .before .put-u322 .ensures in
-    rw (z, y, x) (three (a .out .now) (24 * a .g) (a .digest .now) (a .at) (a .count) (c .before .before .before .before .before .before .before .before .before .before .before .before .before .before .before .before .pre .0)) ∙ stored-free 24 1048576 (a .out .now) (a .g) (a .digest .now ++ le 4 (a .at) ++ le 4 (a .count)) r
+    rw (z, y, x) (group-stores (a .out .now) (24 * a .g) (a .digest .now) (a .at) (a .count) (c .before .before .before .before .before .before .before .before .before .before .before .before .before .before .before .before .pre .0)) ∙ stored-free 24 1048576 (a .out .now) (a .g) (a .digest .now ++ le 4 (a .at) ++ le 4 (a .count)) r
 
 pub put-group-spec : {M : Type 1} → statement M
 put-group-spec =

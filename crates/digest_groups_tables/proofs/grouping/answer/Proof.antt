@@ -6,7 +6,6 @@ use lib.Dec.{leb}
 use borrow.Author.Needs.{needs}
 use Rattle.digest_groups_tables.proofs.grouping.answer.Statement.{statement}
 use Rattle.digest_groups_tables.proofs.grouping.answer.Tie as tie
-use Rattle.records.proofs.room_for.Reads as room-for-reads
 
 returns : tie.Need-returns
 returns c =

@@ -4,8 +4,6 @@ use Rattle.digest_groups_tables.specs.SortedLaws.{sorted-tables}
 use borrow.Author.Needs.{needs}
 use Rattle.digest_groups_tables.proofs.grouping.arrange.Statement.{statement}
 use Rattle.digest_groups_tables.proofs.grouping.arrange.Tie as tie
-use Rattle.digest_groups_words.proofs.spell_all.Reads as spell-all-reads
-use Rattle.sorting_slices.proofs.sort.Reads as sort-reads
 
 returns : tie.Need-returns
 returns c =

@@ -8,11 +8,6 @@ use Rattle.digest_groups_tables.specs.FinishLaws.{left-grouped}
 use borrow.Author.Needs.{needs}
 use Rattle.digest_groups_tables.proofs.grouping.gather.Statement.{statement}
 use Rattle.digest_groups_tables.proofs.grouping.gather.Tie as tie
-use Rattle.digest_groups_tables.proofs.grouping.answer.Reads as answer-reads
-use Rattle.digest_groups_tables.proofs.grouping.arrange.Reads as arrange-reads
-use Rattle.digest_groups_runs.proofs.gather_runs.Reads as gather-runs-reads
-use Rattle.records.proofs.clear.Reads as clear-reads
-use Rattle.records.proofs.put_numbers.Reads as put-numbers-reads
 
 answer-requires : tie.Need-answer-requires
 answer-requires c κs = let p = c .before .before .before .before .before .before .before .before .before .before .before .before .before .before .before .before .before .before .before .before .before .before .before .before .before .before .before .before .pre .0 in (omega (arith, c .before .before .before .before .before .before .before .before .before .before .before .before .before .before .gather-runs .ensures .few, p .few), p .few)

@@ -10,40 +10,38 @@ use Rattle.digest_groups_words.specs.TableLaws.{spelt-range, spelling-is
 use borrow.Author.Needs.{needs}
 use Rattle.digest_groups_words.proofs.spelling.spelled.Statement.{statement}
 use Rattle.digest_groups_words.proofs.spelling.spelled.Tie as tie
-use Rattle.digest_groups_words.proofs.spelling.front.Reads as front-reads
-use Rattle.digest_groups_words.proofs.spelling.place.Reads as place-reads
-use Rattle.digest_groups_words.proofs.spelling.size.Reads as size-reads
-use Rattle.digest_groups_words.proofs.words.word.Reads as word-reads
-use Rattle.records.proofs.byte_at.Reads as byte-at-reads
-use Rattle.records.proofs.u32_at.Reads as u32-at-reads
 
 add-to : tie.Need-add-to
 add-to c =
-    let d = now (c .before .before .before .before .before .before .before .before .args .digest) in
+    let a = c .before .before .before .before .before .before .before .before .args in
+    let d = now (a .digest) in
     let i = c .before .before .before .before .before .before .before .before .pre in
-    let p : c .place .result ≡ getD (now (c .before .before .before .before .before .before .before .before .args .bounds)) (numberAt 4 d 12) 0 + numberAt 4 d 0 = cc in
+    let p : c .place .result ≡ getD (now (a .bounds)) (numberAt 4 d 12) 0 + numberAt 4 d 0 = cc in
     omega (arith, i .ends, i .rises, i .book .small, c .before .before .before .u32-at2 .ensures, c .before .before .before .before .u32-at .ensures)
 
 part-word-end : tie.Need-part-word-end
 part-word-end c =
-    let d = now (c .before .before .before .before .before .before .before .before .before .before .args .digest) in
+    let a = c .before .before .before .before .before .before .before .before .before .before .args in
+    let d = now (a .digest) in
     let i = c .before .before .before .before .before .before .before .before .before .before .pre in
-    let p : c .before .before .place .result ≡ getD (now (c .before .before .before .before .before .before .before .before .before .before .args .bounds)) (numberAt 4 d 12) 0 + numberAt 4 d 0 = cc in
+    let p : c .before .before .place .result ≡ getD (now (a .bounds)) (numberAt 4 d 12) 0 + numberAt 4 d 0 = cc in
     omega (arith, i .ends, i .rises, c .before .before .before .before .before .u32-at2 .ensures, c .before .before .before .before .before .before .u32-at .ensures)
 
 word-requires : tie.Need-word-requires
 word-requires c κs =
-    let d = now (c .before .before .before .before .before .before .before .before .before .before .before .args .digest) in
+    let a = c .before .before .before .before .before .before .before .before .before .before .before .args in
+    let d = now (a .digest) in
     let i = c .before .before .before .before .before .before .before .before .before .before .before .pre in
     let p : c .before .before .byte-at2 .result ≡ getD d 10 0 = c .before .before .byte-at2 .ensures in
     let q : c .before .before .before .before .before .byte-at .result ≡ getD d 11 0 = c .before .before .before .before .before .byte-at .ensures in
-    (omega (arith, c .before .front .ensures, i .place, i .flag), spelt-range (eqb (c .before .before .before .before .before .byte-at .result) 1) (c .before .before .before .place .result + (c .before .before .before .before .before .before .u32-at2 .result - c .before .before .before .before .before .before .before .u32-at .result) - c .before .before .before .place .result) (c .before .before .before .place .result) (now (c .before .before .before .before .before .before .before .before .before .before .before .args .letters)) (i .book))
+    (omega (arith, c .before .front .ensures, i .place, i .flag), spelt-range (eqb (c .before .before .before .before .before .byte-at .result) 1) (c .before .before .before .place .result + (c .before .before .before .before .before .before .u32-at2 .result - c .before .before .before .before .before .before .before .u32-at .result) - c .before .before .before .place .result) (c .before .before .before .place .result) (now (a .letters)) (i .book))
 
 cast-t12 : tie.Need-cast-t12
 cast-t12 c =
-    let d = now (c .before .before .before .before .before .before .before .before .before .before .before .before .before .args .digest) in
+    let a = c .before .before .before .before .before .before .before .before .before .before .before .before .before .args in
+    let d = now (a .digest) in
     let i = c .before .before .before .before .before .before .before .before .before .before .before .before .before .pre in
-    let p : c .before .before .before .before .before .place .result ≡ getD (now (c .before .before .before .before .before .before .before .before .before .before .before .before .before .args .bounds)) (numberAt 4 d 12) 0 + numberAt 4 d 0 = cc in
+    let p : c .before .before .before .before .before .place .result ≡ getD (now (a .bounds)) (numberAt 4 d 12) 0 + numberAt 4 d 0 = cc in
     omega (arith, i .ends, i .rises, i .book .small)
 
 returns : tie.Need-returns

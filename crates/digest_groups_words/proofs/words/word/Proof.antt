@@ -6,7 +6,6 @@ use Rattle.digest_groups_words.specs.WordLaws.{six, word-small}
 use borrow.Author.Needs.{needs}
 use Rattle.digest_groups_words.proofs.words.word.Statement.{statement}
 use Rattle.digest_groups_words.proofs.words.word.Tie as tie
-use Rattle.digest_groups_words.proofs.words.next.Reads as next-reads
 
 cast-result : tie.Need-cast-result
 cast-result c = let a = c .before .before .before .before .before .before .before .args in omega (arith, six (lettersOf (a .decoy) (now (a .part))) (a .front) (c .before .before .before .before .before .next .result) (c .before .before .before .before .next2 .result) (c .before .before .before .next3 .result) (c .before .before .next4 .result) (c .before .next5 .result) (c .next6 .result) (c .before .before .before .before .before .next .ensures .0) (c .before .before .before .before .next2 .ensures .0) (c .before .before .before .next3 .ensures .0) (c .before .before .next4 .ensures .0) (c .before .next5 .ensures .0) (c .next6 .ensures .0), word-small (a .front) (lettersOf (a .decoy) (now (a .part))) (c .before .before .before .before .before .before .before .pre .1) (c .before .before .before .before .before .before .before .pre .0))

@@ -11,7 +11,7 @@ line-in-requires c κs =
     let p = c .before .before .before .before .before .before .before .before .before .before .before .before .before .pre in
     let l = c .before .before .before .before .lay-out in
     let a = c .before .before .before .before .before .before .before .before .before .before .before .before .before .args in
-    stretched-laid (a .names .now) (membersIn (a .members .now)) (a .marks .now) (a .list .now) (a .decoy) (a .tag .now) (a .generated) (l .last .1 .1 .1 .1 .1 .1 .1 .0) (a .c) (l .ensures) (p .0 .small) (p .1)
+    stretched-laid (a .names .now) (membersIn (a .members .now)) (a .marks .now) (a .list .now) (a .asked .decoy) (a .tag .now) (a .asked .generated) (l .last .1 .1 .1 .1 .1 .1 .1 .0) (a .c) (l .ensures) (p .0 .small) (p .1)
 
 returns : tie.Need-returns
 returns c =
@@ -19,7 +19,7 @@ returns c =
     let la = c .before .before .before .before .before .before .before .before .before .before .lay-out in
     let a = c .before .before .before .before .before .before .before .before .before .before .before .before .before .before .before .before .before .before .before .args in
     let l = c .before .before .before .before .before .line-in in
-    line-outcome (a .names .now) (a .members .now) (a .marks .now) (a .list .now) (a .decoy) (a .tag .now) (a .generated) (la .last .1 .1 .1 .1 .1 .1 .1 .0) (a .c) (la .ensures) (p .0 .small) (p .1) (a .out .now) (l .last .1 .1 .1 .1 .0) (l .result .bytes) (l .result .groups) (c .answer .result) (l .ensures) (c .answer .ensures)
+    line-outcome (a .names .now) (a .members .now) (a .marks .now) (a .list .now) (a .asked .decoy) (a .tag .now) (a .asked .generated) (la .last .1 .1 .1 .1 .1 .1 .1 .0) (a .c) (la .ensures) (p .0 .small) (p .1) (a .out .now) (l .last .1 .1 .1 .1 .0) (l .result .bytes) (l .result .groups) (c .answer .result) (l .ensures) (c .answer .ensures)
 
 pub line-laid-spec : {M : Type 1} → statement M
 line-laid-spec =

@@ -3,8 +3,6 @@ use mathlib.Core.Path.{_≡_, sym, _∙_}
 use denote.Ref.{now}
 use Rattle.report_lines_tests.specs.Testing.{contents}
 use Rattle.report_lines_tests.specs.TestingLaws.{contents-told, fair-good}
-use Rattle.records.specs.declared.refusal.Tested.{Tested}
-use Rattle.records.specs.declared.refusal.Tested.the-variants.{Passed}
 use Rattle.report_lines.specs.ReportingLaws.{names-told, good-given, good-tag}
 use borrow.Author.Needs.{needs}
 use Rattle.report_lines.proofs.reporting.line_over.Statement.{statement}
@@ -13,21 +11,17 @@ use Rattle.report_lines.proofs.reporting.line_over.Tie as tie
 -- what was found is what the contents tell
 told : (c : tie.After-lists-tested) → c .lists-tested .result ≡ contents (now (c .before .before .before .before .before .before .before .before .before .before .before .before .before .args .names)) (now (c .before .before .before .before .before .before .before .before .before .before .before .before .before .args .members)) (now (c .before .before .before .before .before .before .before .before .before .before .before .before .before .args .marks)) (now (c .before .before .before .before .before .before .before .before .before .before .before .before .before .args .list)) (now (c .before .before .before .before .before .before .before .before .before .before .before .before .before .args .tag))
 told c =
-    let a = c .before .before .before .before .before .before .before .before .before .before .before .before .before .args in
-    let m = c .before .before .before .names-tested-in in
-    contents-told (now (a .names)) (now (a .members)) (now (a .marks)) (now (a .list)) (now (a .tag)) (m .result) (c .before .before .before .before .before .name-count .result) (c .lists-tested .result)
-    (names-told (now (a .names)) (now (a .members)) (now (a .marks)) (now (a .list)) (now (a .w)) (a .c) (c .before .before .before .before .before .before .before .before .before .before .before .before .before .pre .0) (c .before .before .before .before .before .before .before .before .before .before .before .before .before .pre .1) (m .result) (m .last .1 .0) (m .ensures) .0) (c .before .before .before .before .before .name-count .ensures) (c .lists-tested .ensures)
+    let s = c .before .before .before .before .before .before .before .before .before .before .before .before .before in
+    let a = s .args in
+    contents-told (now (a .names)) (now (a .members)) (now (a .marks)) (now (a .list)) (now (a .tag))
+    (names-told (s .pre .0) (s .pre .1) (c .before .before .before .names-tested-in .ensures) .0) (c .before .before .before .before .before .name-count .ensures) (c .lists-tested .ensures)
 
 line-laid-requires : tie.Need-line-laid-requires
 line-laid-requires c κs =
-    let a = c .before .before .before .before .before .before .before .before .before .before .before .before .before .before .before .before .before .args in
-    let p = c .before .before .before .before .before .before .before .before .before .before .before .before .before .before .before .before .before .pre in
-    let m = c .before .before .before .before .before .before .before .names-tested-in in
-    let t = names-told (now (a .names)) (now (a .members)) (now (a .marks)) (now (a .list)) (now (a .w)) (a .c) (p .0) (p .1) (m .result) (m .last .1 .0) (m .ensures) in
-    let good = fair-good (now (a .names)) (now (a .members)) (now (a .marks)) (now (a .list)) (now (a .tag)) (p .0) (sym (told (c .before .before .before .before)) ∙ c .before .before .enum-told .given .1) in (
-      good-given (now (a .names)) (now (a .members)) (now (a .marks)) (now (a .list)) (now (a .tag)) good (now (a .w)) (m .last .1 .0) (a .c) (p .1) (t .1),
-      good-tag (now (a .names)) (now (a .members)) (now (a .marks)) (now (a .list)) (now (a .tag)) good,
-    )
+    let s = c .before .before .before .before .before .before .before .before .before .before .before .before .before .before .before .before .before in
+    let t = names-told (s .pre .0) (s .pre .1) (c .before .before .before .before .before .before .before .names-tested-in .ensures) in
+    let good = fair-good (now (s .args .tag)) (s .pre .0) (sym (told (c .before .before .before .before)) ∙ c .before .before .enum-told .given .1) in
+    (good-given good (s .pre .1) (t .1), good-tag good)
 
 returns : tie.Need-returns
 returns c = rw (sym (told (c .before .before .before)) ∙ c .before .found .given .1)

@@ -5,9 +5,7 @@ use borrow.Author.Needs.{needs}
 use Rattle.report_lines.proofs.reporting.line_small.Statement.{statement}
 use Rattle.report_lines.proofs.reporting.line_small.Tie as tie
 
-line-over-requires : tie.Need-line-over-requires
-line-over-requires c κs = own-table 1024 3090 (c .before .before .before .before .before .before .before .before .pre) (omega arith) (omega arith)
-
 pub line-small-spec : {M : Type 1} → statement M
 line-small-spec =
-    tie.close (tie.spec (λ c. search needs) line-over-requires (λ c. search needs) (λ c. search needs))
+    tie.close (tie.spec (λ c. search needs) (λ c κs. own-table 1024 3090 (c .before .before .before .before .before .before .before .before .pre) (omega arith) (omega arith)) (λ c. search needs)
+    (λ c. search needs))

@@ -6,15 +6,15 @@ use mathlib.Core.Bool.{cond}
 use mathlib.Core.List.{List}
 use lib.ListN.{length, getD}
 use borrow.Author.Needs.{needs}
-use Rattle.lists.specs.Lists.{has}
+use Rattle.lists.specs.Lists.{occurs}
 use Rattle.records.specs.Le.{numberAt}
-use Rattle.report_lines_note.specs.Noting.{first, Flagged}
+use Rattle.report_lines_note.specs.Noting.{firstMembers, Flagged}
 use Rattle.report_lines_note.specs.NoteLaws.{flag-none, flag-turn}
 use Rattle.report_lines_note.proofs.noting.note_groups.Statement.{statement}
 use Rattle.report_lines_note.proofs.noting.note_groups.Tie as tie
 
 abbrev Inv-loop : tie.InvT-loop
-Inv-loop members n marks decoy w₀ c m i₀ w i = (i ≤ n) × (length w ≡ length w₀) × ((list : List ℕ) → ((p : ℕ) → p < c → getD w₀ p 0 ≡ cond (has p list) 1 0) → Flagged (first members i) marks list decoy w₀ w c m)
+Inv-loop members n marks decoy w₀ c m i₀ w i = (i ≤ n) × (length w ≡ length w₀) × ((list : List ℕ) → ((p : ℕ) → p < c → getD w₀ p 0 ≡ cond (occurs p list) 1 0) → Flagged (firstMembers members i) marks list decoy w₀ w c m)
 
 abbrev μ-loop : tie.MeasureT-loop
 μ-loop members n marks decoy w₀ c m i₀ w i = n - i

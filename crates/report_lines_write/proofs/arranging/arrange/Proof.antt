@@ -1,7 +1,7 @@
 -- `arrange` meets its contract. Assumes nothing.
 use mathlib.Core.Logic.{inl, inr}
 use native.Mathlib.Omega.{arith}
-use Rattle.report_lines_write.specs.ReadyLaws.{ready}
+use Rattle.report_lines_write.specs.ReadyLaws.{texts-ready}
 use borrow.Author.Needs.{needs}
 use Rattle.report_lines_write.proofs.arranging.arrange.Statement.{statement}
 use Rattle.report_lines_write.proofs.arranging.arrange.Tie as tie
@@ -23,11 +23,7 @@ copy-requires-2 c κs =
     )
 
 returns : tie.Need-returns
-returns c =
-    let m = c .before .before .before .before .before .before .before .before .before .before .mark-lasts in
-    let co = c .before .before .before .before .before .before .copy in
-    let a = c .before .before .before .before .before .before .before .before .before .before .before .before .before .before .args in
-    ready (a .w .now) (a .c) (a .groups) (c .before .before .before .before .before .before .before .before .before .before .before .before .before .before .pre) (m .last .0) (m .result) (m .ensures) (co .last .0) (co .ensures) (c .before .before .copy2 .last .0) (c .before .before .copy2 .ensures)
+returns c = texts-ready (c .before .before .before .before .before .before .before .before .before .before .before .before .before .before .pre) (c .before .before .before .before .before .before .before .before .before .before .mark-lasts .ensures) (c .before .before .before .before .before .before .copy .ensures) (c .before .before .copy2 .ensures)
 
 pub arrange-spec : {M : Type 1} → statement M
 arrange-spec =

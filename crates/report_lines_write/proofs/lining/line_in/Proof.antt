@@ -5,17 +5,12 @@ use Rattle.report_lines_write.proofs.lining.line_in.Statement.{statemen
 use Rattle.report_lines_write.proofs.lining.line_in.Tie as tie
 
 write-line-requires : tie.Need-write-line-requires
-write-line-requires c κs =
-    let a = c .before .before .before .before .before .before .before .before .before .before .before .args in
-    let o = c .before .before .before .before .before .before .order in
-    lined-fits (a .names .now) (a .w .now) (a .c) (a .groups) (o .last .1 .0) (o .result) (o .ensures) (c .before .before .before .before .before .before .before .before .before .before .before .pre)
+write-line-requires c κs = lined-fits (c .before .before .before .before .before .before .order .ensures) (c .before .before .before .before .before .before .before .before .before .before .before .pre)
 
 returns : tie.Need-returns
 returns c =
-    let a = c .before .before .before .before .before .before .before .before .before .before .before .before .before .before .args in
-    let o = c .before .before .before .before .before .before .before .before .before .order in
     let l = c .before .before .write-line in
-    lined-written (a .names .now) (a .w .now) (a .c) (a .groups) (o .last .1 .0) (o .result) (o .ensures) (a .out .now) (l .last .1 .1 .1 .0) (l .result .bytes) (l .result .groups) (l .ensures)
+    lined-written (c .before .before .before .before .before .before .before .before .before .order .ensures) (c .before .before .before .before .before .before .before .before .before .before .before .before .before .before .args .out .now) (l .last .1 .1 .1 .0) (l .result .bytes) (l .result .groups) (l .ensures)
 
 pub line-in-spec : {M : Type 1} → statement M
 line-in-spec =

@@ -3,7 +3,7 @@ use Prim.Native.Nat.{_*_}
 use mathlib.Core.Path.{_≡_}
 use Rattle.sorting_texts.specs.declared.text.By.the-variants.{Joined}
 use Rattle.sorting_slices.specs.Sorting.{arranged}
-use Rattle.report_lines_write.specs.OrderLaws.{sort-fits, ordered}
+use Rattle.report_lines_write.specs.OrderLaws.{sort-fits, line-ordered}
 use borrow.Author.Needs.{needs}
 use Rattle.report_lines_write.proofs.lining.order.Statement.{statement}
 use Rattle.report_lines_write.proofs.lining.order.Tie as tie
@@ -13,9 +13,9 @@ returns c =
     let p = c .before .before .before .before .before .before .before .before .before .before .pre in
     let a = c .before .before .before .before .before .before .before .before .before .before .args in
     let r = c .before .before .before .before .before .before .arrange in
-    let f = sort-fits (a .names .now) (a .w .now) (a .c) (a .groups) (p) (r .last .0) (r .result) (r .ensures) in
+    let f = sort-fits (a .names .now) p (r .ensures) in
     let e : c .before .before .sort .last .1 .1 .0 ≡ arranged Joined (a .names .now) 0 (r .result) (a .c) (2 * a .c) (r .last .0) = rw f at (c .before .before .sort .ensures .1) in
-    rw e (ordered (a .names .now) (a .w .now) (a .c) (a .groups) (p) (r .last .0) (r .result) (r .ensures))
+    rw e (line-ordered (a .names .now) p (r .ensures))
 
 pub order-spec : {M : Type 1} → statement M
 order-spec =

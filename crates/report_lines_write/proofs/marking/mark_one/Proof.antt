@@ -10,17 +10,18 @@ use borrow.Author.Needs.{needs}
 use Rattle.report_lines_write.proofs.marking.mark_one.Statement.{statement}
 use Rattle.report_lines_write.proofs.marking.mark_one.Tie as tie
 
--- src/marking.rt:19:21
 add-entry : tie.Need-add-entry
 add-entry c = omega (arith, c .before .before .before .before .pre .3 (c .before .if1 .taken))
 
--- src/marking.rt:11:1
 returns : tie.Need-returns
-returns c = let t : ltb (getD (c .before .before .before .before .args .w .now) (c .before .before .before .before .args .b + c .before .before .before .before .args .g) 0) (getD (c .before .before .before .before .args .w .now) (c .before .before .before .before .args .b + (c .before .before .before .before .args .g + 1)) 0) ≡ true = lt-ltb _ _ (c .before .if1 .taken) in (rw t, rw t)
+returns c =
+    let a = c .before .before .before .before .args in
+    let t : ltb (getD (a .w .now) (a .b + a .g) 0) (getD (a .w .now) (a .b + (a .g + 1)) 0) ≡ true = lt-ltb _ _ (c .before .if1 .taken) in (rw t, rw t)
 
--- src/marking.rt:11:1
 returns-2 : tie.Need-returns-2
-returns-2 c = let t : ltb (getD (c .before .before .before .args .w .now) (c .before .before .before .args .b + c .before .before .before .args .g) 0) (getD (c .before .before .before .args .w .now) (c .before .before .before .args .b + (c .before .before .before .args .g + 1)) 0) ≡ false = le-ltb _ _ (c .if1 .left) in (rw t, rw t)
+returns-2 c =
+    let a = c .before .before .before .args in
+    let t : ltb (getD (a .w .now) (a .b + a .g) 0) (getD (a .w .now) (a .b + (a .g + 1)) 0) ≡ false = le-ltb _ _ (c .if1 .left) in (rw t, rw t)
 
 pub mark-one-spec : {M : Type 1} → statement M
 mark-one-spec =

@@ -1,5 +1,5 @@
 -- `number_runs` meets its contract. Assumes nothing.
-use mathlib.Core.Path.{refl, sym, _∙_}
+use mathlib.Core.Path.{sym, _∙_}
 use native.Mathlib.Omega.{arith}
 use lib.ListN.{length}
 use Rattle.sorting_runs.specs.NumberLaws.{numberable-order, number-fits, number-unfit}
@@ -7,14 +7,10 @@ use borrow.Author.Needs.{needs}
 use Rattle.sorting_runs.proofs.runs.number_runs.Statement.{statement}
 use Rattle.sorting_runs.proofs.runs.number_runs.Tie as tie
 
-sub-t : tie.Need-sub-t
-sub-t c = let a = c .before .before .before .before .args in let o = numberable-order (a .lo) (a .hi) (a .to) (a .e) (length (a .w .now)) (sym (c .before .counts .ensures) ∙ c .if1 .taken) in o .0
-
-add-t : tie.Need-add-t
-add-t c = let a = c .before .before .before .before .args in let o = numberable-order (a .lo) (a .hi) (a .to) (a .e) (length (a .w .now)) (sym (c .before .counts .ensures) ∙ c .if1 .taken) in omega arith
-
 number-fitting-requires : tie.Need-number-fitting-requires
-number-fitting-requires c κs = let a = c .before .before .before .before .before .args in let o = numberable-order (a .lo) (a .hi) (a .to) (a .e) (length (a .w .now)) (sym (c .before .before .counts .ensures) ∙ c .before .if1 .taken) in (o .0, o .1, refl, o .2, o .3, o .4)
+number-fitting-requires c κs =
+    let a = c .before .before .before .before .before .args in
+    numberable-order (a .lo) (a .hi) (a .to) (a .e) (length (a .w .now)) (sym (c .before .before .counts .ensures) ∙ c .before .if1 .taken)
 
 returns : tie.Need-returns
 returns c =
@@ -29,5 +25,5 @@ returns-2 c =
 
 pub number-runs-spec : {M : Type 1} → statement M
 number-runs-spec =
-    tie.close (tie.spec (λ c κs. search needs) sub-t add-t number-fitting-requires (λ c. search needs) returns
+    tie.close (tie.spec (λ c κs. search needs) number-fitting-requires (λ c. search needs) returns
     returns-2)

@@ -1,11 +1,11 @@
 -- `run_end` meets its contract. Assumes nothing.
 use lib.ListN.{length}
-use Rattle.sorting_spec.specs.RunLaws.{standing}
+use Rattle.sorting_runs.specs.NumberLaws.{run-stands}
 use Rattle.sorting_runs.proofs.runs.run_end.Statement.{statement}
 use Rattle.sorting_runs.proofs.runs.run_end.Tie as tie
 
 stop-requires : tie.Need-stop-requires
-stop-requires c κs = let a = c .before .before .before .args in standing (a .lo) (a .hi) (a .e) (length (a .w .now)) (c .if1 .taken)
+stop-requires c κs = let a = c .before .before .before .args in run-stands (a .lo) (a .hi) (a .e) (length (a .w .now)) (c .if1 .taken)
 
 returns : tie.Need-returns
 returns c = rw (c .before .if1 .taken) (c .stop .ensures)

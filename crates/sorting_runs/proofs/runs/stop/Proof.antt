@@ -23,35 +23,8 @@ abbrev μ-loop : tie.MeasureT-loop
 returns : tie.Need-returns Inv-loop μ-loop
 returns c = let a = c .before .before .before .args in rw (c .if1 .taken) (sym (run-empty (leBy (a .by) (a .letters .now) (drop (a .e) (a .w .now))) (a .w .now) (a .hi)))
 
-mul-p : tie.Need-mul-p Inv-loop μ-loop
-mul-p c = omega arith
-
-shared-slice-read-p : tie.Need-shared-slice-read-p Inv-loop μ-loop
-shared-slice-read-p c = omega arith
-
-add-i : tie.Need-add-i Inv-loop μ-loop
-add-i c = omega arith
-
 loop-holds : tie.Need-loop-holds Inv-loop μ-loop
 loop-holds c = let a = c .before .before .before .before .args in (omega arith, omega arith, run-begin (leBy (a .by) (a .letters .now) (drop (a .e) (a .w .now))) (a .w .now) (a .lo) (a .hi) (omega arith) (omega arith))
-
-mul-x : tie.Need-mul-x Inv-loop μ-loop
-mul-x c = omega arith
-
-shared-slice-read-x : tie.Need-shared-slice-read-x Inv-loop μ-loop
-shared-slice-read-x c = omega arith
-
-mul-le : tie.Need-mul-le Inv-loop μ-loop
-mul-le c = omega arith
-
-sub-le : tie.Need-sub-le Inv-loop μ-loop
-sub-le c = omega arith
-
-add-i-2 : tie.Need-add-i-2 Inv-loop μ-loop
-add-i-2 c = omega arith
-
-loop-less : tie.Need-loop-less Inv-loop μ-loop
-loop-less c = omega arith
 
 loop-again : tie.Need-loop-again Inv-loop μ-loop
 loop-again c =
@@ -79,6 +52,6 @@ returns-3 c =
 
 pub stop-spec : {M : Type 1} → statement M
 stop-spec =
-    tie.close (tie.spec Inv-loop μ-loop returns mul-p shared-slice-read-p add-i loop-holds mul-x
-    shared-slice-read-x mul-le sub-le (λ c. search needs) (λ c. search needs) (λ c κs. search needs) add-i-2
-    loop-less loop-again returns-2 returns-3)
+    tie.close (tie.spec Inv-loop μ-loop returns (λ c. omega arith) (λ c. omega arith) (λ c. omega arith) loop-holds
+    (λ c. omega arith) (λ c. omega arith) (λ c. omega arith) (λ c. omega arith) (λ c. search needs)
+    (λ c. search needs) (λ c κs. search needs) (λ c. omega arith) (λ c. omega arith) loop-again returns-2 returns-3)

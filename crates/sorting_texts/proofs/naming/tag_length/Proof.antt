@@ -15,19 +15,10 @@ Inv-loop keys i₀ i = i ≤ length (tagIn keys)
 abbrev μ-loop : tie.MeasureT-loop
 μ-loop keys i₀ i = 16 - i
 
-loop-holds : tie.Need-loop-holds Inv-loop μ-loop
-loop-holds c = omega arith
-
 returns : tie.Need-returns Inv-loop μ-loop
 returns c =
     let l = c .before .before .before .loop in
     tag-end (c .before .before .before .before .before .args .keys .now) (l .i) (omega arith) (l .inv) (sym (c .before .number-at .ensures) ∙ c .if1 .taken)
-
-add-i : tie.Need-add-i Inv-loop μ-loop
-add-i c = omega arith
-
-loop-less : tie.Need-loop-less Inv-loop μ-loop
-loop-less c = omega arith
 
 loop-again : tie.Need-loop-again Inv-loop μ-loop
 loop-again c =
@@ -39,5 +30,5 @@ returns-2 c = omega (arith, tag-short (c .before .before .before .args .keys .no
 
 pub tag-length-spec : {M : Type 1} → statement M
 tag-length-spec =
-    tie.close (tie.spec Inv-loop μ-loop loop-holds (λ c κs. search needs) returns add-i loop-less loop-again
-    returns-2)
+    tie.close (tie.spec Inv-loop μ-loop (λ c. omega arith) (λ c κs. search needs) returns (λ c. omega arith)
+    (λ c. omega arith) loop-again returns-2)

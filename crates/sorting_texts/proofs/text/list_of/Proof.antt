@@ -8,9 +8,10 @@ use Rattle.sorting_texts.proofs.text.list_of.Tie as tie
 
 returns : tie.Need-returns
 returns c =
-    let keys = c .before .before .before .before .args .keys .now in
-    let base = c .before .before .before .before .args .base in
-    let x = c .before .before .before .before .args .x in
+    let a = c .before .before .before .before .args in
+    let keys = a .keys .now in
+    let base = a .base in
+    let x = a .x in
     rw (sym (c .before .before .number-at .ensures), sym (c .before .number-at2 .ensures))
     (stands (base + c .before .before .number-at .result) (base + c .before .number-at2 .result) (c .cut .result .from) (c .cut .result .to) keys (c .cut .ensures .0) (c .cut .ensures .1))
 
