@@ -16,7 +16,7 @@ use Rattle.records.specs.Room.{written, counted}
 use Rattle.records.specs.RoomLaws.{Sized, Standing, written-none, written-more, standing-length, standing-done, standing-full}
 use Rattle.enzyme_cuts.specs.declared.kinds.Enzyme.{Enzyme}
 use Rattle.enzyme_cuts.specs.Cutting.{Range, wanted, digests, kept}
-use Rattle.enzyme_cuts.specs.Work.{Inside}
+use Rattle.enzyme_cuts.specs.Work.{RangesWithin}
 use Rattle.enzyme_cuts.specs.InsideLaws.{inside-append}
 use Rattle.enzyme_keep.specs.declared.offering.Step.{Step}
 use Rattle.enzyme_keep.specs.declared.offering.Step.the-variants.{Kept, Full}
@@ -24,7 +24,7 @@ use Rattle.enzyme_keep.specs.declared.offering.Terms.{Terms}
 use Rattle.enzyme_keep.specs.Digests.{recordOf}
 use Rattle.enzyme_keep.specs.Buffer.{rangesIn}
 use Rattle.enzyme_keep.specs.BufferLaws.{length-record, ranges-more}
-use Rattle.enzyme_keep.specs.Steps.{room, After, after, decided, offered, andThen, offers}
+use Rattle.enzyme_keep.specs.Steps.{digestRoom, After, after, decided, offered, unlessFull, offers}
 use Rattle.enzyme_ways.specs.Ways.{way}
 use Rattle.enzyme_ways.specs.WayLaws.{way-keeps, way-inside}
 use Rattle.records.specs.declared.refusal.Counted.{Counted}
@@ -32,8 +32,8 @@ use Rattle.records.specs.declared.refusal.Counted.the-variants.{Count, Refused}
 use Rattle.enzyme_spec.specs.Digestion.{digestRecords}
 
 -- the answer to a whole run
-abbrev pub ended : After → Outcome Counted
-ended a = go (a .step)
+abbrev pub runAnswer : After → Outcome Counted
+runAnswer a = go (a .step)
   where
     go : Step → Outcome Counted
     go (Kept count) = outcome (Count count) (a .bytes ∷ [])
@@ -70,13 +70,13 @@ record State (run : Run) (rest : List Range) (out : List ℕ) (count : ℕ) : Ty
   bytes : out ≡ written (run .old) (recs run ks)
   ranges : rangesIn count out ≡ ks
   number : count ≡ length ks
-  free : count ≤ room (run .old)
-  inside : Inside (length (run .s)) ks
+  free : count ≤ digestRoom (run .old)
+  inside : RangesWithin (length (run .s)) ks
   ahead : foldl (kept (run .s) (run .terms .minimum) (run .terms .maximum)) ks rest ≡ run .all
 
 module _ (run : Run) where
   -- the records that are written, and those behind them
-  stands : (ks more : List Range) (out : List ℕ) (count : ℕ) → out ≡ written (run .old) (recs run ks) → count ≡ length ks → count ≤ room (run .old)
+  stands : (ks more : List Range) (out : List ℕ) (count : ℕ) → out ≡ written (run .old) (recs run ks) → count ≡ length ks → count ≤ digestRoom (run .old)
       → Standing 16 1048576 (run .old) (recs run (ks ++ more)) (recs run more) out count
   stands ks more out count b n f =
       record { before = recs run ks; split = sym (map-append (recordOf (length (run .s)) (run .terms .protein)) ks more); bytes = b; number = n ∙ sym (length-map ks (recordOf (length (run .s)) (run .terms .protein))); room = f }
@@ -98,14 +98,14 @@ module _ (run : Run) where
     new = recordOf (length (run .s)) (run .terms .protein) r
 
     -- the offer, with its two tests as they come out
-    onward : (w b : Bool) → wanted (run .s) (run .terms .minimum) (run .terms .maximum) (st .ks) r ≡ w → ltb count (room (run .old)) ≡ b
+    onward : (w b : Bool) → wanted (run .s) (run .terms .minimum) (run .terms .maximum) (st .ks) r ≡ w → ltb count (digestRoom (run .old)) ≡ b
         → (out′ : List ℕ) (count′ : ℕ) → after (Kept count′) out′ ≡ decided w b count out new → State run rest out′ count′
     unfolding new
     onward true true e f out′ count′ g =
         let p : Kept count′ ≡ Kept (count + 1) = ap (λ (x : After). x .step) g in
         let q : out′ ≡ sets out (16 * count) new = ap (λ (x : After). x .bytes) g in
         let c : count′ ≡ count + 1 = cc in
-        let l : count < room (run .old) = ltb-true _ _ f in
+        let l : count < digestRoom (run .old) = ltb-true _ _ f in
         let m = min-le-left (length (run .old) / 16) 1048576 in
         let d : length (recs run (st .ks)) ≡ length (st .ks) = length-map (st .ks) (recordOf (length (run .s)) (run .terms .protein)) in
         let i : 16 * length (recs run (st .ks)) + 16 ≤ length (run .old) = omega (arith, st .number) in
@@ -131,7 +131,7 @@ module _ (run : Run) where
         let c : count′ ≡ count = cc in
         record { ks = st .ks; bytes = q ∙ st .bytes; ranges = ap₂ rangesIn c q ∙ st .ranges; number = c ∙ st .number; free = omega (arith, c, st .free); inside = st .inside; ahead = rw e at (st .ahead) }
 
-    full : (w b : Bool) → wanted (run .s) (run .terms .minimum) (run .terms .maximum) (st .ks) r ≡ w → ltb count (room (run .old)) ≡ b
+    full : (w b : Bool) → wanted (run .s) (run .terms .minimum) (run .terms .maximum) (st .ks) r ≡ w → ltb count (digestRoom (run .old)) ≡ b
         → (out′ : List ℕ) → after Full out′ ≡ decided w b count out new → outcome (Refused Room) (out′ ∷ []) ≡ counted 16 1048576 (run .old) (recs run (run .all))
     unfolding new
     full true true e f out′ g =
@@ -151,15 +151,15 @@ module _ (run : Run) where
         absurd (omega arith)
 
     stepped : (x : Step) (o : List ℕ) → after x o ≡ offered (run .s) (run .terms) r count out
-        → ((o : List ℕ) (n : ℕ) → State run rest o n → ended (offers (run .s) (run .terms) rest n o) ≡ counted 16 1048576 (run .old) (recs run (run .all)))
-        → ended (andThen (after x o) (offers (run .s) (run .terms) rest)) ≡ counted 16 1048576 (run .old) (recs run (run .all))
+        → ((o : List ℕ) (n : ℕ) → State run rest o n → runAnswer (offers (run .s) (run .terms) rest n o) ≡ counted 16 1048576 (run .old) (recs run (run .all)))
+        → runAnswer (unlessFull (after x o) (offers (run .s) (run .terms) rest)) ≡ counted 16 1048576 (run .old) (recs run (run .all))
     unfolding new offered
     stepped (Kept n) o f ih = ih o n (onward _ _ refl refl o n (rw (st .ranges, same-length (r ∷ rest) out count st) at f))
     stepped Full o f ih = full _ _ refl refl o (rw (st .ranges, same-length (r ∷ rest) out count st) at f)
 
   -- a run from any state ends as the definition says
-  run-ends : (rest : List Range) (out : List ℕ) (count : ℕ) → State run rest out count → Inside (length (run .s)) rest
-      → ended (offers (run .s) (run .terms) rest count out) ≡ counted 16 1048576 (run .old) (recs run (run .all))
+  run-ends : (rest : List Range) (out : List ℕ) (count : ℕ) → State run rest out count → RangesWithin (length (run .s)) rest
+      → runAnswer (offers (run .s) (run .terms) rest count out) ≡ counted 16 1048576 (run .old) (recs run (run .all))
   run-ends [] out count st i = finished out count st
   run-ends (r ∷ rest) out count st i =
       let a = offered (run .s) (run .terms) r count out in
@@ -167,7 +167,7 @@ module _ (run : Run) where
 
 -- what the code offers gives what the definition says
 pub run-all : (e : Enzyme) (missed : ℕ) (t : Terms) (s old : List ℕ) → length s ≤ 65536
-    → ended (offers s t (way e missed (t .minimum) (t .maximum) s) 0 old) ≡ counted 16 1048576 old (digestRecords e missed (t .minimum) (t .maximum) (t .protein) s)
+    → runAnswer (offers s t (way e missed (t .minimum) (t .maximum) s) 0 old) ≡ counted 16 1048576 old (digestRecords e missed (t .minimum) (t .maximum) (t .protein) s)
 run-all e missed t s old small =
     let run : Run = record { s = s; terms = t; old = old; all = digests e missed (t .minimum) (t .maximum) s; small = small } in
     let cs = way e missed (t .minimum) (t .maximum) s in

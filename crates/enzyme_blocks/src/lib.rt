@@ -4,4 +4,3 @@ mod blocks;
 pub use blocks::block_end;
 pub use blocks::fill_least;
 pub use blocks::lesser;
-pub use blocks::wide;

@@ -1,6 +1,6 @@
 // The code of a site: a number made of its letters alone, so that sites of the same letters have one code.
 ghost use mathlib.Core.Path.{_≡_};
-ghost use Rattle.enzyme_keys.specs.Keys.{Site};
+ghost use Rattle.enzyme_keys.specs.Keys.{SiteWithin};
 ghost use Rattle.enzyme_codes.specs.Codes.{lastFour, mixed, folded, codeOf, codeAt};
 
 fn full(x: u32) -> u64
@@ -52,7 +52,7 @@ fn code_of(site: &[u8], size: usize) -> u16
 
 // That of site z.
 pub fn code_at(letters: &[u8], starts: &[u32], z: usize, size: usize) -> u16
-    requires { ⌜ Site (now letters) (now starts) z ⌝ }
+    requires { ⌜ SiteWithin (now letters) (now starts) z ⌝ }
     ensures { λ r. ⌜ r ≡ codeAt size (now (letters .entry)) (now (starts .entry)) z ⌝ }
 {
     let a = enzyme_keys::long(starts[z]);

@@ -68,13 +68,13 @@ abbrev pub endSites : ℕ → List Range
 endSites n = site 0 n ∷ site n n ∷ []
 
 -- the first start to the last end
-abbrev pub join : ℕ → Range → Range → Range
-join m r q = range (r .from) (q .to) m 0
+abbrev pub span : ℕ → Range → Range → Range
+span m r q = range (r .from) (q .to) m 0
 
 abbrev pub zip : ℕ → List Range → List Range → List Range
 zip m [] qs = []
 zip m (r ∷ rs) [] = []
-zip m (r ∷ rs) (q ∷ qs) = join m r q ∷ zip m rs qs
+zip m (r ∷ rs) (q ∷ qs) = span m r q ∷ zip m rs qs
 
 -- the windows of m + 1 neighbouring sites: each site with the one m places on
 abbrev pub windows : ℕ → List Range → List Range

@@ -4,15 +4,15 @@ use mathlib.Core.Path.{_≡_, refl, sym, subst}
 use mathlib.Core.Bool.{Bool, true, false, cond}
 use mathlib.Core.List.{List, [], _∷_, _++_}
 use native.Mathlib.Omega.{arith}
-use lib.ListN.{length, drop}
+use lib.ListN.{length, drop, length-take, length-drop}
 use Rattle.enzyme_cuts.specs.declared.kinds.Side.{Side}
 use Rattle.enzyme_cuts.specs.declared.kinds.Side.the-variants.{C, N}
 use Rattle.enzyme_cuts.specs.declared.kinds.Kind.{Kind}
 use Rattle.enzyme_cuts.specs.declared.kinds.Kind.the-variants.{None, End, Set}
 use Rattle.enzyme_cuts.specs.declared.kinds.Enzyme.{Enzyme}
 use Rattle.enzyme_cuts.specs.declared.kinds.Knife.{Knife}
-use Rattle.enzyme_cuts.specs.Cutting.{Range, site, knife, meant, cutOf, cutsAt, setSites, zip, windows, windowsFrom, halves, starting, ofLength, ofLengths}
-use Rattle.enzyme_cuts.specs.Work.{Inside, inner, partsOf, spread, setWindows, setWork, workOf, work, tailOf}
+use Rattle.enzyme_cuts.specs.Cutting.{Range, site, knife, meant, cutOf, cutsAt, setSites, zip, windows, windowsFrom, halves, starting, ofLength, ofLengths, part}
+use Rattle.enzyme_cuts.specs.Work.{RangesWithin, innerHalves, partsOf, allParts, setWindows, setWork, workOf, work, tailOf}
 
 -- ranges that follow one another from lo on, within n
 abbrev Chain : ℕ → ℕ → List Range → Type 0
@@ -51,7 +51,7 @@ drop-tail (suc m) r [] = nil m
     nil (suc m) = refl
 drop-tail (suc m) r (x ∷ rs) = drop-tail m x rs
 
-windows-inside : (n lo k m : ℕ) (rs : List Range) → Chain n lo rs → Inside n (zip k rs (drop m rs))
+windows-inside : (n lo k m : ℕ) (rs : List Range) → Chain n lo rs → RangesWithin n (zip k rs (drop m rs))
 windows-inside n lo k m [] c = tt
 windows-inside n lo k m (r ∷ rs) c =
     go (drop m (r ∷ rs)) (chain-drop n (r .from) m (r ∷ rs) (chain-weaken′ c)) (drop-tail m r rs) (windows-inside n (r .to) k m rs (c .3))
@@ -59,78 +59,82 @@ windows-inside n lo k m (r ∷ rs) c =
     chain-weaken′ : Chain n lo (r ∷ rs) → Chain n (r .from) (r ∷ rs)
     chain-weaken′ c = (omega arith, c .1, c .2, c .3)
 
-    go : (qs : List Range) → Chain n (r .from) qs → tailOf qs ≡ drop m rs → Inside n (zip k rs (drop m rs)) → Inside n (zip k (r ∷ rs) qs)
+    go : (qs : List Range) → Chain n (r .from) qs → tailOf qs ≡ drop m rs → RangesWithin n (zip k rs (drop m rs)) → RangesWithin n (zip k (r ∷ rs) qs)
     go [] d e ih = tt
     go (q ∷ qs) d e ih =
         let x = d .0 in
         let y = d .1 in
-        (omega arith, d .2, subst (λ (l : List Range). Inside n (zip k rs l)) (sym e) ih)
+        (omega arith, d .2, subst (λ (l : List Range). RangesWithin n (zip k rs l)) (sym e) ih)
 
-pub inside-append : (n : ℕ) (xs ys : List Range) → Inside n xs → Inside n ys → Inside n (xs ++ ys)
+pub inside-append : (n : ℕ) (xs ys : List Range) → RangesWithin n xs → RangesWithin n ys → RangesWithin n (xs ++ ys)
 inside-append n [] ys i j = j
 inside-append n (x ∷ xs) ys i j = (i .0, i .1, inside-append n xs ys (i .2) j)
 
-all-inside : (n lo m k : ℕ) (rs : List Range) → Chain n lo rs → Inside n (windowsFrom m k rs)
+all-inside : (n lo m k : ℕ) (rs : List Range) → Chain n lo rs → RangesWithin n (windowsFrom m k rs)
 all-inside n lo m zero rs c = tt
 all-inside n lo m (suc k) rs c = inside-append n (windows m rs) (windowsFrom (suc m) k rs) (windows-inside n lo m m rs c) (all-inside n lo (suc m) k rs c)
 
 -- the parts of a site
-halves-inside : (n : ℕ) (r : Range) (c m : ℕ) → r .from ≤ c → c + m ≤ r .to → r .to ≤ n → Inside n (halves r c m)
+halves-inside : (n : ℕ) (r : Range) (c m : ℕ) → r .from ≤ c → c + m ≤ r .to → r .to ≤ n → RangesWithin n (halves r c m)
 halves-inside n r c zero h i j = tt
 halves-inside n r c (suc m) h i j = (h, omega arith, (omega arith, j, halves-inside n r (suc c) m (omega arith) (omega arith) j))
 
-inner-inside : (n : ℕ) (r : Range) → r .to ≤ n → Inside n (inner r)
+inner-inside : (n : ℕ) (r : Range) → r .to ≤ n → RangesWithin n (innerHalves r)
 inner-inside n r j = go (r .to - suc (r .from)) refl
   where
-    go : (m : ℕ) → r .to - suc (r .from) ≡ m → Inside n (halves r (suc (r .from)) m)
+    go : (m : ℕ) → r .to - suc (r .from) ≡ m → RangesWithin n (halves r (suc (r .from)) m)
     go zero e = tt
     go (suc m) e = halves-inside n r (suc (r .from)) (suc m) (omega arith) (omega arith) j
 
-pub parts-inside : (n : ℕ) (b : Bool) (r : Range) → r .from ≤ r .to → r .to ≤ n → Inside n (partsOf b r)
+pub parts-inside : (n : ℕ) (b : Bool) (r : Range) → r .from ≤ r .to → r .to ≤ n → RangesWithin n (partsOf b r)
 parts-inside n true r h j = inner-inside n r j
 parts-inside n false r h j = (h, j, tt)
 
-spread-inside : (n : ℕ) (b : Bool) (rs : List Range) → Inside n rs → Inside n (spread b rs)
+spread-inside : (n : ℕ) (b : Bool) (rs : List Range) → RangesWithin n rs → RangesWithin n (allParts b rs)
 spread-inside n b [] i = tt
-spread-inside n b (r ∷ rs) i = inside-append n (partsOf b r) (spread b rs) (parts-inside n b r (i .0) (i .1)) (spread-inside n b rs (i .2))
+spread-inside n b (r ∷ rs) i = inside-append n (partsOf b r) (allParts b rs) (parts-inside n b r (i .0) (i .1)) (spread-inside n b rs (i .2))
 
 module _ (k : Knife) (s : List ℕ) where
   chain : Chain (length s) 0 (setSites k 0 0 s)
   chain = sites-chain k (length s) 0 0 s (omega arith) (omega arith)
 
-  pub inside-windows : (b : Bool) (m : ℕ) → Inside (length s) (spread b (windows m (setSites k 0 0 s)))
+  pub inside-windows : (b : Bool) (m : ℕ) → RangesWithin (length s) (allParts b (windows m (setSites k 0 0 s)))
   inside-windows b m = spread-inside (length s) b (windows m (setSites k 0 0 s)) (windows-inside (length s) 0 m m (setSites k 0 0 s) chain)
 
-  pub inside-sizes : (b : Bool) (missed : ℕ) → Inside (length s) (spread b (setWindows k missed s))
+  pub inside-sizes : (b : Bool) (missed : ℕ) → RangesWithin (length s) (allParts b (setWindows k missed s))
   inside-sizes b missed = spread-inside (length s) b (setWindows k missed s) (all-inside (length s) 0 0 (suc missed) (setSites k 0 0 s) chain)
 
-  inside-set : (semi : Bool) (missed : ℕ) → Inside (length s) (setWork k semi missed s)
-  inside-set semi missed = inside-append (length s) (spread false (setWindows k missed s)) (cond semi (spread true (setWindows k missed s)) []) (inside-sizes false missed) (go semi)
+  inside-set : (semi : Bool) (missed : ℕ) → RangesWithin (length s) (setWork k semi missed s)
+  inside-set semi missed = inside-append (length s) (allParts false (setWindows k missed s)) (cond semi (allParts true (setWindows k missed s)) []) (inside-sizes false missed) (go semi)
     where
-      go : (t : Bool) → Inside (length s) (cond t (spread true (setWindows k missed s)) [])
+      go : (t : Bool) → RangesWithin (length s) (cond t (allParts true (setWindows k missed s)) [])
       go true = inside-sizes true missed
       go false = tt
 
 -- the ranges of "none"
-starting-inside : (n len i m : ℕ) → i + m + len ≤ suc n → Inside n (starting len i m)
+starting-inside : (n len i m : ℕ) → i + m + len ≤ suc n → RangesWithin n (starting len i m)
 starting-inside n len i zero h = tt
 starting-inside n len i (suc m) h = (omega arith, omega arith, starting-inside n len (suc i) m (omega arith))
 
-pub length-inside : (n len : ℕ) → Inside n (ofLength n len)
+pub length-inside : (n len : ℕ) → RangesWithin n (ofLength n len)
 length-inside n len = go (suc n - len) refl
   where
-    go : (m : ℕ) → suc n - len ≡ m → Inside n (starting len 0 m)
+    go : (m : ℕ) → suc n - len ≡ m → RangesWithin n (starting len 0 m)
     go zero e = tt
     go (suc m) e = starting-inside n len 0 (suc m) (omega arith)
 
-lengths-inside : (n len m : ℕ) → Inside n (ofLengths n len m)
+lengths-inside : (n len m : ℕ) → RangesWithin n (ofLengths n len m)
 lengths-inside n len zero = tt
 lengths-inside n len (suc m) = inside-append n (ofLength n len) (ofLengths n (suc len) m) (length-inside n len) (lengths-inside n (suc len) m)
 
-pub inside-work : (e : Enzyme) (missed mn mx : ℕ) (s : List ℕ) → Inside (length s) (work e missed mn mx s)
+pub inside-work : (e : Enzyme) (missed mn mx : ℕ) (s : List ℕ) → RangesWithin (length s) (work e missed mn mx s)
 inside-work e missed mn mx s = go (meant (e .kind))
   where
-    go : (K : Kind) → Inside (length s) (workOf K e missed mn mx s)
+    go : (K : Kind) → RangesWithin (length s) (workOf K e missed mn mx s)
     go None = lengths-inside (length s) mn (suc mx - mn)
     go End = (omega arith, omega arith, tt)
     go (Set cleave) = inside-set (knife cleave (e .skip) (e .side)) s (e .semi) missed
+
+-- how many letters a range has
+pub part-length : (s : List ℕ) (r : Range) → r .from ≤ r .to → r .to ≤ length s → length (part s r) ≡ r .to - r .from
+part-length s r h i = simp (length-take, length-drop) (omega arith)

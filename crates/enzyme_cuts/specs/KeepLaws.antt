@@ -3,12 +3,11 @@
 use Prim.Native.Nat.{ℕ, zero, suc, _-_}
 use mathlib.Core.Path.{_≡_, refl, ap, sym, _∙_}
 use mathlib.Core.Bool.{or-true, Bool, true, false, cond, _||_, and-false}
-use mathlib.Core.List.{List, [], _∷_, _++_, foldl, append-nil, append-assoc}
+use mathlib.Core.List.{List, [], _∷_, _++_, foldl, append-nil, append-assoc, foldl-append}
 use native.Mathlib.Omega.{arith}
 use lib.ListN.{length}
 use lib.Seq.{drop-nil}
 use Rattle.lists.specs.Tests.{and-not-or}
-use Rattle.lists.specs.KeepLaws.{foldl-append}
 use Rattle.lists.specs.Lists.{same}
 use Rattle.lists.specs.SameLaws.{same-refl}
 use Rattle.enzyme_cuts.specs.declared.kinds.Kind.{Kind}
@@ -16,7 +15,7 @@ use Rattle.enzyme_cuts.specs.declared.kinds.Kind.the-variants.{None, End
 use Rattle.enzyme_cuts.specs.declared.kinds.Enzyme.{Enzyme}
 use Rattle.enzyme_cuts.specs.declared.kinds.Knife.{Knife}
 use Rattle.enzyme_cuts.specs.Cutting.{Range, range, site, knife, meant, cutsAt, cutOf, setSites, endSites, windows, windowsFrom, withWindows, halves, semiOf, semis, withSemis, sitesOf, part, seenIn, within, wanted, digests, kept}
-use Rattle.enzyme_cuts.specs.Work.{inner, partsOf, spread, setWindows, setWork, workOf, work}
+use Rattle.enzyme_cuts.specs.Work.{innerHalves, partsOf, allParts, setWindows, setWork, workOf, work}
 
 pub seenIn-append : (s : List ℕ) (ks qs : List Range) (new : List ℕ) → seenIn s (ks ++ qs) new ≡ (seenIn s ks new || seenIn s qs new)
 seenIn-append s [] qs new = refl
@@ -80,10 +79,10 @@ module _ (s : List ℕ) (mn mx : ℕ) where
       ∙ sym (foldl-append (kept s mn mx) ks xs ys)
 
   -- the cut at the start of a site that was looked at
-  semi-inner : (ks : List Range) (r : Range) → wanted s mn mx ks r ≡ false → foldl (kept s mn mx) ks (semiOf r) ≡ foldl (kept s mn mx) ks (inner r)
+  semi-inner : (ks : List Range) (r : Range) → wanted s mn mx ks r ≡ false → foldl (kept s mn mx) ks (semiOf r) ≡ foldl (kept s mn mx) ks (innerHalves r)
   semi-inner ks r e = go (r .to - r .from) refl
     where
-      go : (n : ℕ) → r .to - r .from ≡ n → foldl (kept s mn mx) ks (halves r (r .from) n) ≡ foldl (kept s mn mx) ks (inner r)
+      go : (n : ℕ) → r .to - r .from ≡ n → foldl (kept s mn mx) ks (halves r (r .from) n) ≡ foldl (kept s mn mx) ks (innerHalves r)
       go zero h = let z : r .to - suc (r .from) ≡ 0 = omega arith in rw z
       go (suc n) h =
           let z : r .to - suc (r .from) ≡ n = omega arith in
@@ -92,21 +91,21 @@ module _ (s : List ℕ) (mn mx : ℕ) where
           let f : List Range → List Range = λ (qs : List Range). foldl (kept s mn mx) qs (halves r (suc (r .from)) n) in
           ap (λ (qs : List Range). f (kept s mn mx qs (range (r .from) (r .to) (r .missed) 1))) a ∙ ap f b ∙ rw z
 
-  semis-inner : (ks rs : List Range) → Settled ks rs → foldl (kept s mn mx) ks (semis rs) ≡ foldl (kept s mn mx) ks (spread true rs)
+  semis-inner : (ks rs : List Range) → Settled ks rs → foldl (kept s mn mx) ks (semis rs) ≡ foldl (kept s mn mx) ks (allParts true rs)
   semis-inner ks [] h = refl
   semis-inner ks (r ∷ rs) h =
       foldl-append (kept s mn mx) ks (semiOf r) (semis rs)
       ∙ ap (λ (qs : List Range). foldl (kept s mn mx) qs (semis rs)) (semi-inner ks r (h .0))
-      ∙ semis-inner (foldl (kept s mn mx) ks (inner r)) rs (settled-more ks (inner r) rs (h .1))
-      ∙ sym (foldl-append (kept s mn mx) ks (inner r) (spread true rs))
+      ∙ semis-inner (foldl (kept s mn mx) ks (innerHalves r)) rs (settled-more ks (innerHalves r) rs (h .1))
+      ∙ sym (foldl-append (kept s mn mx) ks (innerHalves r) (allParts true rs))
 
-pub spread-append : (b : Bool) (xs ys : List Range) → spread b (xs ++ ys) ≡ spread b xs ++ spread b ys
-spread-append b [] ys = refl
-spread-append b (x ∷ xs) ys = ap (λ (qs : List Range). partsOf b x ++ qs) (spread-append b xs ys) ∙ sym (append-assoc (partsOf b x) (spread b xs) (spread b ys))
+pub all-parts-append : (b : Bool) (xs ys : List Range) → allParts b (xs ++ ys) ≡ allParts b xs ++ allParts b ys
+all-parts-append b [] ys = refl
+all-parts-append b (x ∷ xs) ys = ap (λ (qs : List Range). partsOf b x ++ qs) (all-parts-append b xs ys) ∙ sym (append-assoc (partsOf b x) (allParts b xs) (allParts b ys))
 
-pub spread-plain : (rs : List Range) → spread false rs ≡ rs
-spread-plain [] = refl
-spread-plain (r ∷ rs) = ap (λ (qs : List Range). r ∷ qs) (spread-plain rs)
+pub all-parts-plain : (rs : List Range) → allParts false rs ≡ rs
+all-parts-plain [] = refl
+all-parts-plain (r ∷ rs) = ap (λ (qs : List Range). r ∷ qs) (all-parts-plain rs)
 
 -- the windows of one site are the sites
 pub windows-zero : (k : Knife) (left i : ℕ) (bs : List ℕ) → windows 0 (setSites k left i bs) ≡ setSites k left i bs
@@ -125,34 +124,34 @@ windows-zero k left i (b ∷ bs) = go (cutsAt k b bs) (λ lo. windows-zero k lo 
 module _ (s : List ℕ) (mn mx : ℕ) where
   -- the sites and the windows of one site: once is enough
   once : (b : Bool) (ks ss : List Range) → windows 0 ss ≡ ss → (missed : ℕ)
-      → foldl (kept s mn mx) ks (spread b (withWindows missed ss)) ≡ foldl (kept s mn mx) ks (spread b (windowsFrom 0 (suc missed) ss))
+      → foldl (kept s mn mx) ks (allParts b (withWindows missed ss)) ≡ foldl (kept s mn mx) ks (allParts b (windowsFrom 0 (suc missed) ss))
   once b ks ss z zero = rw (z, append-nil ss)
   once b ks ss z (suc m) =
       let W = windowsFrom 1 (suc m) ss in
-      ap (λ (qs : List Range). foldl (kept s mn mx) ks (spread b (ss ++ (qs ++ W)))) z
-      ∙ ap (foldl (kept s mn mx) ks) (spread-append b ss (ss ++ W) ∙ ap (λ (qs : List Range). spread b ss ++ qs) (spread-append b ss W))
-      ∙ twice s mn mx ks (spread b ss) (spread b W)
-      ∙ ap (foldl (kept s mn mx) ks) (sym (spread-append b ss W))
-      ∙ ap (λ (qs : List Range). foldl (kept s mn mx) ks (spread b (qs ++ W))) (sym z)
+      ap (λ (qs : List Range). foldl (kept s mn mx) ks (allParts b (ss ++ (qs ++ W)))) z
+      ∙ ap (foldl (kept s mn mx) ks) (all-parts-append b ss (ss ++ W) ∙ ap (λ (qs : List Range). allParts b ss ++ qs) (all-parts-append b ss W))
+      ∙ twice s mn mx ks (allParts b ss) (allParts b W)
+      ∙ ap (foldl (kept s mn mx) ks) (sym (all-parts-append b ss W))
+      ∙ ap (λ (qs : List Range). foldl (kept s mn mx) ks (allParts b (qs ++ W))) (sym z)
 
   set-work : (k : Knife) (semi : Bool) (missed : ℕ)
       → foldl (kept s mn mx) [] (setWork k semi missed s) ≡ foldl (kept s mn mx) [] (withSemis semi (withWindows missed (setSites k 0 0 s)))
   set-work k semi missed = go semi (setWindows k missed s) (withWindows missed (setSites k 0 0 s))
       (λ b ks. once b ks (setSites k 0 0 s) (windows-zero k 0 0 s) missed)
     where
-      go : (semi : Bool) (all base : List Range) → ((b : Bool) (ks : List Range) → foldl (kept s mn mx) ks (spread b base) ≡ foldl (kept s mn mx) ks (spread b all))
-          → foldl (kept s mn mx) [] (spread false all ++ cond semi (spread true all) []) ≡ foldl (kept s mn mx) [] (base ++ cond semi (semis base) [])
+      go : (semi : Bool) (all base : List Range) → ((b : Bool) (ks : List Range) → foldl (kept s mn mx) ks (allParts b base) ≡ foldl (kept s mn mx) ks (allParts b all))
+          → foldl (kept s mn mx) [] (allParts false all ++ cond semi (allParts true all) []) ≡ foldl (kept s mn mx) [] (base ++ cond semi (semis base) [])
       go true all base h =
-          let plain : foldl (kept s mn mx) [] (spread false all) ≡ foldl (kept s mn mx) [] base = sym (h false []) ∙ ap (foldl (kept s mn mx) []) (spread-plain base) in
+          let plain : foldl (kept s mn mx) [] (allParts false all) ≡ foldl (kept s mn mx) [] base = sym (h false []) ∙ ap (foldl (kept s mn mx) []) (all-parts-plain base) in
           let K = foldl (kept s mn mx) [] base in
-          foldl-append (kept s mn mx) [] (spread false all) (spread true all)
-          ∙ ap (λ (qs : List Range). foldl (kept s mn mx) qs (spread true all)) plain
+          foldl-append (kept s mn mx) [] (allParts false all) (allParts true all)
+          ∙ ap (λ (qs : List Range). foldl (kept s mn mx) qs (allParts true all)) plain
           ∙ sym (h true K)
           ∙ sym (semis-inner s mn mx K base (settled-self s mn mx [] base))
           ∙ sym (foldl-append (kept s mn mx) [] base (semis base))
       go false all base h =
-          let plain : foldl (kept s mn mx) [] (spread false all) ≡ foldl (kept s mn mx) [] base = sym (h false []) ∙ ap (foldl (kept s mn mx) []) (spread-plain base) in
-          ap (foldl (kept s mn mx) []) (append-nil (spread false all)) ∙ plain ∙ ap (foldl (kept s mn mx) []) (sym (append-nil base))
+          let plain : foldl (kept s mn mx) [] (allParts false all) ≡ foldl (kept s mn mx) [] base = sym (h false []) ∙ ap (foldl (kept s mn mx) []) (all-parts-plain base) in
+          ap (foldl (kept s mn mx) []) (append-nil (allParts false all)) ∙ plain ∙ ap (foldl (kept s mn mx) []) (sym (append-nil base))
 
   -- "end": the whole protein alone
   no-more : (m n : ℕ) (r q : Range) → windowsFrom (suc (suc m)) n (r ∷ q ∷ []) ≡ []

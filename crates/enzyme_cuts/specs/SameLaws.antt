@@ -32,11 +32,11 @@ digit x y m n h k e =
     (sym p ∙ ap (λ (z : ℕ). z % 256) e ∙ q, sym r ∙ ap (λ (z : ℕ). z / 256) e ∙ s)
 
 -- the first i places agree
-abbrev pub Alike : List ℕ → List ℕ → ℕ → Type 0
-Alike a b i = (j : ℕ) → j < i → getD a j 0 ≡ getD b j 0
+abbrev pub AgreeTo : List ℕ → List ℕ → ℕ → Type 0
+AgreeTo a b i = (j : ℕ) → j < i → getD a j 0 ≡ getD b j 0
 
-pub alike-on : (a b : List ℕ) (i : ℕ) → Bytes a → Bytes b → numberAt 4 a i ≡ numberAt 4 b i → Alike a b i → Alike a b (i + 4)
-alike-on a b i p q h agree j l =
+pub agree-four : (a b : List ℕ) (i : ℕ) → Bytes a → Bytes b → numberAt 4 a i ≡ numberAt 4 b i → AgreeTo a b i → AgreeTo a b (i + 4)
+agree-four a b i p q h agree j l =
     let e : getD a i 0 + 256 * (getD a (i + 1) 0 + 256 * (getD a (i + 2) 0 + 256 * getD a (i + 3) 0)) ≡ getD b i 0 + 256 * (getD b (i + 1) 0 + 256 * (getD b (i + 2) 0 + 256 * getD b (i + 3) 0)) = sym (number-four a i) ∙ h ∙ number-four b i in
     let d₀ = digit (getD a i 0) (getD b i 0) (getD a (i + 1) 0 + 256 * (getD a (i + 2) 0 + 256 * getD a (i + 3) 0)) (getD b (i + 1) 0 + 256 * (getD b (i + 2) 0 + 256 * getD b (i + 3) 0)) (p i) (q i) e in
     let d₁ = digit (getD a (i + 1) 0) (getD b (i + 1) 0) (getD a (i + 2) 0 + 256 * getD a (i + 3) 0) (getD b (i + 2) 0 + 256 * getD b (i + 3) 0) (p (i + 1)) (q (i + 1)) (d₀ .1) in
@@ -54,7 +54,7 @@ alike-on a b i p q h agree j l =
     at f₀ f₁ f₂ f₃ (inr m) (inr x) (inr y) (inl z) = rw z f₂
     at f₀ f₁ f₂ f₃ (inr m) (inr x) (inr y) (inr z) = let k : j ≡ i + 3 = last m x y z in rw k f₃
 
-pub alike-all : (a b : List ℕ) (i : ℕ) → length a ≡ length b → length a ≤ i → Alike a b i → same a b ≡ true
-alike-all a b i l h agree =
+pub agree-all : (a b : List ℕ) (i : ℕ) → length a ≡ length b → length a ≤ i → AgreeTo a b i → same a b ≡ true
+agree-all a b i l h agree =
     let e : a ≡ b = ext-getD 0 a b l (λ j g. agree j (omega arith)) in
     rw e (same-refl b)

@@ -10,23 +10,23 @@ use Rattle.enzyme_cuts.specs.declared.kinds.Knife.{Knife}
 use Rattle.enzyme_cuts.specs.Cutting.{Range, site, knife, setSites, windowsFrom, halves, noneSites, meant}
 
 -- each cut within a site: a cut at its start gives the empty range and the site again
-abbrev pub inner : Range → List Range
-inner r = halves r (suc (r .from)) (r .to - suc (r .from))
+abbrev pub innerHalves : Range → List Range
+innerHalves r = halves r (suc (r .from)) (r .to - suc (r .from))
 
 -- what is offered of a site: itself, or the parts that it is cut into
 abbrev pub partsOf : Bool → Range → List Range
-partsOf semi r = cond semi (inner r) (r ∷ [])
+partsOf semi r = cond semi (innerHalves r) (r ∷ [])
 
-abbrev pub spread : Bool → List Range → List Range
-spread semi [] = []
-spread semi (r ∷ rs) = partsOf semi r ++ spread semi rs
+abbrev pub allParts : Bool → List Range → List Range
+allParts semi [] = []
+allParts semi (r ∷ rs) = partsOf semi r ++ allParts semi rs
 
 -- the windows of 1 to missed + 1 sites: those of one site are the sites
 abbrev pub setWindows : Knife → ℕ → List ℕ → List Range
 setWindows k missed s = windowsFrom 0 (suc missed) (setSites k 0 0 s)
 
 abbrev pub setWork : Knife → Bool → ℕ → List ℕ → List Range
-setWork k semi missed s = spread false (setWindows k missed s) ++ cond semi (spread true (setWindows k missed s)) []
+setWork k semi missed s = allParts false (setWindows k missed s) ++ cond semi (allParts true (setWindows k missed s)) []
 
 abbrev pub workOf : Kind → Enzyme → ℕ → ℕ → ℕ → List ℕ → List Range
 workOf None e missed minimum maximum s = noneSites (length s) minimum maximum
@@ -37,9 +37,9 @@ abbrev pub work : Enzyme → ℕ → ℕ → ℕ → List ℕ → List Range
 work e missed minimum maximum s = workOf (meant (e .kind)) e missed minimum maximum s
 
 -- each range lies within n letters
-abbrev pub Inside : ℕ → List Range → Type 0
-Inside n [] = Unit {0}
-Inside n (r ∷ rs) = (r .from ≤ r .to) × (r .to ≤ n) × Inside n rs
+abbrev pub RangesWithin : ℕ → List Range → Type 0
+RangesWithin n [] = Unit {0}
+RangesWithin n (r ∷ rs) = (r .from ≤ r .to) × (r .to ≤ n) × RangesWithin n rs
 
 -- all but the first
 abbrev pub tailOf : List Range → List Range

@@ -6,10 +6,10 @@ use mathlib.Core.List.{List, [], _∷_, _++_, Sublistᴰ, Sublistᴰ·slnil, Sub
 use lib.ListN.{drop}
 use lib.Dec.{ltb}
 use Rattle.enzyme_cuts.specs.Cutting.{Range}
-use Rattle.enzyme_cuts.specs.Work.{Inside}
+use Rattle.enzyme_cuts.specs.Work.{RangesWithin}
 use Rattle.enzyme_once.specs.Once.{own, ownZip, ownsFrom}
 use Rattle.enzyme_once.specs.ThinLaws.{Hit}
-use Rattle.enzyme_once.specs.DistinctLaws.{Distinct}
+use Rattle.enzyme_once.specs.DistinctLaws.{NoRangeTwice}
 use Rattle.enzyme_fresh.specs.Fresh.{freshZip, freshFrom}
 
 fewer-hit : {xs ys : List Range} (a e : ℕ) → Sublistᴰ ys xs → Hit a e ys → Hit a e xs
@@ -18,12 +18,12 @@ fewer-hit a e (Sublistᴰ·cons p) h = inr (fewer-hit a e p h)
 fewer-hit a e (Sublistᴰ·cons-cons q p) (inl h) = inl (rw (← q) h)
 fewer-hit a e (Sublistᴰ·cons-cons q p) (inr h) = inr (fewer-hit a e p h)
 
-pub fewer-distinct : {xs ys : List Range} → Sublistᴰ ys xs → Distinct xs → Distinct ys
+pub fewer-distinct : {xs ys : List Range} → Sublistᴰ ys xs → NoRangeTwice xs → NoRangeTwice ys
 fewer-distinct Sublistᴰ·slnil h = tt
 fewer-distinct (Sublistᴰ·cons p) h = fewer-distinct p (h .1)
 fewer-distinct (Sublistᴰ·cons-cons {a = y} q p) h = (λ g. h .0 (rw q at (fewer-hit (y .from) (y .to) p g)), fewer-distinct p (h .1))
 
-pub fewer-inside : {xs ys : List Range} (n : ℕ) → Sublistᴰ ys xs → Inside n xs → Inside n ys
+pub fewer-inside : {xs ys : List Range} (n : ℕ) → Sublistᴰ ys xs → RangesWithin n xs → RangesWithin n ys
 fewer-inside n Sublistᴰ·slnil h = tt
 fewer-inside n (Sublistᴰ·cons p) h = fewer-inside n p (h .2)
 fewer-inside n (Sublistᴰ·cons-cons q p) h = rw q (h .0, h .1, fewer-inside n p (h .2))

@@ -8,7 +8,8 @@ use lib.Dec.{ltb}
 use Rattle.enzyme_cuts.specs.declared.kinds.Knife.{Knife}
 use Rattle.enzyme_cuts.specs.Cutting.{Range, setSites, windowsFrom}
 use Rattle.enzyme_windows.specs.Shared.{SameWindow}
-use Rattle.enzyme_once.specs.Once.{filled, own}
+use Rattle.enzyme_windows.specs.SiteLaws.{nonEmpty}
+use Rattle.enzyme_once.specs.Once.{own}
 
 -- the parts of the windows of m + 1 sites, by the sites from i on and those from i + m on
 abbrev pub freshZip : (ℕ → ℕ) → ℕ → ℕ → List Range → List Range → List Range
@@ -27,7 +28,7 @@ freshFrom f m zero rs = []
 freshFrom f m (suc n) rs = freshOwns f m rs ++ freshFrom f (suc m) n rs
 
 abbrev pub fresh : (ℕ → ℕ) → Knife → ℕ → List ℕ → List Range
-fresh f k missed s = windowsFrom 0 (suc missed) (filled (setSites k 0 0 s)) ++ freshFrom f 0 (suc missed) (filled (setSites k 0 0 s))
+fresh f k missed s = windowsFrom 0 (suc missed) (nonEmpty (setSites k 0 0 s)) ++ freshFrom f 0 (suc missed) (nonEmpty (setSites k 0 0 s))
 
 -- what f says is true, and it may say less than there is
 abbrev pub Repeats : List (List ℕ) → (ℕ → ℕ) → Type 0

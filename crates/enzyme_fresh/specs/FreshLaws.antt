@@ -7,17 +7,17 @@ use native.Mathlib.Omega.{arith}
 use lib.ListN.{length}
 use Rattle.enzyme_cuts.specs.declared.kinds.Knife.{Knife}
 use Rattle.enzyme_cuts.specs.Cutting.{Range, setSites, windowsFrom, kept}
-use Rattle.enzyme_cuts.specs.Work.{Inside}
+use Rattle.enzyme_cuts.specs.Work.{RangesWithin}
 use Rattle.enzyme_keep.specs.declared.offering.Terms.{Terms}
 use Rattle.enzyme_keep.specs.Steps.{offers}
-use Rattle.enzyme_windows.specs.Pieces.{pieces, placed}
-use Rattle.enzyme_windows.specs.PieceLaws.{joined-pieces}
+use Rattle.enzyme_windows.specs.Pieces.{pieces}
+use Rattle.enzyme_windows.specs.PieceLaws.{end-to-end-pieces}
 use Rattle.enzyme_windows.specs.SiteLaws.{nonEmpty, sites-pieces}
-use Rattle.enzyme_windows.specs.LookedLaws.{firsts, kept-firsts}
+use Rattle.enzyme_windows.specs.LookedLaws.{keptAfter, kept-firsts}
 use Rattle.enzyme_windows.specs.FirstLaws.{shared-window}
-use Rattle.enzyme_windows.specs.TableLaws.{Counted}
-use Rattle.enzyme_once.specs.Once.{filled, once}
-use Rattle.enzyme_once.specs.DistinctLaws.{Distinct, once-once}
+use Rattle.enzyme_windows.specs.TableLaws.{SharedUpTo}
+use Rattle.enzyme_once.specs.Once.{eachOnce}
+use Rattle.enzyme_once.specs.DistinctLaws.{NoRangeTwice, once-once}
 use Rattle.enzyme_once.specs.RangeLaws.{once-inside}
 use Rattle.enzyme_picks.specs.Picks.{puts}
 use Rattle.enzyme_picks.specs.PutLaws.{offers-puts}
@@ -28,7 +28,7 @@ use Rattle.enzyme_fresh.specs.FewerLaws.{fewer-distinct, fewer-inside, f
 -- ---- what the numbers say
 
 module _ (ts : List (List ℕ)) (f : ℕ → ℕ) where
-  pub counted-repeats : (n : ℕ) → Counted ts n f → Repeats ts f
+  pub counted-repeats : (n : ℕ) → SharedUpTo ts n f → Repeats ts f
   counted-repeats n c i m h l = let e = c i h in shared-window ts m i (omega arith)
 
   -- smaller numbers
@@ -41,41 +41,33 @@ zero-repeats ts i n h l = absurd (omega arith)
 -- ---- the ranges that are left
 
 module _ (f : ℕ → ℕ) (k : Knife) (missed : ℕ) (s : List ℕ) where
-  fresh-fewer : Sublistᴰ (fresh f k missed s) (once k true missed s)
+  fresh-fewer : Sublistᴰ (fresh f k missed s) (eachOnce k true missed s)
   fresh-fewer =
-      let rs = filled (setSites k 0 0 s) in
+      let rs = nonEmpty (setSites k 0 0 s) in
       Sublistᴰ·append (Sublistᴰ·refl (windowsFrom 0 (suc missed) rs)) (from-fewer f (suc missed) 0 rs)
 
-  pub fresh-inside : Inside (length s) (fresh f k missed s)
+  pub fresh-inside : RangesWithin (length s) (fresh f k missed s)
   fresh-inside = fewer-inside (length s) fresh-fewer (once-inside k true missed s)
 
-  pub fresh-once : Distinct (fresh f k missed s)
+  pub fresh-once : NoRangeTwice (fresh f k missed s)
   fresh-once = fewer-distinct fresh-fewer (once-once k true missed s)
 
 -- ---- the same digests
 
-filled-same : (rs : List Range) → filled rs ≡ nonEmpty rs
-filled-same [] = refl
-filled-same (r ∷ rs) = rw (filled-same rs)
-
--- the sites that are not empty are the pieces at their places
-pub filled-pieces : (k : Knife) (s : List ℕ) → filled (setSites k 0 0 s) ≡ placed 0 (pieces k s)
-filled-pieces k s = filled-same (setSites k 0 0 s) ∙ sites-pieces k s
-
 module _ (f : ℕ → ℕ) (k : Knife) (missed : ℕ) (s : List ℕ) (rep : Repeats (pieces k s) f) where
-  fresh-firsts : (mn mx : ℕ) → firsts s mn mx [] (once k true missed s) ≡ firsts s mn mx [] (fresh f k missed s)
+  fresh-firsts : (mn mx : ℕ) → keptAfter s mn mx [] (eachOnce k true missed s) ≡ keptAfter s mn mx [] (fresh f k missed s)
   fresh-firsts mn mx =
-      let e = filled-pieces k s ∙ placed-spots (pieces k s) 0 (length (pieces k s)) (omega arith) in
+      let e = sites-pieces k s ∙ placed-spots (pieces k s) 0 (length (pieces k s)) (omega arith) in
       let a = once-inside k true missed s in
-      rw e (fresh-same s mn mx (pieces k s) (joined-pieces k s) f rep (suc missed) (rw e at a) [])
+      rw e (fresh-same s mn mx (pieces k s) (end-to-end-pieces k s) f rep (suc missed) (rw e at a) [])
 
-  pub fresh-keeps : (mn mx : ℕ) → foldl (kept s mn mx) [] (fresh f k missed s) ≡ foldl (kept s mn mx) [] (once k true missed s)
+  pub fresh-keeps : (mn mx : ℕ) → foldl (kept s mn mx) [] (fresh f k missed s) ≡ foldl (kept s mn mx) [] (eachOnce k true missed s)
   fresh-keeps mn mx =
-      kept-firsts s mn mx (fresh f k missed s) (fresh-inside f k missed s) ∙ sym (fresh-firsts mn mx) ∙ sym (kept-firsts s mn mx (once k true missed s) (once-inside k true missed s))
+      kept-firsts s mn mx (fresh f k missed s) (fresh-inside f k missed s) ∙ sym (fresh-firsts mn mx) ∙ sym (kept-firsts s mn mx (eachOnce k true missed s) (once-inside k true missed s))
 
   -- the same records: as long as a record's numbers hold the ranges
-  pub fresh-offers : length s ≤ 65536 → (t : Terms) (out : List ℕ) → offers s t (fresh f k missed s) 0 out ≡ offers s t (once k true missed s) 0 out
+  pub fresh-offers : length s ≤ 65536 → (t : Terms) (out : List ℕ) → offers s t (fresh f k missed s) 0 out ≡ offers s t (eachOnce k true missed s) 0 out
   fresh-offers small t out =
       offers-puts s t small (fresh f k missed s) (fresh-inside f k missed s) out
       ∙ ap (λ (rs : List Range). puts (length s) (t .protein) rs 0 out) (fresh-keeps (t .minimum) (t .maximum))
-      ∙ sym (offers-puts s t small (once k true missed s) (once-inside k true missed s) out)
+      ∙ sym (offers-puts s t small (eachOnce k true missed s) (once-inside k true missed s) out)

@@ -7,9 +7,9 @@ use native.Mathlib.Numerals.{add-one}
 use lib.ListN.{length, take, drop, length-append, take-append-drop}
 use lib.Seq.{take-take, take-add, drop-drop}
 use Rattle.enzyme_cuts.specs.Cutting.{Range, range, site, halves, part}
-use Rattle.enzyme_windows.specs.Pieces.{joined}
-use Rattle.enzyme_windows.specs.WindowLaws.{joined-append}
-use Rattle.enzyme_windows.specs.StartLaws.{startOf, window-letters}
+use Rattle.enzyme_windows.specs.Pieces.{endToEnd}
+use Rattle.enzyme_windows.specs.WindowLaws.{end-to-end-append}
+use Rattle.enzyme_windows.specs.StartLaws.{pieceStart, window-letters}
 use Rattle.enzyme_once.specs.Once.{endings, openings, own}
 
 -- a part of the first w is a part of all
@@ -62,34 +62,34 @@ module _ (s : List ℕ) (a w : ℕ) where
 
 -- ---- a window of pieces
 
-start-add : (ts : List (List ℕ)) (i n : ℕ) → startOf ts (i + n) ≡ startOf ts i + length (joined (take n (drop i ts)))
+start-add : (ts : List (List ℕ)) (i n : ℕ) → pieceStart ts (i + n) ≡ pieceStart ts i + length (endToEnd (take n (drop i ts)))
 start-add ts i n =
-    ap (λ (us : List (List ℕ)). length (joined us)) (take-add i n ts)
-    ∙ ap length (joined-append (take i ts) (take n (drop i ts)))
-    ∙ length-append (joined (take i ts)) (joined (take n (drop i ts)))
+    ap (λ (us : List (List ℕ)). length (endToEnd us)) (take-add i n ts)
+    ∙ ap length (end-to-end-append (take i ts) (take n (drop i ts)))
+    ∙ length-append (endToEnd (take i ts)) (endToEnd (take n (drop i ts)))
 
-first-short : (n : ℕ) (us : List (List ℕ)) → length (joined (take n us)) ≤ length (joined us)
+first-short : (n : ℕ) (us : List (List ℕ)) → length (endToEnd (take n us)) ≤ length (endToEnd us)
 first-short n us =
-    let a : joined us ≡ joined (take n us) ++ joined (drop n us) = ap joined (sym (take-append-drop n us)) ∙ joined-append (take n us) (drop n us) in
-    let b : length (joined us) ≡ length (joined (take n us)) + length (joined (drop n us)) = ap length a ∙ length-append (joined (take n us)) (joined (drop n us)) in
+    let a : endToEnd us ≡ endToEnd (take n us) ++ endToEnd (drop n us) = ap endToEnd (sym (take-append-drop n us)) ∙ end-to-end-append (take n us) (drop n us) in
+    let b : length (endToEnd us) ≡ length (endToEnd (take n us)) + length (endToEnd (drop n us)) = ap length a ∙ length-append (endToEnd (take n us)) (endToEnd (drop n us)) in
     omega arith
 
 -- the place of piece i
 abbrev pub siteOf : List (List ℕ) → ℕ → Range
-siteOf ts i = site (startOf ts i) (startOf ts (suc i))
+siteOf ts i = site (pieceStart ts i) (pieceStart ts (suc i))
 
 -- the letters of the parts of a window of the m + 1 pieces us
-abbrev pub partsOf : ℕ → List (List ℕ) → List (List ℕ)
-partsOf m us = map (part (joined us)) (own m (site 0 (length (joined (take 1 us)))) (site (length (joined (take m us))) (length (joined us))))
+abbrev pub partLetters : ℕ → List (List ℕ) → List (List ℕ)
+partLetters m us = map (part (endToEnd us)) (own m (site 0 (length (endToEnd (take 1 us)))) (site (length (endToEnd (take m us))) (length (endToEnd us))))
 
-pub window-parts : (ts : List (List ℕ)) (m i : ℕ) → map (part (joined ts)) (own m (siteOf ts i) (siteOf ts (i + m))) ≡ partsOf m (take (suc m) (drop i ts))
+pub window-parts : (ts : List (List ℕ)) (m i : ℕ) → map (part (endToEnd ts)) (own m (siteOf ts i) (siteOf ts (i + m))) ≡ partLetters m (take (suc m) (drop i ts))
 window-parts ts m i =
     let us = take (suc m) (drop i ts) in
-    let b : startOf ts (suc i) ≡ startOf ts i + length (joined (take 1 us)) = rw (take-take 1 (suc m) (drop i ts) (omega arith), ← add-one i) (start-add ts i 1) in
-    let c : startOf ts (i + m) ≡ startOf ts i + length (joined (take m us)) = rw (take-take m (suc m) (drop i ts) (omega arith)) (start-add ts i m) in
+    let b : pieceStart ts (suc i) ≡ pieceStart ts i + length (endToEnd (take 1 us)) = rw (take-take 1 (suc m) (drop i ts) (omega arith), ← add-one i) (start-add ts i 1) in
+    let c : pieceStart ts (i + m) ≡ pieceStart ts i + length (endToEnd (take m us)) = rw (take-take m (suc m) (drop i ts) (omega arith)) (start-add ts i m) in
     let d : i + suc m ≡ suc (i + m) = omega arith in
-    let e : startOf ts (suc (i + m)) ≡ startOf ts i + length (joined us) = rw (← d) (start-add ts i (suc m)) in
-    let n : startOf ts (i + suc m) - startOf ts i ≡ length (joined us) = omega (arith, start-add ts i (suc m)) in
-    let l : take (length (joined us)) (drop (startOf ts i) (joined ts)) ≡ joined us = rw n at (window-letters ts i (suc m) 0) in
-    own-letters (joined ts) (startOf ts i) (length (joined us)) m (startOf ts (suc i)) (startOf ts (i + m)) (startOf ts (suc (i + m))) (length (joined (take 1 us))) (length (joined (take m us))) b c e (first-short 1 us) (first-short m us)
+    let e : pieceStart ts (suc (i + m)) ≡ pieceStart ts i + length (endToEnd us) = rw (← d) (start-add ts i (suc m)) in
+    let n : pieceStart ts (i + suc m) - pieceStart ts i ≡ length (endToEnd us) = omega (arith, start-add ts i (suc m)) in
+    let l : take (length (endToEnd us)) (drop (pieceStart ts i) (endToEnd ts)) ≡ endToEnd us = rw n at (window-letters ts i (suc m) 0) in
+    own-letters (endToEnd ts) (pieceStart ts i) (length (endToEnd us)) m (pieceStart ts (suc i)) (pieceStart ts (i + m)) (pieceStart ts (suc (i + m))) (length (endToEnd (take 1 us))) (length (endToEnd (take m us))) b c e (first-short 1 us) (first-short m us)
     ∙ rw l

@@ -7,11 +7,11 @@ ghost use mathlib.Core.Bool.{true};
 ghost use mathlib.Core.List.{List};
 ghost use Prim.Native.Nat.{ℕ, _≤_, _<_};
 ghost use lib.ListN.{length, getD};
-ghost use Rattle.enzyme_tables.specs.Listed.{Listed};
-ghost use Rattle.enzyme_once.specs.Once.{once};
+ghost use Rattle.enzyme_tables.specs.Listed.{DigestsListed};
+ghost use Rattle.enzyme_once.specs.Once.{eachOnce};
 ghost use Rattle.enzyme_words.specs.Words.{Zeros, Far};
 ghost use Rattle.enzyme_sites.specs.Starts.{Starts};
-ghost use Rattle.enzyme_levels.specs.Levels.{Placed};
+ghost use Rattle.enzyme_levels.specs.Levels.{TextsPlaced};
 ghost use Rattle.enzyme_fresh.specs.Fresh.{fresh, Repeats};
 
 // For each of the m sites how many sites, up to n, a window from it is known to share with one from an earlier site: none where
@@ -28,8 +28,8 @@ fn fill_share(
     share: &mut [u8],
     seen: &mut [u8],
 )
-    requires { ⌜ ((ts : List (List ℕ)) × Placed ts (now letters) (now starts) m) × (m ≤ 65536) × (1 ≤ n) × (n ≤ 17) × (length (now order) ≤ length (now other)) × (length (now order) ≤ length (now name)) × (length (now order) ≤ length (now rank)) × (length (now order) ≤ length (now share)) × Zeros (now share) ⌝ }
-    ensures { λ _. ⌜ ((ts : List (List ℕ)) → Placed ts (now (letters .entry)) (now (starts .entry)) m → Repeats ts (λ i. getD (now (share .exit)) i 0)) ⌝ }
+    requires { ⌜ ((ts : List (List ℕ)) × TextsPlaced ts (now letters) (now starts) m) × (m ≤ 65536) × (1 ≤ n) × (n ≤ 17) × (length (now order) ≤ length (now other)) × (length (now order) ≤ length (now name)) × (length (now order) ≤ length (now rank)) × (length (now order) ≤ length (now share)) × Zeros (now share) ⌝ }
+    ensures { λ _. ⌜ ((ts : List (List ℕ)) → TextsPlaced ts (now (letters .entry)) (now (starts .entry)) m → Repeats ts (λ i. getD (now (share .exit)) i 0)) ⌝ }
 {
     if order.len() < m {
         return;
@@ -51,7 +51,7 @@ fn list_semi(
     marks: &mut [u32],
 ) -> Step
     requires { ⌜ (length (now letters) ≤ 65536) × (missed ≤ 16) × Starts knife (now letters) (now starts) m × Far (now letters) (now far) ⌝ }
-    ensures { λ r. ⌜ Listed (now (letters .entry)) terms (fresh (λ i. getD (now (share .entry)) i 0) knife missed (now (letters .entry))) (now (out .entry)) r (now (out .exit)) ⌝ }
+    ensures { λ r. ⌜ DigestsListed (now (letters .entry)) terms (fresh (λ i. getD (now (share .entry)) i 0) knife missed (now (letters .entry))) (now (out .entry)) r (now (out .exit)) ⌝ }
 {
     let Step::Kept(k) = enzyme_semi::offer_semi(
         letters,
@@ -92,7 +92,7 @@ fn semi_over(
     seen: &mut [u8],
 ) -> Step
     requires { ⌜ (length (now letters) ≤ 65536) × (missed ≤ 16) × (length (now letters) < length (now starts)) × (length (now letters) ≤ length (now far)) × (0 < length (now count)) × (length (now count) ≤ 131072) × Zeros (now count) × (length (now order) ≤ length (now other)) × (length (now order) ≤ length (now name)) × (length (now order) ≤ length (now rank)) × (length (now order) ≤ length (now share)) × Zeros (now share) ⌝ }
-    ensures { λ r. ⌜ Listed (now (letters .entry)) terms (once knife true missed (now (letters .entry))) (now (out .entry)) r (now (out .exit)) ⌝ }
+    ensures { λ r. ⌜ DigestsListed (now (letters .entry)) terms (eachOnce knife true missed (now (letters .entry))) (now (out .entry)) r (now (out .exit)) ⌝ }
 {
     let m = enzyme_sites::sites(letters, knife, starts);
     let n = missed as usize + 1;
@@ -115,7 +115,7 @@ fn semi_over(
 // The same with tables of three sizes.
 pub fn semi_small(letters: &[u8], knife: Knife, missed: u8, terms: Terms, out: &mut [u8]) -> Step
     requires { ⌜ (length (now letters) ≤ 1024) × (missed ≤ 16) ⌝ }
-    ensures { λ r. ⌜ Listed (now (letters .entry)) terms (once knife true missed (now (letters .entry))) (now (out .entry)) r (now (out .exit)) ⌝ }
+    ensures { λ r. ⌜ DigestsListed (now (letters .entry)) terms (eachOnce knife true missed (now (letters .entry))) (now (out .entry)) r (now (out .exit)) ⌝ }
 {
     let mut starts = [0 as u32; 1025];
     let mut far = [0 as u32; 1024];
@@ -148,7 +148,7 @@ pub fn semi_small(letters: &[u8], knife: Knife, missed: u8, terms: Terms, out: &
 
 pub fn semi_middle(letters: &[u8], knife: Knife, missed: u8, terms: Terms, out: &mut [u8]) -> Step
     requires { ⌜ (length (now letters) ≤ 8192) × (missed ≤ 16) ⌝ }
-    ensures { λ r. ⌜ Listed (now (letters .entry)) terms (once knife true missed (now (letters .entry))) (now (out .entry)) r (now (out .exit)) ⌝ }
+    ensures { λ r. ⌜ DigestsListed (now (letters .entry)) terms (eachOnce knife true missed (now (letters .entry))) (now (out .entry)) r (now (out .exit)) ⌝ }
 {
     let mut starts = [0 as u32; 8193];
     let mut far = [0 as u32; 8192];
@@ -181,7 +181,7 @@ pub fn semi_middle(letters: &[u8], knife: Knife, missed: u8, terms: Terms, out: 
 
 pub fn semi_large(letters: &[u8], knife: Knife, missed: u8, terms: Terms, out: &mut [u8]) -> Step
     requires { ⌜ (length (now letters) ≤ 65536) × (missed ≤ 16) ⌝ }
-    ensures { λ r. ⌜ Listed (now (letters .entry)) terms (once knife true missed (now (letters .entry))) (now (out .entry)) r (now (out .exit)) ⌝ }
+    ensures { λ r. ⌜ DigestsListed (now (letters .entry)) terms (eachOnce knife true missed (now (letters .entry))) (now (out .entry)) r (now (out .exit)) ⌝ }
 {
     let mut starts = [0 as u32; 65537];
     let mut far = [0 as u32; 65536];

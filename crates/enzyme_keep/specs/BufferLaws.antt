@@ -9,18 +9,17 @@ use lib.ListN.{length, take, drop, getD, set, length-append}
 use lib.Seq.{sets, sets-eq, getD-at, length-sets, set-set, set-comm, drop-at, drop-drop, getD-drop, length-take-le}
 use Rattle.lists.specs.Tests.{below?}
 use Rattle.records.specs.Le.{le, value, numberAt}
-use Rattle.records.specs.LeLaws.{value-le, length-le, Apart, getD-sets-other, number-apart}
+use Rattle.records.specs.LeLaws.{sets-append, value-le, length-le, Apart, getD-sets-other, number-apart}
 use Rattle.enzyme_cuts.specs.Cutting.{Range, range}
-use Rattle.enzyme_cuts.specs.Work.{Inside}
+use Rattle.enzyme_cuts.specs.Work.{RangesWithin}
 use Rattle.enzyme_keep.specs.Digests.{positionOf, recordOf}
 use Rattle.enzyme_keep.specs.Buffer.{rangeAt, rangesIn, linksIn, sealed}
 
 -- ---- runs of stores
 
 -- two runs, one behind the other, are one
-pub sets-append : (xs ys l : List ℕ) (i j : ℕ) → j ≡ i + length xs → sets (sets l i xs) j ys ≡ sets l i (xs ++ ys)
-sets-append [] ys l i j e = let f : j ≡ i = omega arith in rw f
-sets-append (x ∷ xs) ys l i j e = sets-append xs ys _ (suc i) j (omega arith)
+pub sets-behind : (xs ys l : List ℕ) (i j : ℕ) → j ≡ i + length xs → sets (sets l i xs) j ys ≡ sets l i (xs ++ ys)
+sets-behind xs ys l i j e = rw e (sym (sets-append xs ys l i))
 
 set-sets : (vs l : List ℕ) (i a j : ℕ) → i < j → sets (set l i a) j vs ≡ set (sets l j vs) i a
 set-sets [] l i a j h = refl
@@ -153,19 +152,19 @@ sealed-more n p q r k out =
     let lf = length-front n r in
     let lp : length (le 4 p) ≡ 4 = length-le 4 p in
     let lq : length (le 4 q) ≡ 4 = length-le 4 q in
-    let a : sets (sets X (16 * k) (front n r)) (16 * k + 12) (le 4 q) ≡ sets X (16 * k) (recordOf n q r) = sets-append (front n r) (le 4 q) X (16 * k) (16 * k + 12) (omega arith) ∙ rw (record-parts n q r) in
-    let b : sets (sets X (16 * k) (front n r)) (16 * k + 12) (le 4 p) ≡ sets X (16 * k) (recordOf n p r) = sets-append (front n r) (le 4 p) X (16 * k) (16 * k + 12) (omega arith) ∙ rw (record-parts n p r) in
+    let a : sets (sets X (16 * k) (front n r)) (16 * k + 12) (le 4 q) ≡ sets X (16 * k) (recordOf n q r) = sets-behind (front n r) (le 4 q) X (16 * k) (16 * k + 12) (omega arith) ∙ rw (record-parts n q r) in
+    let b : sets (sets X (16 * k) (front n r)) (16 * k + 12) (le 4 p) ≡ sets X (16 * k) (recordOf n p r) = sets-behind (front n r) (le 4 p) X (16 * k) (16 * k + 12) (omega arith) ∙ rw (record-parts n p r) in
     let c = sets-over (le 4 q) (le 4 p) (sets X (16 * k) (front n r)) (16 * k + 12) (omega arith) in
     let d : sealed p k (sets out (16 * k) (recordOf n q r)) ≡ sets X (16 * k) (recordOf n q r) = sealed-past p (recordOf n q r) k (16 * k) out (omega arith) in
     rw (add-one k, d, ← a) (c ∙ b)
 
 -- ---- range j and link j of those in a buffer, as they are read
 
-inside-last : (n : ℕ) (ks : List Range) (r : Range) → Inside n (ks ++ (r ∷ [])) → Inside n ks × (r .from ≤ r .to) × (r .to ≤ n)
+inside-last : (n : ℕ) (ks : List Range) (r : Range) → RangesWithin n (ks ++ (r ∷ [])) → RangesWithin n ks × (r .from ≤ r .to) × (r .to ≤ n)
 inside-last n [] r i = (tt, i .0, i .1)
 inside-last n (k ∷ ks) r i = let x = inside-last n ks r (i .2) in ((i .0, i .1, x .0), x .1, x .2)
 
-inside-read : (n count : ℕ) (out : List ℕ) (j : ℕ) → j < count → Inside n (rangesIn count out)
+inside-read : (n count : ℕ) (out : List ℕ) (j : ℕ) → j < count → RangesWithin n (rangesIn count out)
     → (rangeAt out (16 * j) .from ≤ rangeAt out (16 * j) .to) × (rangeAt out (16 * j) .to ≤ n)
 inside-read n zero out j h i = absurd (omega arith)
 inside-read n (suc k) out j h i =
@@ -174,7 +173,7 @@ inside-read n (suc k) out j h i =
 
 -- the same, with the start and the end as they were read
 module _ (count : ℕ) (out : List ℕ) (j a b : ℕ) (h : j < count) (ea : a ≡ numberAt 4 out (16 * j)) (eb : b ≡ numberAt 4 out (16 * j + 4)) where
-  pub read-inside : (n : ℕ) → Inside n (rangesIn count out) → (a ≤ b) × (b ≤ n)
+  pub read-inside : (n : ℕ) → RangesWithin n (rangesIn count out) → (a ≤ b) × (b ≤ n)
   read-inside n i = rw (ea, eb) (inside-read n count out j h i)
 
 get-before : (ls : List ℕ) (x j : ℕ) → j < length ls → getD (ls ++ (x ∷ [])) j 0 ≡ getD ls j 0

@@ -16,6 +16,25 @@ unfoldable pub recordOf : ℕ → ℕ → Range → List ℕ
 unfolding positionOf
 recordOf n protein r = le 4 (r .from) ++ (le 4 (r .to) ++ (r .missed ∷ r .semi ∷ positionOf n (r .from) (r .to) ∷ 0 ∷ le 4 protein))
 
+-- the fields of a record
+abbrev pub startOf : List ℕ → ℕ
+startOf r = numberAt 4 r 0
+
+abbrev pub endOf : List ℕ → ℕ
+endOf r = numberAt 4 r 4
+
+abbrev pub positionIn : List ℕ → ℕ
+positionIn r = getD r 10 0
+
+abbrev pub decoyIn : List ℕ → ℕ
+decoyIn r = getD r 11 0
+
+abbrev pub isDecoy : List ℕ → Bool
+isDecoy r = eqb (decoyIn r) 1
+
+abbrev pub proteinIn : List ℕ → ℕ
+proteinIn r = numberAt 4 r 12
+
 -- as input, what can be asked of a record alone: start below end, end within the longest protein there is, missed to 16, flags 0 or 1, position to 3
 abbrev pub goodRecord : List ℕ → Bool
-goodRecord r = ltb (numberAt 4 r 0) (numberAt 4 r 4) && leb (numberAt 4 r 4) 65536 && leb (getD r 8 0) 16 && leb (getD r 9 0) 1 && leb (getD r 10 0) 3 && leb (getD r 11 0) 1
+goodRecord r = ltb (startOf r) (endOf r) && leb (endOf r) 65536 && leb (getD r 8 0) 16 && leb (getD r 9 0) 1 && leb (positionIn r) 3 && leb (decoyIn r) 1

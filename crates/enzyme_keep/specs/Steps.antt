@@ -16,8 +16,8 @@ use Rattle.enzyme_keep.specs.Digests.{recordOf}
 use Rattle.enzyme_keep.specs.Buffer.{rangesIn, sealed}
 
 -- a digest takes 16 bytes, and a list holds at most 1,048,576
-abbrev pub room : List ℕ → ℕ
-room out = roomOf 16 1048576 out
+abbrev pub digestRoom : List ℕ → ℕ
+digestRoom out = roomOf 16 1048576 out
 
 -- a step, and the bytes behind it
 pub record After : Type 0 where
@@ -35,11 +35,11 @@ decided want free count out new =
 -- one range
 unfoldable pub offered : List ℕ → Terms → Range → ℕ → List ℕ → After
 offered s t r count out =
-    decided (wanted s (t .minimum) (t .maximum) (rangesIn count out) r) (ltb count (room out)) count out (recordOf (length s) (t .protein) r)
+    decided (wanted s (t .minimum) (t .maximum) (rangesIn count out) r) (ltb count (digestRoom out)) count out (recordOf (length s) (t .protein) r)
 
 -- what comes after: the next ranges, or nothing where there was no room
-abbrev pub andThen : After → (ℕ → List ℕ → After) → After
-andThen a next = go (a .step)
+abbrev pub unlessFull : After → (ℕ → List ℕ → After) → After
+unlessFull a next = go (a .step)
   where
     go : Step → After
     go (Kept count) = next count (a .bytes)
@@ -48,14 +48,14 @@ andThen a next = go (a .step)
 -- a list of ranges, one after the other
 abbrev pub offers : List ℕ → Terms → List Range → ℕ → List ℕ → After
 offers s t [] count out = after (Kept count) out
-offers s t (r ∷ rs) count out = andThen (offered s t r count out) (offers s t rs)
+offers s t (r ∷ rs) count out = unlessFull (offered s t r count out) (offers s t rs)
 
 -- ---- with links in the place of the protein
 
 -- a step, and the bytes with the protein in the place of the links
 abbrev pub viewed : ℕ → Step → List ℕ → After
 viewed p (Kept k) out = after (Kept k) (sealed p k out)
-viewed p Full out = after Full (sealed p (room out) out)
+viewed p Full out = after Full (sealed p (digestRoom out) out)
 
 -- the ranges rs were offered to count records in out: that gave r, and left out′
 abbrev pub View : List ℕ → Terms → List Range → ℕ → List ℕ → Step → List ℕ → Type 0

@@ -5,7 +5,7 @@ ghost use Prim.Native.Nat.{_≤_};
 ghost use lib.Dec.{ltb};
 ghost use Rattle.enzyme_cuts.specs.Cutting.{range, within};
 ghost use Rattle.enzyme_keep.specs.Digests.{recordOf};
-ghost use Rattle.enzyme_keep.specs.Steps.{room, after, decided};
+ghost use Rattle.enzyme_keep.specs.Steps.{digestRoom, after, decided};
 
 // What came of ranges that were offered: the records are now so many, or there was no room for one.
 pub enum Step {
@@ -41,7 +41,7 @@ pub fn write_range(
     count: usize,
 ) -> Step
     requires { ⌜ (a ≤ 65536) × (e ≤ 65536) ⌝ }
-    ensures { λ r. ⌜ after r (now (out .exit)) ≡ decided wanted (ltb count (room (now (out .entry)))) count (now (out .entry)) (recordOf n last (range a e missed semi)) ⌝ }
+    ensures { λ r. ⌜ after r (now (out .exit)) ≡ decided wanted (ltb count (digestRoom (now (out .entry)))) count (now (out .entry)) (recordOf n last (range a e missed semi)) ⌝ }
 {
     if !wanted {
         return Step::Kept(count);

@@ -2,9 +2,9 @@
 use enzyme_blocks::block_end;
 use enzyme_blocks::fill_least;
 use enzyme_blocks::lesser;
-use enzyme_blocks::wide;
 use enzyme_keep::Step;
 use enzyme_keep::Terms;
+use records::wide;
 ghost use mathlib.Core.Path.{_≡_};
 ghost use Prim.Native.Nat.{_+_, _-_, _%_, _≤_, _<_, min};
 ghost use lib.ListN.{length};

@@ -12,33 +12,33 @@ use lib.Dec.{ltb}
 use lib.ListN.{length, getD, take, drop, length-append, take-append-drop}
 use Rattle.lists.specs.Tests.{same?, below?, both, clash}
 use Rattle.enzyme_cuts.specs.declared.kinds.Knife.{Knife}
-use Rattle.enzyme_windows.specs.Pieces.{joined, pieces}
+use Rattle.enzyme_windows.specs.Pieces.{endToEnd, pieces}
 use Rattle.enzyme_windows.specs.Shared.{SameWindow, Named, sharedSites}
-use Rattle.enzyme_windows.specs.PieceLaws.{joined-pieces}
+use Rattle.enzyme_windows.specs.PieceLaws.{end-to-end-pieces}
 use Rattle.enzyme_windows.specs.NameLaws.{window-none, window-on, window-back}
-use Rattle.enzyme_windows.specs.WindowLaws.{joined-append}
-use Rattle.enzyme_windows.specs.StartLaws.{startOf, start-next, site-letters}
+use Rattle.enzyme_windows.specs.WindowLaws.{end-to-end-append}
+use Rattle.enzyme_windows.specs.StartLaws.{pieceStart, start-next, site-letters}
 use Rattle.enzyme_windows.specs.FirstLaws.{shared-window}
-use Rattle.enzyme_windows.specs.TableLaws.{Counted}
-use Rattle.enzyme_keys.specs.Keys.{Site, lettersAt}
-use Rattle.enzyme_rows.specs.Steps.{Has, OneName, Stepped}
+use Rattle.enzyme_windows.specs.TableLaws.{SharedUpTo}
+use Rattle.enzyme_keys.specs.Keys.{SiteWithin, lettersAt}
+use Rattle.enzyme_rows.specs.Steps.{AmongFirst, OneName, Stepped}
 use Rattle.enzyme_sifted.specs.Sifted.{Sifted}
-use Rattle.enzyme_levels.specs.Levels.{Placed, Level}
+use Rattle.enzyme_levels.specs.Levels.{TextsPlaced, LevelKnown}
 use Rattle.enzyme_levels.specs.LevelLaws.{has?, next-level}
 
-start-low : (ts : List (List ℕ)) (i : ℕ) → startOf ts i ≤ length (joined ts)
+start-low : (ts : List (List ℕ)) (i : ℕ) → pieceStart ts i ≤ length (endToEnd ts)
 start-low ts i =
-    let e : joined ts ≡ joined (take i ts) ++ joined (drop i ts) = ap joined (sym (take-append-drop i ts)) ∙ joined-append (take i ts) (drop i ts) in
-    let l : length (joined ts) ≡ length (joined (take i ts)) + length (joined (drop i ts)) = ap length e ∙ length-append (joined (take i ts)) (joined (drop i ts)) in
+    let e : endToEnd ts ≡ endToEnd (take i ts) ++ endToEnd (drop i ts) = ap endToEnd (sym (take-append-drop i ts)) ∙ end-to-end-append (take i ts) (drop i ts) in
+    let l : length (endToEnd ts) ≡ length (endToEnd (take i ts)) + length (endToEnd (drop i ts)) = ap length e ∙ length-append (endToEnd (take i ts)) (endToEnd (drop i ts)) in
     omega arith
 
-module _ (ts : List (List ℕ)) (s starts : List ℕ) (m : ℕ) (pl : Placed ts s starts m) where
+module _ (ts : List (List ℕ)) (s starts : List ℕ) (m : ℕ) (pl : TextsPlaced ts s starts m) where
   -- each is a site
-  pub placed-site : (z : ℕ) → z < m → Site s starts z
+  pub placed-site : (z : ℕ) → z < m → SiteWithin s starts z
   placed-site z h =
       let a = pl .start z (omega arith) in
       let b = pl .start (z + 1) (omega arith) in
-      let n : startOf ts (z + 1) ≡ startOf ts z + length (getD ts z []) = rw (add-one z) (start-next ts z (omega (arith, pl .many))) in
+      let n : pieceStart ts (z + 1) ≡ pieceStart ts z + length (getD ts z []) = rw (add-one z) (start-next ts z (omega (arith, pl .many))) in
       let l = start-low ts (z + 1) in
       let e = ap length (pl .letters) in
       record { placed = omega (arith, pl .room); rises = omega arith; within = omega arith }
@@ -55,7 +55,7 @@ module _ (ts : List (List ℕ)) (s starts : List ℕ) (m : ℕ) (pl : Placed ts 
       like : (z : ℕ) → z < m → lettersAt s starts (getD name' z 0) ≡ lettersAt s starts z
       like z l = go (has? y g z)
         where
-          go : Has y g z ⊎ (Has y g z → ⊥) → lettersAt s starts (getD name' z 0) ≡ lettersAt s starts z
+          go : AmongFirst y g z ⊎ (AmongFirst y g z → ⊥) → lettersAt s starts (getD name' z 0) ≡ lettersAt s starts z
           go (inl h) = on .like z h
           go (inr h) = ap (lettersAt s starts) (on .rest z h ∙ own z l .0)
 
@@ -94,7 +94,7 @@ module _ (ts : List (List ℕ)) (s starts : List ℕ) (m : ℕ) (pl : Placed ts 
           let q : getD name' (z + 0) 0 ≡ getD name' (v + 0) 0 = rw (add-zero z, add-zero v) (one z v a b t) in
           window-on ts (λ i. getD name' i 0) named 0 z v (window-none ts (λ i. getD name' i 0) named z v (omega arith) (omega arith)) (omega arith) (omega arith) q
 
-      pub level-one : Level ts x name' rank' share' 1 k
+      pub level-one : LevelKnown ts x name' rank' share' 1 k
       level-one =
           let l = pl .many in
           next-level ts (lettersAt s starts) y x name' rank rank' share share' g k m 0 l st named
@@ -105,8 +105,8 @@ module _ (ts : List (List ℕ)) (s starts : List ℕ) (m : ℕ) (pl : Placed ts 
 
 -- ---- the end: no site is left, or windows are as long as wanted
 
-pub levels-done : (ts : List (List ℕ)) (order name rank share : List ℕ) (n g most : ℕ) → n ≤ most → (n < most → g ≡ 0) → Level ts order name rank share n g
-    → Counted ts most (λ i. getD share i 0)
+pub levels-done : (ts : List (List ℕ)) (order name rank share : List ℕ) (n g most : ℕ) → n ≤ most → (n < most → g ≡ 0) → LevelKnown ts order name rank share n g
+    → SharedUpTo ts most (λ i. getD share i 0)
 levels-done ts order name rank share n g most h z lv i l = lv .counted i l ∙ go (below? n most) (below? n (sharedSites ts i))
   where
     go : (n < most) ⊎ (most ≤ n) → (n < sharedSites ts i) ⊎ (sharedSites ts i ≤ n) → min n (sharedSites ts i) ≡ min most (sharedSites ts i)
@@ -120,17 +120,17 @@ levels-done ts order name rank share n g most h z lv i l = lv .counted i l ∙ g
     go (inr a) b = let q : n ≡ most = omega arith in rw q
 
 -- the test of the levels' loop
-pub goes : (k most g : ℕ) → (ltb k most && ltb 0 g) ≡ true → (k < most) × (0 < g)
-goes k most g e = let a = both (ltb k most) (ltb 0 g) e in (ltb-true k most (a .0), ltb-true 0 g (a .1))
+pub levels-go : (k most g : ℕ) → (ltb k most && ltb 0 g) ≡ true → (k < most) × (0 < g)
+levels-go k most g e = let a = both (ltb k most) (ltb 0 g) e in (ltb-true k most (a .0), ltb-true 0 g (a .1))
 
-pub ends : (k most g : ℕ) → (ltb k most && ltb 0 g) ≡ false → k < most → g ≡ 0
-ends k most g e h = go (below? 0 g)
+pub levels-over : (k most g : ℕ) → (ltb k most && ltb 0 g) ≡ false → k < most → g ≡ 0
+levels-over k most g e h = go (below? 0 g)
   where
     go : (0 < g) ⊎ (g ≤ 0) → g ≡ 0
     go (inl l) = clash (rw (lt-ltb k most h, lt-ltb 0 g l)) e
     go (inr l) = omega arith
 
 -- the sites of a knife, by the table of their starts
-pub pieces-placed : (k : Knife) (s starts : List ℕ) (m : ℕ) → m ≡ length (pieces k s) → m < length starts → ((i : ℕ) → i ≤ m → getD starts i 0 ≡ startOf (pieces k s) i)
-    → Placed (pieces k s) s starts m
-pieces-placed k s starts m e h at = record { letters = joined-pieces k s; many = sym e; room = h; start = at }
+pub pieces-placed : (k : Knife) (s starts : List ℕ) (m : ℕ) → m ≡ length (pieces k s) → m < length starts → ((i : ℕ) → i ≤ m → getD starts i 0 ≡ pieceStart (pieces k s) i)
+    → TextsPlaced (pieces k s) s starts m
+pieces-placed k s starts m e h at = record { letters = end-to-end-pieces k s; many = sym e; room = h; start = at }

@@ -9,10 +9,10 @@ use lib.ListN.{length, getD}
 use Rattle.lists.specs.Tests.{same?, below?}
 use Rattle.enzyme_windows.specs.Shared.{SameWindow, Named, sharedSites}
 use Rattle.enzyme_windows.specs.NameLaws.{window-on, window-back}
-use Rattle.enzyme_windows.specs.TableLaws.{Counted, counted-more, counted-same}
-use Rattle.enzyme_rows.specs.Steps.{Has, Stepped}
+use Rattle.enzyme_windows.specs.TableLaws.{SharedUpTo, shared-up-more, shared-up-same}
+use Rattle.enzyme_rows.specs.Steps.{AmongFirst, Stepped}
 use Rattle.enzyme_runs.specs.RunLaws.{alike?}
-use Rattle.enzyme_levels.specs.Levels.{Level}
+use Rattle.enzyme_levels.specs.Levels.{LevelKnown}
 
 pub window-flip : (ts : List (List ℕ)) (n p j : ℕ) → SameWindow ts n p j → SameWindow ts n j p
 window-flip ts n p j w = record { first = w .second; second = w .first; equal = sym (w .equal) }
@@ -31,15 +31,15 @@ look P d (suc g) = go (look P d g) (d g)
         last p h e (inl l) = a p l e
         last p h e (inr l) = let z : p ≡ g = omega arith in b (rw z at e)
 
-pub has? : (w : List ℕ) (g z : ℕ) → Has w g z ⊎ (Has w g z → ⊥)
+pub has? : (w : List ℕ) (g z : ℕ) → AmongFirst w g z ⊎ (AmongFirst w g z → ⊥)
 has? w g z = go (look (λ (p : ℕ). getD w p 0 ≡ z) (λ p. same? (getD w p 0) z) g)
   where
-    go : ((p : ℕ) × (p < g) × (getD w p 0 ≡ z)) ⊎ ((p : ℕ) → p < g → getD w p 0 ≡ z → ⊥) → Has w g z ⊎ (Has w g z → ⊥)
+    go : ((p : ℕ) × (p < g) × (getD w p 0 ≡ z)) ⊎ ((p : ℕ) → p < g → getD w p 0 ≡ z → ⊥) → AmongFirst w g z ⊎ (AmongFirst w g z → ⊥)
     go (inl a) = inl a
     go (inr a) = inr (λ h. a (h .0) (h .1) (h .2))
 
 -- whether an earlier one of the first g has the text of z
-earlier? : (text : ℕ → List ℕ) (w : List ℕ) (g z : ℕ) → ((v : ℕ) × Has w g v × (v < z) × (text v ≡ text z)) ⊎ ((v : ℕ) → Has w g v → v < z → text v ≡ text z → ⊥)
+earlier? : (text : ℕ → List ℕ) (w : List ℕ) (g z : ℕ) → ((v : ℕ) × AmongFirst w g v × (v < z) × (text v ≡ text z)) ⊎ ((v : ℕ) → AmongFirst w g v → v < z → text v ≡ text z → ⊥)
 earlier? text w g z = go (look (λ (p : ℕ). (getD w p 0 < z) × (text (getD w p 0) ≡ text z)) test g)
   where
     test : (p : ℕ) → ((getD w p 0 < z) × (text (getD w p 0) ≡ text z)) ⊎ ((getD w p 0 < z) × (text (getD w p 0) ≡ text z) → ⊥)
@@ -52,31 +52,31 @@ earlier? text w g z = go (look (λ (p : ℕ). (getD w p 0 < z) × (text (getD w 
         pair (inr a) b = inr (λ c. let d = c .0 in omega arith)
 
     go : ((p : ℕ) × (p < g) × ((getD w p 0 < z) × (text (getD w p 0) ≡ text z))) ⊎ ((p : ℕ) → p < g → (getD w p 0 < z) × (text (getD w p 0) ≡ text z) → ⊥)
-        → ((v : ℕ) × Has w g v × (v < z) × (text v ≡ text z)) ⊎ ((v : ℕ) → Has w g v → v < z → text v ≡ text z → ⊥)
+        → ((v : ℕ) × AmongFirst w g v × (v < z) × (text v ≡ text z)) ⊎ ((v : ℕ) → AmongFirst w g v → v < z → text v ≡ text z → ⊥)
     go (inl a) = inl (getD w (a .0) 0, (a .0, a .1, refl), a .2 .0, a .2 .1)
     go (inr a) = inr (λ v h l t. let e = h .2 in a (h .0) (h .1) (omega arith, ap text e ∙ t))
 
 -- a level that tells windows of n + 1 sites apart by their texts
 module _ (ts : List (List ℕ)) (text : ℕ → List ℕ) (y x name rank rank' share share' : List ℕ) (g k m n : ℕ)
     (e : length ts ≡ m) (st : Stepped text y x rank rank' share share' g k m (suc n)) (nm : Named ts (λ i. getD name i 0))
-    (there : (z v : ℕ) → (z ≡ v → ⊥) → SameWindow ts (suc n) z v → Has y g z)
-    (texts : (z v : ℕ) → Has y g z → Has y g v → SameWindow ts (suc n) z v → text z ≡ text v)
-    (windows : (z v : ℕ) → Has y g z → Has y g v → text z ≡ text v → SameWindow ts (suc n) z v)
-    (cn : Counted ts n (λ i. getD share i 0))
+    (there : (z v : ℕ) → (z ≡ v → ⊥) → SameWindow ts (suc n) z v → AmongFirst y g z)
+    (texts : (z v : ℕ) → AmongFirst y g z → AmongFirst y g v → SameWindow ts (suc n) z v → text z ≡ text v)
+    (windows : (z v : ℕ) → AmongFirst y g z → AmongFirst y g v → text z ≡ text v → SameWindow ts (suc n) z v)
+    (cn : SharedUpTo ts n (λ i. getD share i 0))
   where
-    counted : Counted ts (suc n) (λ i. getD share' i 0)
+    counted : SharedUpTo ts (suc n) (λ i. getD share' i 0)
     counted z l = go (has? y g z) (earlier? text y g z)
       where
-        go : Has y g z ⊎ (Has y g z → ⊥) → ((v : ℕ) × Has y g v × (v < z) × (text v ≡ text z)) ⊎ ((v : ℕ) → Has y g v → v < z → text v ≡ text z → ⊥)
+        go : AmongFirst y g z ⊎ (AmongFirst y g z → ⊥) → ((v : ℕ) × AmongFirst y g v × (v < z) × (text v ≡ text z)) ⊎ ((v : ℕ) → AmongFirst y g v → v < z → text v ≡ text z → ⊥)
             → getD share' z 0 ≡ min (suc n) (sharedSites ts z)
-        go (inl h) (inl (v, b, o, t)) = st .again z v h b o t ∙ counted-more ts n z v o (windows v z b h t)
+        go (inl h) (inl (v, b, o, t)) = st .again z v h b o t ∙ shared-up-more ts n z v o (windows v z b h t)
         go (inl h) (inr none) =
-            st .first z h none ∙ cn z l ∙ counted-same ts n z (λ v o w.
+            st .first z h none ∙ cn z l ∙ shared-up-same ts n z (λ v o w.
             let b = there v z (λ (q : v ≡ z). omega arith) w in
             none v b o (texts v z b h w))
-        go (inr h) c = st .rest z h ∙ cn z l ∙ counted-same ts n z (λ v o w. h (there z v (λ (q : z ≡ v). omega arith) (window-flip ts (suc n) v z w)))
+        go (inr h) c = st .rest z h ∙ cn z l ∙ shared-up-same ts n z (λ v o w. h (there z v (λ (q : z ≡ v). omega arith) (window-flip ts (suc n) v z w)))
 
-    pub next-level : Level ts x name rank' share' (suc n) k
+    pub next-level : LevelKnown ts x name rank' share' (suc n) k
     next-level = record {
       named = nm;
       inside = λ z h. let b = st .from z h .1 in omega arith;
@@ -93,26 +93,26 @@ module _ (ts : List (List ℕ)) (text : ℕ → List ℕ) (y x name rank rank' s
     }
 
 -- by ranks of n sites, and the names of the sites behind
-module _ (ts : List (List ℕ)) (y x name rank rank' share share' : List ℕ) (g k m n : ℕ) (e : length ts ≡ m) (lv : Level ts y name rank share n g)
+module _ (ts : List (List ℕ)) (y x name rank rank' share share' : List ℕ) (g k m n : ℕ) (e : length ts ≡ m) (lv : LevelKnown ts y name rank share n g)
     (st : Stepped (λ a. getD rank a 0 ∷ getD name (a + n) 0 ∷ []) y x rank rank' share share' g k m (n + 1))
   where
     abbrev text : ℕ → List ℕ
     text a = getD rank a 0 ∷ getD name (a + n) 0 ∷ []
 
-    texts : (z v : ℕ) → Has y g z → Has y g v → SameWindow ts (suc n) z v → text z ≡ text v
+    texts : (z v : ℕ) → AmongFirst y g z → AmongFirst y g v → SameWindow ts (suc n) z v → text z ≡ text v
     texts z v h j w =
         let b = window-back ts (λ i. getD name i 0) (lv .named) n z v w in
         let c : getD rank z 0 ≡ getD rank v 0 = lv .same z v h j (b .0) in
         let d : getD name (z + n) 0 ≡ getD name (v + n) 0 = b .3 in
         cc
 
-    windows : (z v : ℕ) → Has y g z → Has y g v → text z ≡ text v → SameWindow ts (suc n) z v
+    windows : (z v : ℕ) → AmongFirst y g z → AmongFirst y g v → text z ≡ text v → SameWindow ts (suc n) z v
     windows z v h j t =
         let c : getD rank z 0 ≡ getD rank v 0 = cc in
         let d : getD name (z + n) 0 ≡ getD name (v + n) 0 = cc in
         window-on ts (λ i. getD name i 0) (lv .named) n z v (lv .back z v h j c) (lv .inside z h) (lv .inside v j) d
 
-    pub level-more : Level ts x name rank' share' (n + 1) k
+    pub level-more : LevelKnown ts x name rank' share' (n + 1) k
     level-more =
         let s : Stepped (λ a. getD rank a 0 ∷ getD name (a + n) 0 ∷ []) y x rank rank' share share' g k m (suc n) = rw (add-one n) at st in
         rw (add-one n) (next-level ts text y x name rank rank' share share' g k m n e s (lv .named) (lv .each) texts windows (lv .counted))

@@ -4,18 +4,18 @@ use mathlib.Core.Path.{_≡_}
 use mathlib.Core.List.{List}
 use native.Mathlib.Omega.{arith}
 use lib.ListN.{length, getD}
-use Rattle.enzyme_keys.specs.Keys.{Site}
-use Rattle.enzyme_rows.specs.Steps.{Has, Apart, Sited, Arranged, Runs, Stepped}
+use Rattle.enzyme_keys.specs.Keys.{SiteWithin}
+use Rattle.enzyme_rows.specs.Steps.{AmongFirst, FirstDiffer, Sited, Arranged, RunStarts, Stepped}
 use Rattle.enzyme_runs.specs.RunLaws.{run-start}
 use Rattle.enzyme_strewn.specs.Shuffled.{Shuffled}
 use Rattle.enzyme_sifted.specs.Sifted.{Sifted}
-use Rattle.enzyme_levels.specs.Levels.{Ready}
+use Rattle.enzyme_levels.specs.Levels.{SitesReady}
 
-module _ (s starts y : List ℕ) (g m : ℕ) (rd : Ready s starts y g m) where
+module _ (s starts y : List ℕ) (g m : ℕ) (rd : SitesReady s starts y g m) where
   pub ready-sited : Sited s starts y g
   ready-sited z v h l = rd .sites v (omega (arith, rd .inside z h))
 
-  pub ready-next : (text : ℕ → List ℕ) (x rank rank' share share' : List ℕ) (k n : ℕ) → Stepped text y x rank rank' share share' g k m n → Ready s starts x k m
+  pub ready-next : (text : ℕ → List ℕ) (x rank rank' share share' : List ℕ) (k n : ℕ) → Stepped text y x rank rank' share share' g k m n → SitesReady s starts x k m
   ready-next text x rank rank' share share' k n st = record {
     few = omega (arith, st .few, rd .few);
     small = rd .small;
@@ -34,22 +34,22 @@ sifted-strewn s starts y x m g sf sh = record {
   each = λ z v h l d t. sh .into z (sf .each z v h l d t);
 }
 
-pub ready-sifted : (s starts y : List ℕ) (m g : ℕ) → m ≤ 65536 → ((z : ℕ) → z < m → Site s starts z) → Sifted s starts y m g → Ready s starts y g m
+pub ready-sifted : (s starts y : List ℕ) (m g : ℕ) → m ≤ 65536 → ((z : ℕ) → z < m → SiteWithin s starts z) → Sifted s starts y m g → SitesReady s starts y g m
 ready-sifted s starts y m g h sites sf = record { few = sf .few; small = h; apart = sf .apart; inside = sf .inside; sites = sites }
 
 -- ---- for the steps behind the sort, on the row x, with the starts of runs in r
 
-module _ (text : ℕ → List ℕ) (s starts y x v r : List ℕ) (g m : ℕ) (rd : Ready s starts y g m) (ar : Arranged text y x g)
+module _ (text : ℕ → List ℕ) (s starts y x v r : List ℕ) (g m : ℕ) (rd : SitesReady s starts y g m) (ar : Arranged text y x g)
     (l : length x ≡ length y) (h : m ≤ length y) (n : length r ≡ length v) (k : m ≤ length v)
   where
-    pub for-writing : (t : List ℕ) → m ≤ length t → (g ≤ length x) × (g ≤ length r) × Apart x g × ((z : ℕ) → Has x g z → z < length t)
+    pub for-writing : (t : List ℕ) → m ≤ length t → (g ≤ length x) × (g ≤ length r) × FirstDiffer x g × ((z : ℕ) → AmongFirst x g z → z < length t)
     for-writing t o = let f = rd .few in (omega arith, omega arith, ar .apart, λ z p. omega (arith, rd .inside z (ar .from z p)))
 
-    pub for-naming : (t : List ℕ) → m ≤ length t → Runs text x r g
-        → (g ≤ length x) × (g ≤ length r) × Apart x g × ((z : ℕ) → Has x g z → z < length t) × ((p : ℕ) → p < g → getD r p 0 < g)
+    pub for-naming : (t : List ℕ) → m ≤ length t → RunStarts text x r g
+        → (g ≤ length x) × (g ≤ length r) × FirstDiffer x g × ((z : ℕ) → AmongFirst x g z → z < length t) × ((p : ℕ) → p < g → getD r p 0 < g)
     for-naming t o rn =
         let w = for-writing t o in
         (w .0, w .1, w .2, w .3, λ p i. omega (arith, run-start text x r g (ar .lined) rn p i .0))
 
-    pub for-keeping : (g ≤ length x) × (g ≤ length r) × (g ≤ 65536) × Apart x g
+    pub for-keeping : (g ≤ length x) × (g ≤ length r) × (g ≤ 65536) × FirstDiffer x g
     for-keeping = let f = rd .few in let b = rd .small in (omega arith, omega arith, omega arith, ar .apart)

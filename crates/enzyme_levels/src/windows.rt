@@ -4,11 +4,11 @@ ghost use mathlib.Core.Path.{_≡_};
 ghost use mathlib.Core.List.{List};
 ghost use Prim.Native.Nat.{ℕ, _+_, _≤_, _<_};
 ghost use lib.ListN.{length, getD};
-ghost use Rattle.enzyme_windows.specs.TableLaws.{Counted};
-ghost use Rattle.enzyme_keys.specs.Keys.{Site, lettersAt, keyOf};
-ghost use Rattle.enzyme_rows.specs.Steps.{Ranked, OneName, Stepped};
+ghost use Rattle.enzyme_windows.specs.TableLaws.{SharedUpTo};
+ghost use Rattle.enzyme_keys.specs.Keys.{SiteWithin, lettersAt, sortKey};
+ghost use Rattle.enzyme_rows.specs.Steps.{RunsRanked, OneName, Stepped};
 ghost use Rattle.enzyme_sifted.specs.Sifted.{Sifted};
-ghost use Rattle.enzyme_levels.specs.Levels.{Placed, Ready, Level};
+ghost use Rattle.enzyme_levels.specs.Levels.{TextsPlaced, SitesReady, LevelKnown};
 
 // Sorts the first g sites by their keys, ranks them by their runs, and writes n for those whose key an earlier site has.
 fn rank_sites(
@@ -24,8 +24,8 @@ fn rank_sites(
     m: usize,
     n: u8,
 )
-    requires { ⌜ Ready (now letters) (now starts) (now order) g m × (m ≤ length (now rank)) × (m ≤ length (now order)) × (m ≤ length (now other)) × (m ≤ length (now share)) ⌝ }
-    ensures { λ _. ⌜ Ranked (keyOf key (now (letters .entry)) (now (starts .entry)) (now (name .entry)) (now (rank .entry))) (now (order .entry)) (now (order .exit)) (now (other .exit)) (now (rank .entry)) (now (rank .exit)) (now (share .entry)) (now (share .exit)) g n ⌝ }
+    requires { ⌜ SitesReady (now letters) (now starts) (now order) g m × (m ≤ length (now rank)) × (m ≤ length (now order)) × (m ≤ length (now other)) × (m ≤ length (now share)) ⌝ }
+    ensures { λ _. ⌜ RunsRanked (sortKey key (now (letters .entry)) (now (starts .entry)) (now (name .entry)) (now (rank .entry))) (now (order .entry)) (now (order .exit)) (now (other .exit)) (now (rank .entry)) (now (rank .exit)) (now (share .entry)) (now (share .exit)) g n ⌝ }
 {
     enzyme_runs::line_up(key, letters, starts, name, rank, order, other, g);
     enzyme_rows::bring(order, other, rank, g);
@@ -46,8 +46,8 @@ fn renumber(
     m: usize,
     n: u8,
 ) -> usize
-    requires { ⌜ Ready (now letters) (now starts) (now order) g m × (m ≤ length (now rank)) × (m ≤ length (now order)) × (m ≤ length (now other)) × (m ≤ length (now share)) ⌝ }
-    ensures { λ r. ⌜ Stepped (keyOf key (now (letters .entry)) (now (starts .entry)) (now (name .entry)) (now (rank .entry))) (now (order .entry)) (now (order .exit)) (now (rank .entry)) (now (rank .exit)) (now (share .entry)) (now (share .exit)) g r m n ⌝ }
+    requires { ⌜ SitesReady (now letters) (now starts) (now order) g m × (m ≤ length (now rank)) × (m ≤ length (now order)) × (m ≤ length (now other)) × (m ≤ length (now share)) ⌝ }
+    ensures { λ r. ⌜ Stepped (sortKey key (now (letters .entry)) (now (starts .entry)) (now (name .entry)) (now (rank .entry))) (now (order .entry)) (now (order .exit)) (now (rank .entry)) (now (rank .exit)) (now (share .entry)) (now (share .exit)) g r m n ⌝ }
 {
     rank_sites(
         key,
@@ -78,7 +78,7 @@ fn sifted_sites(
     seen: &mut [u8],
     m: usize,
 ) -> usize
-    requires { ⌜ (m ≤ 65536) × (m ≤ length (now name)) × (m ≤ length (now rank)) × (m ≤ length (now order)) × (m ≤ length (now other)) × (m ≤ length (now share)) × ((z : ℕ) → z < m → Site (now letters) (now starts) z) ⌝ }
+    requires { ⌜ (m ≤ 65536) × (m ≤ length (now name)) × (m ≤ length (now rank)) × (m ≤ length (now order)) × (m ≤ length (now other)) × (m ≤ length (now share)) × ((z : ℕ) → z < m → SiteWithin (now letters) (now starts) z) ⌝ }
     ensures { λ r. ⌜ Sifted (now (letters .entry)) (now (starts .entry)) (now (order .exit)) m r × ((i : ℕ) → i < m → (getD (now (name .exit)) i 0 ≡ i) × (getD (now (share .exit)) i 0 ≡ 0)) ⌝ }
 {
     let g = enzyme_sifted::sift(letters, starts, m, order, name, seen);
@@ -99,7 +99,7 @@ fn first_names(
     g: usize,
     m: usize,
 ) -> usize
-    requires { ⌜ Ready (now letters) (now starts) (now order) g m × (m ≤ length (now rank)) × (m ≤ length (now order)) × (m ≤ length (now other)) × (m ≤ length (now share)) × (m ≤ length (now name)) ⌝ }
+    requires { ⌜ SitesReady (now letters) (now starts) (now order) g m × (m ≤ length (now rank)) × (m ≤ length (now order)) × (m ≤ length (now other)) × (m ≤ length (now share)) × (m ≤ length (now name)) ⌝ }
     ensures { λ r. ⌜ Stepped (lettersAt (now (letters .entry)) (now (starts .entry))) (now (order .entry)) (now (order .exit)) (now (rank .entry)) (now (rank .exit)) (now (share .entry)) (now (share .exit)) g r m 1 × OneName (lettersAt (now (letters .entry)) (now (starts .entry))) (now (order .entry)) (now (name .entry)) (now (name .exit)) g ⌝ }
 {
     rank_sites(
@@ -131,8 +131,8 @@ fn first_level(
     seen: &mut [u8],
     m: usize,
 ) -> usize
-    requires { ⌜ (m ≤ 65536) × (m ≤ length (now name)) × (m ≤ length (now rank)) × (m ≤ length (now order)) × (m ≤ length (now other)) × (m ≤ length (now share)) × ((z : ℕ) → z < m → Site (now letters) (now starts) z) ⌝ }
-    ensures { λ r. ⌜ Ready (now (letters .entry)) (now (starts .entry)) (now (order .exit)) r m × ((ts : List (List ℕ)) → Placed ts (now (letters .entry)) (now (starts .entry)) m → Level ts (now (order .exit)) (now (name .exit)) (now (rank .exit)) (now (share .exit)) 1 r) ⌝ }
+    requires { ⌜ (m ≤ 65536) × (m ≤ length (now name)) × (m ≤ length (now rank)) × (m ≤ length (now order)) × (m ≤ length (now other)) × (m ≤ length (now share)) × ((z : ℕ) → z < m → SiteWithin (now letters) (now starts) z) ⌝ }
+    ensures { λ r. ⌜ SitesReady (now (letters .entry)) (now (starts .entry)) (now (order .exit)) r m × ((ts : List (List ℕ)) → TextsPlaced ts (now (letters .entry)) (now (starts .entry)) m → LevelKnown ts (now (order .exit)) (now (name .exit)) (now (rank .exit)) (now (share .exit)) 1 r) ⌝ }
 {
     let g = sifted_sites(letters, starts, name, rank, order, other, share, seen, m);
     first_names(letters, starts, name, rank, order, other, share, g, m)
@@ -151,8 +151,8 @@ fn level(
     m: usize,
     k: usize,
 ) -> usize
-    requires { ⌜ Ready (now letters) (now starts) (now order) g m × (m ≤ length (now rank)) × (m ≤ length (now order)) × (m ≤ length (now other)) × (m ≤ length (now share)) × (k < 17) ⌝ }
-    ensures { λ r. ⌜ Ready (now (letters .entry)) (now (starts .entry)) (now (order .exit)) r m × ((ts : List (List ℕ)) → length ts ≡ m → Level ts (now (order .entry)) (now (name .entry)) (now (rank .entry)) (now (share .entry)) k g → Level ts (now (order .exit)) (now (name .entry)) (now (rank .exit)) (now (share .exit)) (k + 1) r) ⌝ }
+    requires { ⌜ SitesReady (now letters) (now starts) (now order) g m × (m ≤ length (now rank)) × (m ≤ length (now order)) × (m ≤ length (now other)) × (m ≤ length (now share)) × (k < 17) ⌝ }
+    ensures { λ r. ⌜ SitesReady (now (letters .entry)) (now (starts .entry)) (now (order .exit)) r m × ((ts : List (List ℕ)) → length ts ≡ m → LevelKnown ts (now (order .entry)) (now (name .entry)) (now (rank .entry)) (now (share .entry)) k g → LevelKnown ts (now (order .exit)) (now (name .entry)) (now (rank .exit)) (now (share .exit)) (k + 1) r) ⌝ }
 {
     let next = k + 1;
     let n = next as u8;
@@ -184,8 +184,8 @@ fn more_levels(
     m: usize,
     most: usize,
 )
-    requires { ⌜ Ready (now letters) (now starts) (now order) first m × (m ≤ length (now rank)) × (m ≤ length (now order)) × (m ≤ length (now other)) × (m ≤ length (now share)) × (1 ≤ most) × (most ≤ 17) ⌝ }
-    ensures { λ _. ⌜ ((ts : List (List ℕ)) → length ts ≡ m → Level ts (now (order .entry)) (now (name .entry)) (now (rank .entry)) (now (share .entry)) 1 first → Counted ts most (λ i. getD (now (share .exit)) i 0)) ⌝ }
+    requires { ⌜ SitesReady (now letters) (now starts) (now order) first m × (m ≤ length (now rank)) × (m ≤ length (now order)) × (m ≤ length (now other)) × (m ≤ length (now share)) × (1 ≤ most) × (most ≤ 17) ⌝ }
+    ensures { λ _. ⌜ ((ts : List (List ℕ)) → length ts ≡ m → LevelKnown ts (now (order .entry)) (now (name .entry)) (now (rank .entry)) (now (share .entry)) 1 first → SharedUpTo ts most (λ i. getD (now (share .exit)) i 0)) ⌝ }
 {
     let mut g = first;
     let mut k = 1;
@@ -208,8 +208,8 @@ pub fn levels(
     share: &mut [u8],
     seen: &mut [u8],
 )
-    requires { ⌜ ((ts : List (List ℕ)) × Placed ts (now letters) (now starts) m) × (m ≤ 65536) × (1 ≤ most) × (most ≤ 17) × (m ≤ length (now order)) × (m ≤ length (now other)) × (m ≤ length (now name)) × (m ≤ length (now rank)) × (m ≤ length (now share)) ⌝ }
-    ensures { λ _. ⌜ ((ts : List (List ℕ)) → Placed ts (now (letters .entry)) (now (starts .entry)) m → Counted ts most (λ i. getD (now (share .exit)) i 0)) ⌝ }
+    requires { ⌜ ((ts : List (List ℕ)) × TextsPlaced ts (now letters) (now starts) m) × (m ≤ 65536) × (1 ≤ most) × (most ≤ 17) × (m ≤ length (now order)) × (m ≤ length (now other)) × (m ≤ length (now name)) × (m ≤ length (now rank)) × (m ≤ length (now share)) ⌝ }
+    ensures { λ _. ⌜ ((ts : List (List ℕ)) → TextsPlaced ts (now (letters .entry)) (now (starts .entry)) m → SharedUpTo ts most (λ i. getD (now (share .exit)) i 0)) ⌝ }
 {
     let g = first_level(letters, starts, name, rank, order, other, share, seen, m);
     more_levels(letters, starts, name, rank, order, other, share, g, m, most);

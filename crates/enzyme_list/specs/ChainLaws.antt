@@ -1,7 +1,7 @@
 -- Laws of a list of records that rises. Assumes nothing.
 use Prim.Native.Nat.{ℕ, zero, suc, _-_, _*_, _≤_, _<_}
 use mathlib.Core.Path.{_≡_, refl, sym, ap, _∙_}
-use mathlib.Core.Bool.{Bool, true, false, _||_}
+use mathlib.Core.Bool.{Bool, true, false, or-true}
 use mathlib.Core.Logic.{_⊎_, inl, inr, ⊎-elim}
 use mathlib.Core.List.{List, [], _∷_, _++_, append-assoc}
 use native.Mathlib.Omega.{arith}
@@ -18,9 +18,9 @@ use Rattle.enzyme_keep.specs.Buffer.{rangeAt, rangesIn}
 use Rattle.enzyme_keep.specs.BufferLaws.{length-ranges}
 use Rattle.enzyme_list.specs.declared.walk.Place.{Place}
 use Rattle.enzyme_list.specs.declared.walk.Place.the-variants.{Same, Behind}
-use Rattle.enzyme_order.specs.Order.{orderOf}
+use Rattle.enzyme_order.specs.Order.{compared}
 use Rattle.enzyme_order.specs.OrderLaws.{order-self, order-equal, order-flip, order-trans}
-use Rattle.enzyme_list.specs.Chain.{textOf, nextOf, Linked, lastOf, Lower, Upper, Rises, rangesOf, Between, Found, Told, Sought, Reach, Begun, depth}
+use Rattle.enzyme_list.specs.Chain.{recordText, nextOf, LinkedThrough, lastRecord, Lower, Upper, Rises, rangesOf, Between, FoundIn, FoundFrom, Sought, EndsWithin, Begun, depth}
 
 -- ---- record j as it is read
 
@@ -45,21 +45,21 @@ next-link ls head p e = rw (ne-eqb p 0 e)
 
 -- ---- the end of a walk
 
-pub reach-within : (ls : List ℕ) (n t : ℕ) → 0 < t → Reach ls n t → t ≤ length ls
-reach-within ls n t h r = go (r .0) (r .1)
+pub ends-within : (ls : List ℕ) (n t : ℕ) → 0 < t → EndsWithin ls n t → t ≤ length ls
+ends-within ls n t h r = go (r .0) (r .1)
   where
-    go : (ys : List ℕ) → Linked ls t ys → t ≤ length ls
+    go : (ys : List ℕ) → LinkedThrough ls t ys → t ≤ length ls
     go [] e = absurd (omega arith)
     go (u ∷ us) l = let e = l .0 in let k = l .2 in omega arith
 
-pub reach-on : (ls : List ℕ) (n t : ℕ) → 0 < t → Reach ls n t → Reach ls n (getD ls (t - 1) 0)
-reach-on ls n t h r = go (r .0) (r .1) (r .2)
+pub ends-on : (ls : List ℕ) (n t : ℕ) → 0 < t → EndsWithin ls n t → EndsWithin ls n (getD ls (t - 1) 0)
+ends-on ls n t h r = go (r .0) (r .1) (r .2)
   where
-    go : (ys : List ℕ) → Linked ls t ys → length ys ≤ n → Reach ls n (getD ls (t - 1) 0)
+    go : (ys : List ℕ) → LinkedThrough ls t ys → length ys ≤ n → EndsWithin ls n (getD ls (t - 1) 0)
     go [] e k = absurd (omega arith)
     go (u ∷ us) l k = let e = l .0 in (us, rw e (l .3), omega arith)
 
-depth-length : (ls : List ℕ) (n t : ℕ) (ys : List ℕ) → Linked ls t ys → length ys ≤ n → depth ls t n ≡ length ys
+depth-length : (ls : List ℕ) (n t : ℕ) (ys : List ℕ) → LinkedThrough ls t ys → length ys ≤ n → depth ls t n ≡ length ys
 depth-length ls zero t [] l h = refl
 depth-length ls zero t (u ∷ us) l h = absurd (omega arith)
 depth-length ls (suc n) t [] l h = rw (eq-eqb t 0 l)
@@ -70,21 +70,21 @@ depth-length ls (suc n) t (u ∷ us) l h =
     let ih = depth-length ls n (getD ls (u - 1) 0) us (l .3) (omega arith) in
     rw (z, e, ih)
 
-pub reach-less : (ls : List ℕ) (n t : ℕ) → 0 < t → Reach ls n t → depth ls (getD ls (t - 1) 0) n < depth ls t n
-reach-less ls n t h r = go (r .0) (r .1) (r .2)
+pub ends-less : (ls : List ℕ) (n t : ℕ) → 0 < t → EndsWithin ls n t → depth ls (getD ls (t - 1) 0) n < depth ls t n
+ends-less ls n t h r = go (r .0) (r .1) (r .2)
   where
-    go : (ys : List ℕ) → Linked ls t ys → length ys ≤ n → depth ls (getD ls (t - 1) 0) n < depth ls t n
+    go : (ys : List ℕ) → LinkedThrough ls t ys → length ys ≤ n → depth ls (getD ls (t - 1) 0) n < depth ls t n
     go [] e k = absurd (omega arith)
     go (u ∷ us) l k =
         let e = l .0 in
         let a = depth-length ls n t (u ∷ us) l k in
-        let m : Linked ls (getD ls (t - 1) 0) us = rw e (l .3) in
+        let m : LinkedThrough ls (getD ls (t - 1) 0) us = rw e (l .3) in
         let b = depth-length ls n (getD ls (t - 1) 0) us m (omega arith) in
         omega arith
 
 -- ---- a walk
 
-pub last-snoc : (p : ℕ) (xs : List ℕ) (t : ℕ) → lastOf p (xs ++ (t ∷ [])) ≡ t
+pub last-snoc : (p : ℕ) (xs : List ℕ) (t : ℕ) → lastRecord p (xs ++ (t ∷ [])) ≡ t
 last-snoc p [] t = refl
 last-snoc p (x ∷ xs) t = last-snoc x xs t
 
@@ -93,82 +93,78 @@ module _ (s : List ℕ) (ks : List Range) where
   lower-append new [] ys p q = q
   lower-append new (x ∷ xs) ys p q = (p .0, lower-append new xs ys (p .1) q)
 
-  upper-trans : (a b : List ℕ) (ts : List ℕ) → orderOf a b ≡ 0 → Upper s ks b ts → Upper s ks a ts
+  upper-trans : (a b : List ℕ) (ts : List ℕ) → compared a b ≡ 0 → Upper s ks b ts → Upper s ks a ts
   upper-trans a b [] h u = tt
-  upper-trans a b (t ∷ ts) h u = (order-trans a b (textOf s ks t) h (u .0), upper-trans a b ts h (u .1))
+  upper-trans a b (t ∷ ts) h u = (order-trans a b (recordText s ks t) h (u .0), upper-trans a b ts h (u .1))
 
   pub ranges-append : (xs ys : List ℕ) → rangesOf ks (xs ++ ys) ≡ rangesOf ks xs ++ rangesOf ks ys
   ranges-append [] ys = refl
   ranges-append (x ∷ xs) ys = ap (λ (rs : List Range). getD ks (x - 1) (site 0 0) ∷ rs) (ranges-append xs ys)
 
-  or-true : (b : Bool) → (b || true) ≡ true
-  or-true true = refl
-  or-true false = refl
-
-  seen-at : (new : List ℕ) (xs ys : List ℕ) (t : ℕ) → textOf s ks t ≡ new → seenIn s (rangesOf ks (xs ++ (t ∷ ys))) new ≡ true
+  seen-at : (new : List ℕ) (xs ys : List ℕ) (t : ℕ) → recordText s ks t ≡ new → seenIn s (rangesOf ks (xs ++ (t ∷ ys))) new ≡ true
   seen-at new xs ys t e =
-      let z : same (textOf s ks t) new ≡ true = rw e (same-refl new) in
+      let z : same (recordText s ks t) new ≡ true = rw e (same-refl new) in
       rw (ranges-append xs (t ∷ ys), seenIn-append s (rangesOf ks xs) (rangesOf ks (t ∷ ys)) new, z) (or-true (seenIn s (rangesOf ks xs) new))
 
   module _ (ls new : List ℕ) where
-    pub told-on : (prev t : ℕ) (r : Place) → 0 < t → orderOf (textOf s ks t) new ≡ 0 → Told s ks ls new t (getD ls (t - 1) 0) r → Told s ks ls new prev t r
-    told-on prev t r h o told xs ys p q l k = go ys l k
+    pub found-from-on : (prev t : ℕ) (r : Place) → 0 < t → compared (recordText s ks t) new ≡ 0 → FoundFrom s ks ls new t (getD ls (t - 1) 0) r → FoundFrom s ks ls new prev t r
+    found-from-on prev t r h o told xs ys p q l k = go ys l k
       where
-        go : (ys : List ℕ) → Linked ls t ys → Rises s ks ys → Found s ks new (xs ++ ys) r
+        go : (ys : List ℕ) → LinkedThrough ls t ys → Rises s ks ys → FoundIn s ks new (xs ++ ys) r
         go [] e k = absurd (omega arith)
         go (u ∷ us) l k =
             let e = l .0 in
-            let m : Linked ls (getD ls (t - 1) 0) us = rw e (l .3) in
-            let f : Found s ks new ((xs ++ (t ∷ [])) ++ us) r = told (xs ++ (t ∷ [])) us (last-snoc 0 xs t) (lower-append new xs (t ∷ []) q (o, tt)) m (k .1) in
-            let g : Found s ks new (xs ++ (t ∷ us)) r = rw (append-assoc xs (t ∷ []) us) at f in
+            let m : LinkedThrough ls (getD ls (t - 1) 0) us = rw e (l .3) in
+            let f : FoundIn s ks new ((xs ++ (t ∷ [])) ++ us) r = told (xs ++ (t ∷ [])) us (last-snoc 0 xs t) (lower-append new xs (t ∷ []) q (o, tt)) m (k .1) in
+            let g : FoundIn s ks new (xs ++ (t ∷ us)) r = rw (append-assoc xs (t ∷ []) us) at f in
             rw (← e) g
 
-    pub told-same : (prev t : ℕ) → 0 < t → orderOf (textOf s ks t) new ≡ 1 → Told s ks ls new prev t Same
-    told-same prev t h o xs ys p q l k = go ys l
+    pub found-from-same : (prev t : ℕ) → 0 < t → compared (recordText s ks t) new ≡ 1 → FoundFrom s ks ls new prev t Same
+    found-from-same prev t h o xs ys p q l k = go ys l
       where
-        go : (ys : List ℕ) → Linked ls t ys → Found s ks new (xs ++ ys) Same
+        go : (ys : List ℕ) → LinkedThrough ls t ys → FoundIn s ks new (xs ++ ys) Same
         go [] e = absurd (omega arith)
-        go (u ∷ us) l = let e = l .0 in rw (← e) (seen-at new xs us t (order-equal (textOf s ks t) new o))
+        go (u ∷ us) l = let e = l .0 in rw (← e) (seen-at new xs us t (order-equal (recordText s ks t) new o))
 
-    pub told-stop : (prev t : ℕ) → 0 < t → orderOf (textOf s ks t) new ≡ 2 → Told s ks ls new prev t (Behind prev)
-    told-stop prev t h o xs ys p q l k = record { xs = xs; ys = ys; whole = refl; last = p; lower = q; upper = go ys l k }
+    pub found-from-stop : (prev t : ℕ) → 0 < t → compared (recordText s ks t) new ≡ 2 → FoundFrom s ks ls new prev t (Behind prev)
+    found-from-stop prev t h o xs ys p q l k = record { xs = xs; ys = ys; whole = refl; last = p; lower = q; upper = go ys l k }
       where
-        go : (ys : List ℕ) → Linked ls t ys → Rises s ks ys → Upper s ks new ys
+        go : (ys : List ℕ) → LinkedThrough ls t ys → Rises s ks ys → Upper s ks new ys
         go [] e k = tt
         go (u ∷ us) l k =
             let e = l .0 in
-            let d : orderOf new (textOf s ks u) ≡ 0 = order-flip (textOf s ks u) new (rw (← e) o) in
-            (d, upper-trans new (textOf s ks u) us d (k .0))
+            let d : compared new (recordText s ks u) ≡ 0 = order-flip (recordText s ks u) new (rw (← e) o) in
+            (d, upper-trans new (recordText s ks u) us d (k .0))
 
-    pub told-end : (prev : ℕ) → Told s ks ls new prev 0 (Behind prev)
-    told-end prev xs ys p q l k = record { xs = xs; ys = ys; whole = refl; last = p; lower = q; upper = go ys l }
+    pub found-from-end : (prev : ℕ) → FoundFrom s ks ls new prev 0 (Behind prev)
+    found-from-end prev xs ys p q l k = record { xs = xs; ys = ys; whole = refl; last = p; lower = q; upper = go ys l }
       where
-        go : (ys : List ℕ) → Linked ls 0 ys → Upper s ks new ys
+        go : (ys : List ℕ) → LinkedThrough ls 0 ys → Upper s ks new ys
         go [] e = tt
         go (u ∷ us) l = let e = l .0 in let z = l .1 in absurd (omega arith)
 
 -- ---- a search from within the list
 
-pub linked-one : (ls : List ℕ) (h : ℕ) (c d : List ℕ) → Linked ls h c → Linked ls h d → c ≡ d
+pub linked-one : (ls : List ℕ) (h : ℕ) (c d : List ℕ) → LinkedThrough ls h c → LinkedThrough ls h d → c ≡ d
 linked-one ls h [] [] p q = refl
 linked-one ls h [] (u ∷ us) p q = let a = q .0 in let b = q .1 in absurd (omega arith)
 linked-one ls h (t ∷ ts) [] p q = let a = p .0 in let b = p .1 in absurd (omega arith)
 linked-one ls h (t ∷ ts) (u ∷ us) p q =
     let e : t ≡ u = sym (p .0) ∙ q .0 in
-    let m : Linked ls (getD ls (u - 1) 0) ts = rw e at (p .3) in
+    let m : LinkedThrough ls (getD ls (u - 1) 0) ts = rw e at (p .3) in
     let f = linked-one ls (getD ls (u - 1) 0) ts us m (q .3) in
     rw (e, f)
 
 module _ (ls : List ℕ) (head : ℕ) where
-  behind-from : (t : ℕ) (xs ys : List ℕ) → 0 < t → Linked ls (getD ls (t - 1) 0) (xs ++ ys) → Linked ls (nextOf ls head (lastOf t xs)) ys
+  behind-from : (t : ℕ) (xs ys : List ℕ) → 0 < t → LinkedThrough ls (getD ls (t - 1) 0) (xs ++ ys) → LinkedThrough ls (nextOf ls head (lastRecord t xs)) ys
   behind-from t [] ys h l = rw (next-link ls head t (λ e. omega arith)) l
   behind-from t (u ∷ us) ys h l = behind-from u us ys (l .1) (l .3)
 
-  pub linked-behind : (xs ys : List ℕ) → Linked ls head (xs ++ ys) → Linked ls (nextOf ls head (lastOf 0 xs)) ys
+  pub linked-behind : (xs ys : List ℕ) → LinkedThrough ls head (xs ++ ys) → LinkedThrough ls (nextOf ls head (lastRecord 0 xs)) ys
   linked-behind [] ys l = rw (next-first ls head 0 refl) l
   linked-behind (t ∷ ts) ys l = behind-from t ts ys (l .1) (l .3)
 
-pub last-from : (ls : List ℕ) (h p : ℕ) (xs ys : List ℕ) → p ≤ length ls → Linked ls h (xs ++ ys) → lastOf p xs ≤ length ls
+pub last-from : (ls : List ℕ) (h p : ℕ) (xs ys : List ℕ) → p ≤ length ls → LinkedThrough ls h (xs ++ ys) → lastRecord p xs ≤ length ls
 last-from ls h p [] ys k l = k
 last-from ls h p (u ∷ us) ys k l = last-from ls (getD ls (u - 1) 0) u us ys (l .2) (l .3)
 
@@ -177,22 +173,22 @@ rises-behind s ks [] ys r = r
 rises-behind s ks (x ∷ xs) ys r = rises-behind s ks xs ys (r .1)
 
 module _ (s : List ℕ) (ks : List Range) (ls : List ℕ) (head p : ℕ) (new : List ℕ) (b : Begun s ks ls head p new) where
-  begun-linked : Linked ls head (b .xs ++ b .ys)
+  begun-linked : LinkedThrough ls head (b .xs ++ b .ys)
   begun-linked = rw (b .whole) at (b .listed .linked)
 
   pub begun-within : p ≤ length ls
   begun-within = rw (b .last) at (last-from ls head 0 (b .xs) (b .ys) (omega arith) begun-linked)
 
-  begun-behind : Linked ls (nextOf ls head p) (b .ys)
+  begun-behind : LinkedThrough ls (nextOf ls head p) (b .ys)
   begun-behind = rw (b .last) at (linked-behind ls head (b .xs) (b .ys) begun-linked)
 
-  pub begun-reach : Reach ls (length ls) (nextOf ls head p)
+  pub begun-reach : EndsWithin ls (length ls) (nextOf ls head p)
   begun-reach =
       let e = ap length (b .whole) ∙ length-append (b .xs) (b .ys) in
       let f = b .listed .few in
       (b .ys, begun-behind, omega arith)
 
-  pub begun-sought : (r : Place) → Told s ks ls new p (nextOf ls head p) r → Sought s ks ls head new r
+  pub begun-sought : (r : Place) → FoundFrom s ks ls new p (nextOf ls head p) r → Sought s ks ls head new r
   begun-sought r told c l =
       let e : c ≡ b .xs ++ b .ys = linked-one ls head c (b .c) (l .linked) (b .listed .linked) ∙ b .whole in
       let k : Rises s ks (b .xs ++ b .ys) = rw (b .whole) at (b .listed .rises) in
@@ -203,7 +199,7 @@ module _ (s : List ℕ) (ks : List Range) (ls : List ℕ) (head p : ℕ) (new : 
 unlike : (a b : List ℕ) → (a ≡ b → ⊥) → same a b ≡ false
 unlike a b h = ⊎-elim (λ (e : same a b ≡ true). absurd (h (same-eq a b e))) (λ (e : same a b ≡ false). e) (truth? (same a b))
 
-pub below-unlike : (a b : List ℕ) → orderOf a b ≡ 0 → a ≡ b → ⊥
+pub below-unlike : (a b : List ℕ) → compared a b ≡ 0 → a ≡ b → ⊥
 below-unlike a b o e =
     let z : _≡_ {A = ℕ} 1 0 = sym (order-self b) ∙ (rw e at o) in
     omega arith
@@ -211,11 +207,11 @@ below-unlike a b o e =
 module _ (s : List ℕ) (ks : List Range) (new : List ℕ) where
   lower-unseen : (xs : List ℕ) → Lower s ks new xs → seenIn s (rangesOf ks xs) new ≡ false
   lower-unseen [] h = refl
-  lower-unseen (x ∷ xs) h = rw (unlike (textOf s ks x) new (below-unlike (textOf s ks x) new (h .0)), lower-unseen xs (h .1))
+  lower-unseen (x ∷ xs) h = rw (unlike (recordText s ks x) new (below-unlike (recordText s ks x) new (h .0)), lower-unseen xs (h .1))
 
   upper-unseen : (xs : List ℕ) → Upper s ks new xs → seenIn s (rangesOf ks xs) new ≡ false
   upper-unseen [] h = refl
-  upper-unseen (x ∷ xs) h = rw (unlike (textOf s ks x) new (λ e. below-unlike new (textOf s ks x) (h .0) (sym e)), upper-unseen xs (h .1))
+  upper-unseen (x ∷ xs) h = rw (unlike (recordText s ks x) new (λ e. below-unlike new (recordText s ks x) (h .0) (sym e)), upper-unseen xs (h .1))
 
   -- where a place is found, no record of the list has the letters
   pub between-unseen : (c : List ℕ) (p : ℕ) → Between s ks new c p → seenIn s (rangesOf ks c) new ≡ false

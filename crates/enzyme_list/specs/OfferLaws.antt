@@ -22,17 +22,17 @@ use Rattle.enzyme_keep.specs.Digests.{recordOf}
 use Rattle.enzyme_keep.specs.Buffer.{rangesIn, linksIn, sealed}
 use Rattle.enzyme_keep.specs.BufferLaws.{sets-over, length-ranges, length-links, length-sealed, ranges-sealed, sealed-past, sealed-more}
 use Rattle.enzyme_keep.specs.StepLaws.{offers-one}
-use Rattle.enzyme_keep.specs.Steps.{room, after, decided, offered, offers}
+use Rattle.enzyme_keep.specs.Steps.{digestRoom, after, decided, offered, offers}
 use Rattle.enzyme_list.specs.declared.walk.Place.{Place}
 use Rattle.enzyme_list.specs.declared.walk.Place.the-variants.{Same, Behind}
 use Rattle.enzyme_list.specs.declared.offering.Offered.the-variants.{Left, NoRoom}
-use Rattle.enzyme_order.specs.Order.{orderOf}
-use Rattle.enzyme_list.specs.Chain.{textOf, nextOf, Linked, Listed, Between, Sought, Begun, Placed, Tells, isSame}
+use Rattle.enzyme_order.specs.Order.{compared}
+use Rattle.enzyme_list.specs.Chain.{recordText, nextOf, LinkedThrough, ListFrom, Between, Sought, Begun, PlaceFor, Tells, isSame}
 use Rattle.enzyme_list.specs.ChainLaws.{last-snoc, linked-one, linked-behind}
 use Rattle.enzyme_list.specs.Insert.{insertedIn, Inserted}
-use Rattle.enzyme_list.specs.InsertLaws.{Among, linked-among, among-right, placed-within}
+use Rattle.enzyme_list.specs.InsertLaws.{Among, linked-among, among-right, place-within}
 use Rattle.enzyme_list.specs.AdviceLaws.{listed-none, begun-first, begun-at, found-seen, tells-insert}
-use Rattle.enzyme_list.specs.Offer.{Keeps, Knows, Has, run, Came}
+use Rattle.enzyme_list.specs.Offer.{Keeps, ListTells, Has, run, Came}
 
 -- ---- the protein in the place of the links, whatever these were
 
@@ -77,20 +77,20 @@ amid-more t n (x ∷ xs) ys (p ∷ ps) qs e =
 -- ---- the ways out
 
 module _ (s : List ℕ) (t : Terms) (r : Range) (count head : ℕ) (out : List ℕ) (keeps : Keeps s count head out) where
-  pub one : (w b : Bool) → wanted s (t .minimum) (t .maximum) (rangesIn count out) r ≡ w → ltb count (room out) ≡ b
+  pub one : (w b : Bool) → wanted s (t .minimum) (t .maximum) (rangesIn count out) r ≡ w → ltb count (digestRoom out) ≡ b
       → decided w b count (sealed (t .protein) count out) (recordOf (length s) (t .protein) r) ≡ offers s t (r ∷ []) count (sealed (t .protein) count out)
   unfolding offered
   one w b e f = sym (offers-one s t r count (sealed (t .protein) count out) ∙ rw (ranges-sealed (t .protein) count count out, length-sealed (t .protein) count out, e, f))
 
   came-unwanted : wanted s (t .minimum) (t .maximum) (rangesIn count out) r ≡ false → Came s t r count head out (Left (run count head)) out
-  came-unwanted e = record { view = one false (ltb count (room out)) e refl; next = keeps; knows = λ new k. k; has = λ u h. h; grown = inl refl }
+  came-unwanted e = record { view = one false (ltb count (digestRoom out)) e refl; next = keeps; knows = λ new k. k; has = λ u h. h; grown = inl refl }
 
-  came-no-room : wanted s (t .minimum) (t .maximum) (rangesIn count out) r ≡ true → room out ≤ count → Came s t r count head out NoRoom out
+  came-no-room : wanted s (t .minimum) (t .maximum) (rangesIn count out) r ≡ true → digestRoom out ≤ count → Came s t r count head out NoRoom out
   came-no-room e h =
-      let f : room out ≡ count = omega (arith, keeps .fits, keeps .capped) in
-      record { view = rw f (one true false e (le-ltb count (room out) h)); next = tt; knows = λ new k. tt; has = λ u h. tt; grown = tt }
+      let f : digestRoom out ≡ count = omega (arith, keeps .fits, keeps .capped) in
+      record { view = rw f (one true false e (le-ltb count (digestRoom out) h)); next = tt; knows = λ new k. tt; has = λ u h. tt; grown = tt }
 
-  module _ (known : Knows s count head out (part s r)) where
+  module _ (known : ListTells s count head out (part s r)) where
     -- the length does not fit
     pub came-other : within (t .minimum) (t .maximum) (r .to - r .from) ≡ false → Came s t r count head out (Left (run count head)) out
     came-other w = came-unwanted (rw w)
@@ -107,26 +107,26 @@ module _ (s : List ℕ) (t : Terms) (r : Range) (count head : ℕ) (out : List �
       want : wanted s (t .minimum) (t .maximum) (rangesIn count out) r ≡ true
       want = rw (fits, seen (Behind p) found)
 
-      pub came-full : room out ≤ count → Came s t r count head out NoRoom out
+      pub came-full : digestRoom out ≤ count → Came s t r count head out NoRoom out
       came-full h = came-no-room want h
 
-      pub placed : Placed s (rangesIn count out) (linksIn count out) head p (part s r)
-      placed = record { c = keeps .c; listed = keeps .listed; between = found (keeps .c) (keeps .listed) }
+      pub place-of-range : PlaceFor s (rangesIn count out) (linksIn count out) head p (part s r)
+      place-of-range = record { c = keeps .c; listed = keeps .listed; between = found (keeps .c) (keeps .listed) }
 
       within-count : p ≤ count
-      within-count = rw (length-links count out) at (placed-within s (rangesIn count out) (linksIn count out) head p (part s r) placed)
+      within-count = rw (length-links count out) at (place-within s (rangesIn count out) (linksIn count out) head p (part s r) place-of-range)
 
       between : Between s (rangesIn count out) (part s r) (keeps .c) p
       between = found (keeps .c) (keeps .listed)
 
-      old : Listed s (rangesIn count out) (linksIn count out) head (between .xs ++ between .ys)
+      old : ListFrom s (rangesIn count out) (linksIn count out) head (between .xs ++ between .ys)
       old = rw (between .whole) at (keeps .listed)
 
-      module _ (free : count < room out) (i : r .from ≤ r .to) (j : r .to ≤ length s) (first : ℕ) (out′ : List ℕ) (g : Inserted s count head p r out out′ first) where
-        new-listed : Listed s (rangesIn (suc count) out′) (linksIn (suc count) out′) first (between .xs ++ (suc count ∷ between .ys))
+      module _ (free : count < digestRoom out) (i : r .from ≤ r .to) (j : r .to ≤ length s) (first : ℕ) (out′ : List ℕ) (g : Inserted s count head p r out out′ first) where
+        new-listed : ListFrom s (rangesIn (suc count) out′) (linksIn (suc count) out′) first (between .xs ++ (suc count ∷ between .ys))
         new-listed = g .listed (between .xs) (between .ys) old (between .last) (between .lower) (between .upper)
 
-        new-tells : (x : List ℕ) → Knows s count head out x → Knows s (suc count) first out′ x
+        new-tells : (x : List ℕ) → ListTells s count head out x → ListTells s (suc count) first out′ x
         new-tells x k c l =
             let n = length-links count out in
             let m = length-ranges count out in
@@ -161,26 +161,26 @@ module _ (s : List ℕ) (t : Terms) (r : Range) (count head : ℕ) (out : List �
             let v : after (Kept (count + 1)) (sealed (t .protein) (count + 1) out′) ≡ offers s t (r ∷ []) count (sealed (t .protein) count out) =
             ap (λ (b : List ℕ). after (Kept (count + 1)) (sealed (t .protein) (count + 1) b)) (g .bytes)
             ∙ ap (after (Kept (count + 1))) (sealed-inserted (length s) (t .protein) r count p (nextOf (linksIn count out) head p) out within-count)
-            ∙ one true true want (lt-ltb count (room out) free) in
+            ∙ one true true want (lt-ltb count (digestRoom out) free) in
             record { view = v; next = rw (add-one count) new-keeps; knows = λ x k. rw (add-one count) (new-tells x k); has = λ u h. rw (add-one count) (new-has u h); grown = inr (rw (add-one count) (g .ranges)) }
 
 -- no record yet: the list tells of everything
 pub keeps-start : (s out : List ℕ) → length s ≤ 65536 → Keeps s 0 0 out
 keeps-start s out h = record { small = h; capped = omega arith; fits = omega arith; inside = tt; c = []; listed = listed-none s [] [] }
 
-pub knows-start : (s out new : List ℕ) → Knows s 0 0 out new
-knows-start s out new [] l = refl
-knows-start s out new (t ∷ ts) l = let a = l .linked .0 in let b = l .linked .1 in absurd (omega arith)
+pub list-tells-start : (s out new : List ℕ) → ListTells s 0 0 out new
+list-tells-start s out new [] l = refl
+list-tells-start s out new (t ∷ ts) l = let a = l .linked .0 in let b = l .linked .1 in absurd (omega arith)
 
 -- a search may always begin at the first record
 pub keeps-begun : (s : List ℕ) (count head : ℕ) (out new : List ℕ) → Keeps s count head out → Begun s (rangesIn count out) (linksIn count out) head 0 new
 keeps-begun s count head out new k = begun-first s (rangesIn count out) (linksIn count out) head new (k .c) (k .listed)
 
 -- or at a record of the list that is below
-pub has-begun : (s : List ℕ) (count head : ℕ) (out : List ℕ) (t : ℕ) (new : List ℕ) → Keeps s count head out → Has count head out t → orderOf (textOf s (rangesIn count out) t) new ≡ 0 → Begun s (rangesIn count out) (linksIn count out) head t new
+pub has-begun : (s : List ℕ) (count head : ℕ) (out : List ℕ) (t : ℕ) (new : List ℕ) → Keeps s count head out → Has count head out t → compared (recordText s (rangesIn count out) t) new ≡ 0 → Begun s (rangesIn count out) (linksIn count out) head t new
 has-begun s count head out t new k h o =
     let e : k .c ≡ h .xs ++ (t ∷ h .ys) = linked-one (linksIn count out) head (k .c) (h .xs ++ (t ∷ h .ys)) (k .listed .linked) (h .linked) in
-    let l : Listed s (rangesIn count out) (linksIn count out) head (h .xs ++ (t ∷ h .ys)) = rw e at (k .listed) in
+    let l : ListFrom s (rangesIn count out) (linksIn count out) head (h .xs ++ (t ∷ h .ys)) = rw e at (k .listed) in
     begun-at s (rangesIn count out) (linksIn count out) head new t (h .xs) (h .ys) l o
 
 -- ---- the records of the list
@@ -193,7 +193,7 @@ has-within count head out t h =
     (b .0, b .1)
 
 -- the first one, if there is one
-pub has-first : (count head : ℕ) (out : List ℕ) (c : List ℕ) → Linked (linksIn count out) head c → 0 < head → Has count head out head
+pub has-first : (count head : ℕ) (out : List ℕ) (c : List ℕ) → LinkedThrough (linksIn count out) head c → 0 < head → Has count head out head
 has-first count head out [] l h = absurd (omega arith)
 has-first count head out (t ∷ ts) l h =
     let e : head ≡ t = l .0 in
@@ -203,11 +203,11 @@ has-first count head out (t ∷ ts) l h =
 pub has-next : (count head : ℕ) (out : List ℕ) (t : ℕ) → Has count head out t → 0 < nextOf (linksIn count out) head t → Has count head out (nextOf (linksIn count out) head t)
 has-next count head out t h p =
     let e : (h .xs ++ (t ∷ [])) ++ h .ys ≡ h .xs ++ (t ∷ h .ys) = append-assoc (h .xs) (t ∷ []) (h .ys) in
-    let l : Linked (linksIn count out) head ((h .xs ++ (t ∷ [])) ++ h .ys) = rw e (h .linked) in
-    let m : Linked (linksIn count out) (nextOf (linksIn count out) head t) (h .ys) = rw (last-snoc 0 (h .xs) t) at (linked-behind (linksIn count out) head (h .xs ++ (t ∷ [])) (h .ys) l) in
+    let l : LinkedThrough (linksIn count out) head ((h .xs ++ (t ∷ [])) ++ h .ys) = rw e (h .linked) in
+    let m : LinkedThrough (linksIn count out) (nextOf (linksIn count out) head t) (h .ys) = rw (last-snoc 0 (h .xs) t) at (linked-behind (linksIn count out) head (h .xs ++ (t ∷ [])) (h .ys) l) in
     go (h .ys) m (h .linked)
   where
-    go : (ys : List ℕ) → Linked (linksIn count out) (nextOf (linksIn count out) head t) ys → Linked (linksIn count out) head (h .xs ++ (t ∷ ys)) → Has count head out (nextOf (linksIn count out) head t)
+    go : (ys : List ℕ) → LinkedThrough (linksIn count out) (nextOf (linksIn count out) head t) ys → LinkedThrough (linksIn count out) head (h .xs ++ (t ∷ ys)) → Has count head out (nextOf (linksIn count out) head t)
     go [] m l = absurd (omega arith)
     go (y ∷ ys) m l =
         let e : y ≡ nextOf (linksIn count out) head t = sym (m .0) in

@@ -17,7 +17,7 @@ use Rattle.enzyme_cuts.specs.Cutting.{Range, range}
 use Rattle.enzyme_keep.specs.Digests.{recordOf}
 use Rattle.enzyme_keep.specs.Buffer.{rangeAt, rangesIn, linksIn}
 use Rattle.enzyme_keep.specs.BufferLaws.{length-ranges, length-links, ranges-more, links-more, link-read}
-use Rattle.enzyme_list.specs.Chain.{nextOf, Listed, linksWith, headWith}
+use Rattle.enzyme_list.specs.Chain.{nextOf, ListFrom, linksWith, headWith}
 use Rattle.enzyme_list.specs.Insert.{insertedIn, Inserted}
 use Rattle.enzyme_list.specs.InsertLaws.{listed-insert}
 
@@ -83,9 +83,9 @@ module _ (s : List ℕ) (count head p : ℕ) (r : Range) (old : List ℕ) (h : 1
           links-set (suc count) (sets old (16 * count) (recordOf (length s) (nextOf (linksIn count old) head p) r)) (suc count) (p - 1) (omega arith) (omega arith) (omega arith)
           ∙ rw (links-more (length s) (nextOf (linksIn count old) head p) r count old h (omega arith), n)
 
-  pub inserted : count < 1048576 → nextOf (linksIn count old) head p ≤ count → (new : List ℕ) (first : ℕ)
+  pub record-inserted : count < 1048576 → nextOf (linksIn count old) head p ≤ count → (new : List ℕ) (first : ℕ)
       → new ≡ insertedIn (length s) r count p (nextOf (linksIn count old) head p) old → first ≡ headWith (linksIn count old) head p → Inserted s count head p r old new first
-  inserted low few new first e f = record {
+  record-inserted low few new first e f = record {
     bytes = e;
     ranges = rw e (inserted-ranges (nextOf (linksIn count old) head p));
     listed = λ xs ys l g lo hi.
@@ -93,7 +93,7 @@ module _ (s : List ℕ) (count head p : ℕ) (r : Range) (old : List ℕ) (h : 1
         let m = length-ranges count old in
         let t = listed-insert s (rangesIn count old) (linksIn count old) head p r xs ys (m ∙ sym n) l g lo hi in
         rw (e, f, inserted-ranges (nextOf (linksIn count old) head p), inserted-links low few)
-        (subst (λ (v : ℕ). Listed s (rangesIn count old ++ (r ∷ [])) (linksWith (linksIn count old) head p) (headWith (linksIn count old) head p) (xs ++ (suc v ∷ ys))) n t);
+        (subst (λ (v : ℕ). ListFrom s (rangesIn count old ++ (r ∷ [])) (linksWith (linksIn count old) head p) (headWith (linksIn count old) head p) (xs ++ (suc v ∷ ys))) n t);
   }
 
 -- ---- before all, or behind a record

@@ -19,16 +19,16 @@ use Rattle.enzyme_keep.specs.declared.offering.Terms.{Terms}
 use Rattle.enzyme_keep.specs.Digests.{recordOf}
 use Rattle.enzyme_keep.specs.Buffer.{rangesIn, linksIn, sealed}
 use Rattle.enzyme_keep.specs.BufferLaws.{length-ranges, length-links, ranges-more, links-more, sealed-more}
-use Rattle.enzyme_keep.specs.Steps.{room, after, offers}
+use Rattle.enzyme_keep.specs.Steps.{digestRoom, after, offers}
 use Rattle.enzyme_list.specs.declared.offering.Offered.the-variants.{Left, NoRoom}
-use Rattle.enzyme_list.specs.Chain.{Listed}
+use Rattle.enzyme_list.specs.Chain.{ListFrom}
 use Rattle.enzyme_list.specs.ChainLaws.{linked-one}
 use Rattle.enzyme_list.specs.InsertLaws.{Among, linked-among, linked-grown, rises-grown}
 use Rattle.enzyme_list.specs.AdviceLaws.{tells-put}
-use Rattle.enzyme_list.specs.Offer.{Keeps, Knows, Has, run, Wrote}
+use Rattle.enzyme_list.specs.Offer.{Keeps, ListTells, Has, run, CameUnlinked}
 use Rattle.enzyme_list.specs.OfferLaws.{one}
 
-listed-grown : (s : List ℕ) (ks : List Range) (ls : List ℕ) (head : ℕ) (r : Range) (x : ℕ) (c : List ℕ) → length ks ≡ length ls → Listed s ks ls head c → Listed s (ks ++ (r ∷ [])) (ls ++ (x ∷ [])) head c
+listed-grown : (s : List ℕ) (ks : List Range) (ls : List ℕ) (head : ℕ) (r : Range) (x : ℕ) (c : List ℕ) → length ks ≡ length ls → ListFrom s ks ls head c → ListFrom s (ks ++ (r ∷ [])) (ls ++ (x ∷ [])) head c
 listed-grown s ks ls head r x c n l =
     let a : Among (length ks) c = rw n (linked-among ls head c (l .linked)) in
     let k = length-append ls (x ∷ []) in
@@ -37,21 +37,21 @@ listed-grown s ks ls head r x c n l =
 
 module _ (s : List ℕ) (t : Terms) (r : Range) (count head : ℕ) (out : List ℕ) (keeps : Keeps s count head out) where
   -- the length does not fit
-  pub wrote-other : within (t .minimum) (t .maximum) (r .to - r .from) ≡ false → Wrote s t r count head out (Left (run count head)) out
-  wrote-other w =
+  pub unlinked-other : within (t .minimum) (t .maximum) (r .to - r .from) ≡ false → CameUnlinked s t r count head out (Left (run count head)) out
+  unlinked-other w =
       let e : wanted s (t .minimum) (t .maximum) (rangesIn count out) r ≡ false = rw w in
-      record { view = one s t r count head out keeps false (ltb count (room out)) e refl; next = keeps; knows = λ new x k. k; has = λ u h. h; grown = inl refl }
+      record { view = one s t r count head out keeps false (ltb count (digestRoom out)) e refl; next = keeps; knows = λ new x k. k; has = λ u h. h; grown = inl refl }
 
   module _ (fits : within (t .minimum) (t .maximum) (r .to - r .from) ≡ true) (fresh : seenIn s (rangesIn count out) (part s r) ≡ false) where
     want : wanted s (t .minimum) (t .maximum) (rangesIn count out) r ≡ true
     want = rw (fits, fresh)
 
-    pub wrote-full : room out ≤ count → Wrote s t r count head out NoRoom out
-    wrote-full h =
-        let f : room out ≡ count = omega (arith, keeps .fits, keeps .capped) in
-        record { view = rw f (one s t r count head out keeps true false want (le-ltb count (room out) h)); next = tt; knows = λ new x k. tt; has = λ u h. tt; grown = tt }
+    pub unlinked-full : digestRoom out ≤ count → CameUnlinked s t r count head out NoRoom out
+    unlinked-full h =
+        let f : digestRoom out ≡ count = omega (arith, keeps .fits, keeps .capped) in
+        record { view = rw f (one s t r count head out keeps true false want (le-ltb count (digestRoom out) h)); next = tt; knows = λ new x k. tt; has = λ u h. tt; grown = tt }
 
-    module _ (free : count < room out) (i : r .from ≤ r .to) (j : r .to ≤ length s) where
+    module _ (free : count < digestRoom out) (i : r .from ≤ r .to) (j : r .to ≤ length s) where
       enough : 16 * count + 16 ≤ length out
       enough = let m = min-le-left (length out / 16) 1048576 in omega arith
 
@@ -64,7 +64,7 @@ module _ (s : List ℕ) (t : Terms) (r : Range) (count head : ℕ) (out : List �
       alike : length (rangesIn count out) ≡ length (linksIn count out)
       alike = length-ranges count out ∙ sym (length-links count out)
 
-      now-listed : Listed s (rangesIn (suc count) (sets out (16 * count) (recordOf (length s) 0 r))) (linksIn (suc count) (sets out (16 * count) (recordOf (length s) 0 r))) head (keeps .c)
+      now-listed : ListFrom s (rangesIn (suc count) (sets out (16 * count) (recordOf (length s) 0 r))) (linksIn (suc count) (sets out (16 * count) (recordOf (length s) 0 r))) head (keeps .c)
       now-listed = rw (ranges, links) (listed-grown s (rangesIn count out) (linksIn count out) head r 0 (keeps .c) alike (keeps .listed))
 
       now-keeps : Keeps s (suc count) head (sets out (16 * count) (recordOf (length s) 0 r))
@@ -81,7 +81,7 @@ module _ (s : List ℕ) (t : Terms) (r : Range) (count head : ℕ) (out : List �
             listed = now-listed;
           }
 
-      now-knows : (x : List ℕ) → same (part s r) x ≡ false → Knows s count head out x → Knows s (suc count) head (sets out (16 * count) (recordOf (length s) 0 r)) x
+      now-knows : (x : List ℕ) → same (part s r) x ≡ false → ListTells s count head out x → ListTells s (suc count) head (sets out (16 * count) (recordOf (length s) 0 r)) x
       now-knows x d k c l =
           let e : c ≡ keeps .c = linked-one (linksIn (suc count) (sets out (16 * count) (recordOf (length s) 0 r))) head c (keeps .c) (l .linked) (now-listed .linked) in
           let t' = tells-put s (rangesIn count out) (linksIn count out) head r (keeps .c) x alike (keeps .listed) d (k (keeps .c) (keeps .listed)) in
@@ -90,9 +90,9 @@ module _ (s : List ℕ) (t : Terms) (r : Range) (count head : ℕ) (out : List �
       now-has : (u : ℕ) → Has count head out u → Has (suc count) head (sets out (16 * count) (recordOf (length s) 0 r)) u
       now-has u h = record { xs = h .xs; ys = h .ys; linked = rw links (linked-grown (linksIn count out) 0 head (h .xs ++ (u ∷ h .ys)) (h .linked)) }
 
-      pub wrote-kept : Wrote s t r count head out (Left (run (count + 1) head)) (sets out (16 * count) (recordOf (length s) 0 r))
-      wrote-kept =
+      pub unlinked-kept : CameUnlinked s t r count head out (Left (run (count + 1) head)) (sets out (16 * count) (recordOf (length s) 0 r))
+      unlinked-kept =
           let v : after (Kept (count + 1)) (sealed (t .protein) (count + 1) (sets out (16 * count) (recordOf (length s) 0 r))) ≡ offers s t (r ∷ []) count (sealed (t .protein) count out) =
           ap (after (Kept (count + 1))) (sealed-more (length s) (t .protein) 0 r count out)
-          ∙ one s t r count head out keeps true true want (lt-ltb count (room out) free) in
+          ∙ one s t r count head out keeps true true want (lt-ltb count (digestRoom out) free) in
           record { view = v; next = rw (add-one count) now-keeps; knows = λ x d k. rw (add-one count) (now-knows x d k); has = λ u h. rw (add-one count) (now-has u h); grown = inr (rw (add-one count) ranges) }

@@ -10,7 +10,7 @@ ghost use lib.ListN.{length};
 ghost use Rattle.enzyme_cuts.specs.Cutting.{range, site, part, seenIn};
 ghost use Rattle.enzyme_keep.specs.Buffer.{rangesIn, linksIn};
 ghost use Rattle.enzyme_list.specs.Chain.{Begun};
-ghost use Rattle.enzyme_list.specs.Offer.{Keeps, Knows, Came, Wrote};
+ghost use Rattle.enzyme_list.specs.Offer.{Keeps, ListTells, Came, CameUnlinked};
 
 // How many records there are, and the first of the list.
 pub struct Run {
@@ -38,7 +38,7 @@ pub fn offer(
     head: usize,
     from: usize,
 ) -> Offered
-    requires { ⌜ Keeps (now letters) count head (now out) × (a ≤ e) × (e ≤ length (now letters)) × Knows (now letters) count head (now out) (part (now letters) (site a e)) × Begun (now letters) (rangesIn count (now out)) (linksIn count (now out)) head from (part (now letters) (site a e)) ⌝ }
+    requires { ⌜ Keeps (now letters) count head (now out) × (a ≤ e) × (e ≤ length (now letters)) × ListTells (now letters) count head (now out) (part (now letters) (site a e)) × Begun (now letters) (rangesIn count (now out)) (linksIn count (now out)) head from (part (now letters) (site a e)) ⌝ }
     ensures { λ r. ⌜ Came (now (letters .entry)) terms (range a e missed semi) count head (now (out .entry)) r (now (out .exit)) ⌝ }
 {
     if !enzyme_keep::length_within(e - a, terms.minimum, terms.maximum) {
@@ -78,7 +78,7 @@ pub fn write(
     head: usize,
 ) -> Offered
     requires { ⌜ Keeps (now letters) count head (now out) × (a ≤ e) × (e ≤ length (now letters)) × (seenIn (now letters) (rangesIn count (now out)) (part (now letters) (site a e)) ≡ false) ⌝ }
-    ensures { λ r. ⌜ Wrote (now (letters .entry)) terms (range a e missed semi) count head (now (out .entry)) r (now (out .exit)) ⌝ }
+    ensures { λ r. ⌜ CameUnlinked (now (letters .entry)) terms (range a e missed semi) count head (now (out .entry)) r (now (out .exit)) ⌝ }
 {
     if !enzyme_keep::length_within(e - a, terms.minimum, terms.maximum) {
         return Offered::Left(Run {

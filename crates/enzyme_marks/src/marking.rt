@@ -3,7 +3,7 @@ use enzyme_search::head_at;
 use enzyme_search::sample;
 ghost use Prim.Native.Nat.{_+_, _*_, _≤_, _<_};
 ghost use lib.ListN.{length};
-ghost use Rattle.enzyme_search.specs.Marks.{Has0, Marked, Alike, First, MovedUp, PutIn, Thinned};
+ghost use Rattle.enzyme_search.specs.Marks.{Has0, SamplesListed, SameSamples, First, MovedUp, PutIn, Thinned};
 
 // The record n links behind record t.
 fn follow(out: &[u8], count: usize, head: usize, t: usize, n: usize) -> usize
@@ -48,7 +48,7 @@ fn one_more(size: u32) -> u32 {
 // One more record from sample j on, numbered from 0. The answer is how many there are now.
 pub fn count_one(marks: &mut [u32], j: usize) -> u32
     requires { ⌜ 3 * j + 3 ≤ length (now marks) ⌝ }
-    ensures { λ r. ⌜ Alike (now (marks .entry)) (now (marks .exit)) ⌝ }
+    ensures { λ r. ⌜ SameSamples (now (marks .entry)) (now (marks .exit)) ⌝ }
 {
     let at = 3 * j + 1;
     let size = one_more(marks[at]);
@@ -94,8 +94,8 @@ pub fn split(
     j: usize,
     size: u32,
 ) -> usize
-    requires { ⌜ (16 * count ≤ length (now out)) × (count ≤ 1048576) × Marked count head (now out) (now marks) samples × (3 * samples + 3 ≤ length (now marks)) × (j < samples) ⌝ }
-    ensures { λ r. ⌜ Marked count head (now (out .entry)) (now (marks .exit)) r ⌝ }
+    requires { ⌜ (16 * count ≤ length (now out)) × (count ≤ 1048576) × SamplesListed count head (now out) (now marks) samples × (3 * samples + 3 ≤ length (now marks)) × (j < samples) ⌝ }
+    ensures { λ r. ⌜ SamplesListed count head (now (out .entry)) (now (marks .exit)) r ⌝ }
 {
     let half = size / 2;
     let next = j + 1;

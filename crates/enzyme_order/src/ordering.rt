@@ -1,7 +1,7 @@
 // How stretches of letters stand to one another.
 ghost use mathlib.Core.Path.{_≡_};
 ghost use lib.ListN.{length, drop};
-ghost use Rattle.enzyme_order.specs.Order.{letterwise, orderOf};
+ghost use Rattle.enzyme_order.specs.Order.{letterwise, compared};
 
 // Letter by letter from a place on, of as many letters: 0 below, 1 the same, 2 above.
 fn order_from(a: &[u8], b: &[u8], from: usize) -> u8
@@ -25,7 +25,7 @@ fn order_from(a: &[u8], b: &[u8], from: usize) -> u8
 
 // By length, then letters: 0 below, 1 the same, 2 above. What is the same is passed over four letters at a time.
 pub fn order(a: &[u8], b: &[u8]) -> u8
-    ensures { λ r. ⌜ r ≡ orderOf (now (a .entry)) (now (b .entry)) ⌝ }
+    ensures { λ r. ⌜ r ≡ compared (now (a .entry)) (now (b .entry)) ⌝ }
 {
     if a.len() < b.len() {
         return 0;

@@ -6,12 +6,12 @@ use lib.ListN.{length}
 use Rattle.enzyme_cuts.specs.Cutting.{Range}
 use Rattle.enzyme_keep.specs.declared.offering.Terms.{Terms}
 use Rattle.enzyme_samples.specs.declared.offering.Run.{Run}
-use Rattle.enzyme_samples.specs.Ready.{Ready, Offers}
-use Rattle.enzyme_samples.specs.ReadyLaws.{Ahead}
+use Rattle.enzyme_samples.specs.Ready.{RangesReady, Offers}
+use Rattle.enzyme_samples.specs.ReadyLaws.{LeadsTo}
 
 -- the ranges `rest` are ahead, of all that the loop began with at run₀
-pub record Going (s f : List ℕ) (t : Terms) (all : List Range) (run₀ : Run) (out₀ marks₀ : List ℕ) (rest : List Range) (run : Run) (out marks : List ℕ) : Type 0 where
+pub record Underway (s f : List ℕ) (t : Terms) (all : List Range) (run₀ : Run) (out₀ marks₀ : List ℕ) (rest : List Range) (run : Run) (out marks : List ℕ) : Type 0 where
   pub long-out : length out ≡ length out₀
   pub long-marks : length marks ≡ length marks₀
-  pub ready : Ready s f rest run out marks
-  pub ahead : Ahead s f t (Offers s f t all run₀ out₀ marks₀) rest run out marks
+  pub ready : RangesReady s f rest run out marks
+  pub ahead : LeadsTo s f t (Offers s f t all run₀ out₀ marks₀) rest run out marks

@@ -1,5 +1,6 @@
 -- The table of starts, as the places that sites lie between, and the table of what is shared.
 use Prim.Native.Nat.{ℕ, zero, suc, _+_}
+use mathlib.Core.Path.{_≡_}
 use mathlib.Core.Bool.{cond}
 use mathlib.Core.List.{List, [], _++_}
 use lib.ListN.{getD}
@@ -9,15 +10,15 @@ use Rattle.enzyme_once.specs.Once.{own}
 use Rattle.enzyme_once.specs.SpotLaws.{spots}
 
 -- where site i starts, and the one before it ends
-abbrev pub placeIn : List ℕ → ℕ → ℕ
-placeIn x i = getD x i 0
+abbrev pub siteStart : List ℕ → ℕ → ℕ
+siteStart x i = getD x i 0
 
 -- the m sites of a table of starts
 abbrev pub sitesIn : List ℕ → ℕ → List Range
-sitesIn x m = spots (placeIn x) 0 m
+sitesIn x m = spots (siteStart x) 0 m
 
 abbrev pub siteIn : List ℕ → ℕ → Range
-siteIn x i = site (placeIn x i) (placeIn x (i + 1))
+siteIn x i = site (siteStart x i) (siteStart x (i + 1))
 
 -- how many sites a window from site i shares with one from an earlier site
 abbrev pub sharedIn : List ℕ → ℕ → ℕ
@@ -31,3 +32,7 @@ freshIn x y m i j = cond (ltb m (sharedIn y i)) [] (own m (siteIn x i) (siteIn x
 abbrev pub freshIns : List ℕ → List ℕ → ℕ → ℕ → ℕ → ℕ → List Range
 freshIns x y m i j zero = []
 freshIns x y m i j (suc n) = freshIn x y m i j ++ freshIns x y m (suc i) (suc j) n
+
+-- of the ranges rest, xs are next and ys behind them
+pub record NextUp (rest xs ys : List Range) : Type 0 where
+  pub is : rest ≡ xs ++ ys

@@ -11,7 +11,7 @@ use Rattle.enzyme_cuts.specs.Cutting.{Range, range, site, halves, windows, wind
 use Rattle.enzyme_once.specs.Once.{endings, openings, own}
 use Rattle.enzyme_once.specs.SpotLaws.{spots, spans, drop-spots, windows-spans}
 use Rattle.enzyme_fresh.specs.Fresh.{freshZip, freshOwns, freshFrom}
-use Rattle.enzyme_parts.specs.Walk.{placeIn, sitesIn, siteIn, sharedIn, freshIn, freshIns}
+use Rattle.enzyme_parts.specs.Walk.{siteStart, sitesIn, siteIn, sharedIn, freshIn, freshIns, NextUp}
 
 -- ---- the cuts within a site
 
@@ -58,20 +58,20 @@ module _ (x y : List ℕ) (m i j : ℕ) where
   fresh-all h = rw (le-ltb m (sharedIn y i) h)
 
 module _ (x y : List ℕ) (m : ℕ) where
-  pub fresh-on : (i j n : ℕ) → j < n → freshIns x y m i j (n - j) ≡ freshIn x y m i j ++ freshIns x y m (i + 1) (j + 1) (n - (j + 1))
-  fresh-on i j n h = let e : n - j ≡ suc (n - (j + 1)) = omega arith in ap (freshIns x y m i j) e ∙ rw (add-one i, add-one j)
+  pub fresh-on : (i j n : ℕ) → j < n → NextUp (freshIns x y m i j (n - j)) (freshIn x y m i j) (freshIns x y m (i + 1) (j + 1) (n - (j + 1)))
+  fresh-on i j n h = let e : n - j ≡ suc (n - (j + 1)) = omega arith in record { is = ap (freshIns x y m i j) e ∙ rw (add-one i, add-one j) }
 
   pub fresh-end : (i j n : ℕ) → n ≤ j → freshIns x y m i j (n - j) ≡ []
   fresh-end i j n h = let e : n - j ≡ 0 = omega arith in rw e
 
-  fresh-zip : (i n j k : ℕ) → k ≤ n → freshZip (sharedIn y) m i (spots (placeIn x) i n) (spots (placeIn x) j k) ≡ freshIns x y m i j k
+  fresh-zip : (i n j k : ℕ) → k ≤ n → freshZip (sharedIn y) m i (spots (siteStart x) i n) (spots (siteStart x) j k) ≡ freshIns x y m i j k
   fresh-zip i zero j zero h = refl
   fresh-zip i zero j (suc k) h = absurd (omega arith)
   fresh-zip i (suc n) j zero h = refl
   fresh-zip i (suc n) j (suc k) h = rw (add-one i, add-one j) (go (ltb m (sharedIn y i)) (fresh-zip (suc i) n (suc j) k (omega arith)))
     where
       O : List Range
-      O = own m (site (placeIn x i) (placeIn x (suc i))) (site (placeIn x j) (placeIn x (suc j)))
+      O = own m (site (siteStart x i) (siteStart x (suc i))) (site (siteStart x j) (siteStart x (suc j)))
 
       go : (t : Bool) {us vs : List Range} → us ≡ vs → cond t us (O ++ us) ≡ cond t [] O ++ vs
       go true e = e
@@ -80,19 +80,19 @@ module _ (x y : List ℕ) (m : ℕ) where
   pub fresh-start : (n : ℕ) → freshOwns (sharedIn y) m (sitesIn x n) ≡ freshIns x y m 0 m (n - m)
   fresh-start n =
       let e : 0 + m ≡ m = omega arith in
-      ap (freshZip (sharedIn y) m 0 (sitesIn x n)) (drop-spots (placeIn x) m 0 n) ∙ rw e (fresh-zip 0 n m (n - m) (omega arith))
+      ap (freshZip (sharedIn y) m 0 (sitesIn x n)) (drop-spots (siteStart x) m 0 n) ∙ rw e (fresh-zip 0 n m (n - m) (omega arith))
 
 -- ---- the sizes
 
 module _ (rs : List Range) (m left : ℕ) where
-  pub sizes-on : 0 < left → windowsFrom m left rs ≡ windows m rs ++ windowsFrom (m + 1) (left - 1) rs
-  sizes-on h = let e : left ≡ suc (left - 1) = omega arith in ap (λ (x : ℕ). windowsFrom m x rs) e ∙ rw (add-one m)
+  pub sizes-on : 0 < left → NextUp (windowsFrom m left rs) (windows m rs) (windowsFrom (m + 1) (left - 1) rs)
+  sizes-on h = let e : left ≡ suc (left - 1) = omega arith in record { is = ap (λ (x : ℕ). windowsFrom m x rs) e ∙ rw (add-one m) }
 
-  pub sizes-end : left ≤ 0 → windowsFrom m left rs ≡ []
-  sizes-end h = let e : left ≡ 0 = omega arith in rw e
+  pub window-sizes-end : left ≤ 0 → windowsFrom m left rs ≡ []
+  window-sizes-end h = let e : left ≡ 0 = omega arith in rw e
 
-  pub fresh-sizes-on : (f : ℕ → ℕ) → 0 < left → freshFrom f m left rs ≡ freshOwns f m rs ++ freshFrom f (m + 1) (left - 1) rs
-  fresh-sizes-on f h = let e : left ≡ suc (left - 1) = omega arith in ap (λ (x : ℕ). freshFrom f m x rs) e ∙ rw (add-one m)
+  pub fresh-sizes-on : (f : ℕ → ℕ) → 0 < left → NextUp (freshFrom f m left rs) (freshOwns f m rs) (freshFrom f (m + 1) (left - 1) rs)
+  fresh-sizes-on f h = let e : left ≡ suc (left - 1) = omega arith in record { is = ap (λ (x : ℕ). freshFrom f m x rs) e ∙ rw (add-one m) }
 
   pub fresh-sizes-end : (f : ℕ → ℕ) → left ≤ 0 → freshFrom f m left rs ≡ []
   fresh-sizes-end f h = let e : left ≡ 0 = omega arith in rw e
@@ -102,7 +102,7 @@ module _ (rs : List Range) (m left : ℕ) where
 pub own-site : (m : ℕ) (q p : Range) → m ≡ 0 → own m q p ≡ halves (range (q .from) (p .to) 0 0) (suc (q .from)) (p .to - suc (q .from))
 own-site m q p h = rw h
 
-pub own-more : (m : ℕ) (q p : Range) → (m ≡ 0 → ⊥)
+pub own-many : (m : ℕ) (q p : Range) → (m ≡ 0 → ⊥)
     → own m q p ≡ endings m (p .to) (suc (q .from)) (q .to - suc (q .from)) ++ openings m (q .from) (suc (p .from)) (p .to - suc (p .from))
-own-more zero q p h = absurd (h refl)
-own-more (suc m) q p h = refl
+own-many zero q p h = absurd (h refl)
+own-many (suc m) q p h = refl

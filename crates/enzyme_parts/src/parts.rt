@@ -9,7 +9,7 @@ use enzyme_samples::offer_range;
 ghost use Prim.Native.Nat.{suc, _-_, _<_};
 ghost use Rattle.enzyme_cuts.specs.Cutting.{range, site, halves};
 ghost use Rattle.enzyme_once.specs.Once.{endings, openings, own};
-ghost use Rattle.enzyme_samples.specs.Ready.{Ready, Offers};
+ghost use Rattle.enzyme_samples.specs.Ready.{RangesReady, Offers};
 
 // Offers both parts of the site a..e for each cut within it.
 fn offer_halves(
@@ -22,7 +22,7 @@ fn offer_halves(
     marks: &mut [u32],
     run: Run,
 ) -> Offered
-    requires { ⌜ (a < 4294967296) × Ready (now letters) (now far) (halves (range a e 0 0) (suc a) (e - suc a)) run (now out) (now marks) ⌝ }
+    requires { ⌜ (a < 4294967296) × RangesReady (now letters) (now far) (halves (range a e 0 0) (suc a) (e - suc a)) run (now out) (now marks) ⌝ }
     ensures { λ r. ⌜ Offers (now (letters .entry)) (now (far .entry)) terms (halves (range a e 0 0) (suc a) (e - suc a)) run (now (out .entry)) (now (marks .entry)) r (now (out .exit)) (now (marks .exit)) ⌝ }
 {
     let mut c = a + 1;
@@ -53,7 +53,7 @@ fn offer_endings(
     marks: &mut [u32],
     run: Run,
 ) -> Offered
-    requires { ⌜ (a < 4294967296) × Ready (now letters) (now far) (endings missed e (suc a) (z - suc a)) run (now out) (now marks) ⌝ }
+    requires { ⌜ (a < 4294967296) × RangesReady (now letters) (now far) (endings missed e (suc a) (z - suc a)) run (now out) (now marks) ⌝ }
     ensures { λ r. ⌜ Offers (now (letters .entry)) (now (far .entry)) terms (endings missed e (suc a) (z - suc a)) run (now (out .entry)) (now (marks .entry)) r (now (out .exit)) (now (marks .exit)) ⌝ }
 {
     let mut c = first_cut(a + 1, e, terms.maximum);
@@ -82,7 +82,7 @@ fn offer_openings(
     marks: &mut [u32],
     run: Run,
 ) -> Offered
-    requires { ⌜ (a < 4294967296) × (b < 4294967296) × Ready (now letters) (now far) (openings missed a (suc b) (e - suc b)) run (now out) (now marks) ⌝ }
+    requires { ⌜ (a < 4294967296) × (b < 4294967296) × RangesReady (now letters) (now far) (openings missed a (suc b) (e - suc b)) run (now out) (now marks) ⌝ }
     ensures { λ r. ⌜ Offers (now (letters .entry)) (now (far .entry)) terms (openings missed a (suc b) (e - suc b)) run (now (out .entry)) (now (marks .entry)) r (now (out .exit)) (now (marks .exit)) ⌝ }
 {
     let stop = last_cut(a, e, terms.maximum);
@@ -113,7 +113,7 @@ pub fn offer_own(
     marks: &mut [u32],
     run: Run,
 ) -> Offered
-    requires { ⌜ (a < 4294967296) × (b < 4294967296) × Ready (now letters) (now far) (own missed (site a z) (site b e)) run (now out) (now marks) ⌝ }
+    requires { ⌜ (a < 4294967296) × (b < 4294967296) × RangesReady (now letters) (now far) (own missed (site a z) (site b e)) run (now out) (now marks) ⌝ }
     ensures { λ r. ⌜ Offers (now (letters .entry)) (now (far .entry)) terms (own missed (site a z) (site b e)) run (now (out .entry)) (now (marks .entry)) r (now (out .exit)) (now (marks .exit)) ⌝ }
 {
     if missed == 0 {

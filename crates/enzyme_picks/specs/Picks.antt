@@ -7,10 +7,10 @@ use lib.Dec.{ltb}
 use Rattle.enzyme_cuts.specs.Cutting.{Range, range, within}
 use Rattle.enzyme_keep.specs.declared.offering.Step.the-variants.{Kept}
 use Rattle.enzyme_keep.specs.Digests.{recordOf}
-use Rattle.enzyme_keep.specs.Steps.{room, After, after, decided, andThen}
+use Rattle.enzyme_keep.specs.Steps.{digestRoom, After, after, decided, unlessFull}
 
 -- the starts of m sites, and the end of the last
-pub record Rising (starts : List ℕ) (m : ℕ) : Type 0 where
+pub record StartsRise (starts : List ℕ) (m : ℕ) : Type 0 where
   pub some : m < length starts
   pub order : (i j : ℕ) → i ≤ j → j ≤ m → getD starts i 0 ≤ getD starts j 0
   pub low : (i : ℕ) → i ≤ m → getD starts i 0 ≤ 65536
@@ -38,4 +38,4 @@ newOf starts share mn mx m missed (suc z) = newFrom starts share mn mx missed 0 
 -- the records of all the ranges, one after the other, where there is room
 abbrev pub puts : ℕ → ℕ → List Range → ℕ → List ℕ → After
 puts n p [] count out = after (Kept count) out
-puts n p (r ∷ rs) count out = andThen (decided true (ltb count (room out)) count out (recordOf n p r)) (puts n p rs)
+puts n p (r ∷ rs) count out = unlessFull (decided true (ltb count (digestRoom out)) count out (recordOf n p r)) (puts n p rs)

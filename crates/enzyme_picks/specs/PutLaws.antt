@@ -11,26 +11,26 @@ use lib.Seq.{sets}
 use lib.Dec.{ltb}
 use borrow.Author.Tests.{ltb-true}
 use Rattle.enzyme_cuts.specs.Cutting.{Range, wanted, kept}
-use Rattle.enzyme_cuts.specs.Work.{Inside}
+use Rattle.enzyme_cuts.specs.Work.{RangesWithin}
 use Rattle.enzyme_keep.specs.declared.offering.Step.{Step}
 use Rattle.enzyme_keep.specs.declared.offering.Step.the-variants.{Kept, Full}
 use Rattle.enzyme_keep.specs.declared.offering.Terms.{Terms}
 use Rattle.enzyme_keep.specs.Digests.{recordOf}
 use Rattle.enzyme_keep.specs.Buffer.{rangesIn}
 use Rattle.enzyme_keep.specs.BufferLaws.{ranges-more}
-use Rattle.enzyme_keep.specs.Steps.{room, after, decided, offered, andThen, offers}
+use Rattle.enzyme_keep.specs.Steps.{digestRoom, after, decided, offered, unlessFull, offers}
 use Rattle.enzyme_picks.specs.Picks.{puts}
 
 -- ---- two lists of ranges, one after the other
 
-puts-append : (n p : ℕ) (xs ys : List Range) (count : ℕ) (out : List ℕ) → puts n p (xs ++ ys) count out ≡ andThen (puts n p xs count out) (puts n p ys)
+puts-append : (n p : ℕ) (xs ys : List Range) (count : ℕ) (out : List ℕ) → puts n p (xs ++ ys) count out ≡ unlessFull (puts n p xs count out) (puts n p ys)
 puts-append n p [] ys count out = refl
 puts-append n p (r ∷ xs) ys count out =
-    let a = decided true (ltb count (room out)) count out (recordOf n p r) in
+    let a = decided true (ltb count (digestRoom out)) count out (recordOf n p r) in
     go (a .step) (a .bytes) (puts-append n p xs ys)
   where
-    go : (x : Step) (o : List ℕ) → ((count : ℕ) (out : List ℕ) → puts n p (xs ++ ys) count out ≡ andThen (puts n p xs count out) (puts n p ys))
-        → andThen (after x o) (puts n p (xs ++ ys)) ≡ andThen (andThen (after x o) (puts n p xs)) (puts n p ys)
+    go : (x : Step) (o : List ℕ) → ((count : ℕ) (out : List ℕ) → puts n p (xs ++ ys) count out ≡ unlessFull (puts n p xs count out) (puts n p ys))
+        → unlessFull (after x o) (puts n p (xs ++ ys)) ≡ unlessFull (unlessFull (after x o) (puts n p xs)) (puts n p ys)
     go (Kept k) o ih = ih k o
     go Full o ih = refl
 
@@ -44,16 +44,16 @@ module _ (n p : ℕ) (xs ys : List Range) (count : ℕ) (out o : List ℕ) where
 -- ---- a range that may be new, and the rest
 
 puts-one : (n p : ℕ) (w : Bool) (r : Range) (rest : List Range) (count : ℕ) (out : List ℕ)
-    → puts n p (cond w (r ∷ rest) rest) count out ≡ andThen (decided w (ltb count (room out)) count out (recordOf n p r)) (puts n p rest)
+    → puts n p (cond w (r ∷ rest) rest) count out ≡ unlessFull (decided w (ltb count (digestRoom out)) count out (recordOf n p r)) (puts n p rest)
 puts-one n p true r rest count out = refl
 puts-one n p false r rest count out = refl
 
 module _ (n p : ℕ) (w : Bool) (r : Range) (rest : List Range) (count : ℕ) (out o : List ℕ) where
-  pub one-kept : (k : ℕ) → after (Kept k) o ≡ decided w (ltb count (room out)) count out (recordOf n p r) → puts n p (cond w (r ∷ rest) rest) count out ≡ puts n p rest k o
-  one-kept k e = rw (puts-one n p w r rest count out, ← e)
+  pub put-kept : (k : ℕ) → after (Kept k) o ≡ decided w (ltb count (digestRoom out)) count out (recordOf n p r) → puts n p (cond w (r ∷ rest) rest) count out ≡ puts n p rest k o
+  put-kept k e = rw (puts-one n p w r rest count out, ← e)
 
-  pub one-full : after Full o ≡ decided w (ltb count (room out)) count out (recordOf n p r) → puts n p (cond w (r ∷ rest) rest) count out ≡ after Full o
-  one-full e = rw (puts-one n p w r rest count out, ← e)
+  pub put-full : after Full o ≡ decided w (ltb count (digestRoom out)) count out (recordOf n p r) → puts n p (cond w (r ∷ rest) rest) count out ≡ after Full o
+  put-full e = rw (puts-one n p w r rest count out, ← e)
 
 -- ---- what offers write
 
@@ -75,18 +75,18 @@ keeps s mn mx ks (r ∷ rs) = go (wanted s mn mx ks r) (keeps s mn mx (ks ++ (r 
     go false e f = f
 
 module _ (s : List ℕ) (t : Terms) (small : length s ≤ 65536) where
-  offers-kept : (rs : List Range) → Inside (length s) rs → (count : ℕ) (out : List ℕ)
+  offers-kept : (rs : List Range) → RangesWithin (length s) rs → (count : ℕ) (out : List ℕ)
       → offers s t rs count out ≡ puts (length s) (t .protein) (newly s (t .minimum) (t .maximum) (rangesIn count out) rs) count out
   unfolding offered
   offers-kept [] i count out = refl
-  offers-kept (r ∷ rs) i count out = go (wanted s (t .minimum) (t .maximum) (rangesIn count out) r) (ltb count (room out)) refl (offers-kept rs (i .2))
+  offers-kept (r ∷ rs) i count out = go (wanted s (t .minimum) (t .maximum) (rangesIn count out) r) (ltb count (digestRoom out)) refl (offers-kept rs (i .2))
     where
-      go : (w b : Bool) → ltb count (room out) ≡ b
+      go : (w b : Bool) → ltb count (digestRoom out) ≡ b
           → ((count : ℕ) (out : List ℕ) → offers s t rs count out ≡ puts (length s) (t .protein) (newly s (t .minimum) (t .maximum) (rangesIn count out) rs) count out)
-          → andThen (decided w b count out (recordOf (length s) (t .protein) r)) (offers s t rs)
+          → unlessFull (decided w b count out (recordOf (length s) (t .protein) r)) (offers s t rs)
           ≡ puts (length s) (t .protein) (cond w (r ∷ newly s (t .minimum) (t .maximum) (rangesIn count out ++ (r ∷ [])) rs) (newly s (t .minimum) (t .maximum) (rangesIn count out) rs)) count out
       go true true f ih =
-          let l : count < room out = ltb-true _ _ f in
+          let l : count < digestRoom out = ltb-true _ _ f in
           let m = min-le-left (length out / 16) 1048576 in
           let new = sets out (16 * count) (recordOf (length s) (t .protein) r) in
           let x : rangesIn (count + 1) (sets out (16 * count) (recordOf (length s) (t .protein) r)) ≡ rangesIn count out ++ (r ∷ []) = rw (add-one count) (ranges-more (length s) (t .protein) r count out (omega arith) small (i .0) (i .1)) in
@@ -94,6 +94,6 @@ module _ (s : List ℕ) (t : Terms) (small : length s ≤ 65536) where
       go true false f ih = rw f
       go false b f ih = ih count out
 
-  pub offers-puts : (rs : List Range) → Inside (length s) rs → (out : List ℕ)
+  pub offers-puts : (rs : List Range) → RangesWithin (length s) rs → (out : List ℕ)
       → offers s t rs 0 out ≡ puts (length s) (t .protein) (foldl (kept s (t .minimum) (t .maximum)) [] rs) 0 out
   offers-puts rs i out = rw (keeps s (t .minimum) (t .maximum) [] rs) (offers-kept rs i 0 out)

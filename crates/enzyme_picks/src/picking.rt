@@ -10,11 +10,11 @@ ghost use lib.Dec.{ltb};
 ghost use Rattle.enzyme_cuts.specs.Cutting.{range, within};
 ghost use Rattle.enzyme_cuts.specs.Work.{setWork};
 ghost use Rattle.enzyme_keep.specs.Digests.{recordOf};
-ghost use Rattle.enzyme_keep.specs.Steps.{room, after, decided, offers};
+ghost use Rattle.enzyme_keep.specs.Steps.{digestRoom, after, decided, offers};
 ghost use Rattle.enzyme_windows.specs.Pieces.{pieces};
-ghost use Rattle.enzyme_windows.specs.StartLaws.{startOf};
-ghost use Rattle.enzyme_windows.specs.TableLaws.{Counted};
-ghost use Rattle.enzyme_picks.specs.Picks.{Rising, newFrom, newOf, puts};
+ghost use Rattle.enzyme_windows.specs.StartLaws.{pieceStart};
+ghost use Rattle.enzyme_windows.specs.TableLaws.{SharedUpTo};
+ghost use Rattle.enzyme_picks.specs.Picks.{StartsRise, newFrom, newOf, puts};
 
 // A number as an index.
 fn wide(x: u8) -> usize
@@ -47,7 +47,7 @@ fn list_size(
     out: &mut [u8],
     count: usize,
 ) -> Step
-    requires { ⌜ (missed ≤ 16) × (m ≤ length (now share)) × Rising (now starts) m ⌝ }
+    requires { ⌜ (missed ≤ 16) × (m ≤ length (now share)) × StartsRise (now starts) m ⌝ }
     ensures { λ r. ⌜ after r (now (out .exit)) ≡ puts n (terms .protein) (newFrom (now (starts .entry)) (now (share .entry)) (terms .minimum) (terms .maximum) missed 0 (m - missed)) count (now (out .entry)) ⌝ }
 {
     let sites = wide(missed) + 1;
@@ -94,7 +94,7 @@ fn list_sizes(
     terms: Terms,
     out: &mut [u8],
 ) -> Step
-    requires { ⌜ (missed ≤ 16) × (m ≤ length (now share)) × Rising (now starts) m ⌝ }
+    requires { ⌜ (missed ≤ 16) × (m ≤ length (now share)) × StartsRise (now starts) m ⌝ }
     ensures { λ r. ⌜ after r (now (out .exit)) ≡ puts n (terms .protein) (newOf (now (starts .entry)) (now (share .entry)) (terms .minimum) (terms .maximum) m 0 (suc missed)) 0 (now (out .entry)) ⌝ }
 {
     let mut over = 0u8;
@@ -121,7 +121,7 @@ pub fn list_windows(
     terms: Terms,
     out: &mut [u8],
 ) -> Step
-    requires { ⌜ (length (now letters) ≤ 65536) × (missed ≤ 16) × (m ≡ length (pieces knife (now letters))) × (m < length (now starts)) × (m ≤ length (now share)) × ((i : ℕ) → i ≤ m → getD (now starts) i 0 ≡ startOf (pieces knife (now letters)) i) × Counted (pieces knife (now letters)) (missed + 1) (λ (i : ℕ). getD (now share) i 0) ⌝ }
+    requires { ⌜ (length (now letters) ≤ 65536) × (missed ≤ 16) × (m ≡ length (pieces knife (now letters))) × (m < length (now starts)) × (m ≤ length (now share)) × ((i : ℕ) → i ≤ m → getD (now starts) i 0 ≡ pieceStart (pieces knife (now letters)) i) × SharedUpTo (pieces knife (now letters)) (missed + 1) (λ (i : ℕ). getD (now share) i 0) ⌝ }
     ensures { λ r. ⌜ after r (now (out .exit)) ≡ offers (now (letters .entry)) terms (setWork knife false missed (now (letters .entry))) 0 (now (out .entry)) ⌝ }
 {
     list_sizes(starts, share, m, missed, letters.len(), terms, out)

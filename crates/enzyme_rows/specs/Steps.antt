@@ -5,71 +5,72 @@ use mathlib.Core.Bool.{Bool, true, not, _&&_, _||_}
 use mathlib.Core.List.{List}
 use lib.Dec.{ltb, eqb}
 use lib.ListN.{length, getD}
-use Rattle.enzyme_keys.specs.Keys.{Site}
+use Rattle.lists.specs.FrameLaws.{Framed}
+use Rattle.enzyme_keys.specs.Keys.{SiteWithin}
 
 -- x is one of the first g
-abbrev pub Has : List ℕ → ℕ → ℕ → Type 0
-Has w g x = ((p : ℕ) × (p < g) × (getD w p 0 ≡ x))
+abbrev pub AmongFirst : List ℕ → ℕ → ℕ → Type 0
+AmongFirst w g x = ((p : ℕ) × (p < g) × (getD w p 0 ≡ x))
 
 -- the first g are different
-abbrev pub Apart : List ℕ → ℕ → Type 0
-Apart w g = (i j : ℕ) → i < j → j < g → getD w i 0 ≡ getD w j 0 → ⊥
+abbrev pub FirstDiffer : List ℕ → ℕ → Type 0
+FirstDiffer w g = (i j : ℕ) → i < j → j < g → getD w i 0 ≡ getD w j 0 → ⊥
 
 -- the first g are sites, and so are all below them
 abbrev pub Sited : List ℕ → List ℕ → List ℕ → ℕ → Type 0
-Sited s starts order g = (z v : ℕ) → Has order g z → v ≤ z → Site s starts v
+Sited s starts order g = (z v : ℕ) → AmongFirst order g z → v ≤ z → SiteWithin s starts v
 
 -- sites of one text stand together, and rise
-pub record Lined (text : ℕ → List ℕ) (w : List ℕ) (g : ℕ) : Type 0 where
+pub record StandTogether (text : ℕ → List ℕ) (w : List ℕ) (g : ℕ) : Type 0 where
   pub between : (i j l : ℕ) → i < j → j < l → l < g → text (getD w i 0) ≡ text (getD w l 0) → text (getD w i 0) ≡ text (getD w j 0)
   pub rises : (i j : ℕ) → i < j → j < g → text (getD w i 0) ≡ text (getD w j 0) → getD w i 0 < getD w j 0
 
 -- the first g of y put into x so
 pub record Arranged (text : ℕ → List ℕ) (y x : List ℕ) (g : ℕ) : Type 0 where
-  pub into : (z : ℕ) → Has y g z → Has x g z
-  pub from : (z : ℕ) → Has x g z → Has y g z
-  pub apart : Apart x g
-  pub lined : Lined text x g
+  pub into : (z : ℕ) → AmongFirst y g z → AmongFirst x g z
+  pub from : (z : ℕ) → AmongFirst x g z → AmongFirst y g z
+  pub apart : FirstDiffer x g
+  pub lined : StandTogether text x g
 
 -- for each of the first g the place at which its run starts
-pub record Runs (text : ℕ → List ℕ) (w r : List ℕ) (g : ℕ) : Type 0 where
+pub record RunStarts (text : ℕ → List ℕ) (w r : List ℕ) (g : ℕ) : Type 0 where
   pub start : 0 < g → getD r 0 0 ≡ 0
   pub same : (p q : ℕ) → q ≡ p + 1 → q < g → text (getD w p 0) ≡ text (getD w q 0) → getD r q 0 ≡ getD r p 0
   pub differ : (p q : ℕ) → q ≡ p + 1 → q < g → (text (getD w p 0) ≡ text (getD w q 0) → ⊥) → getD r q 0 ≡ q
 
 -- x is y with f p written for the p-th of the first g of w
-pub record Written (f : ℕ → ℕ) (w y x : List ℕ) (g : ℕ) : Type 0 where
+pub record WrittenFor (f : ℕ → ℕ) (w y x : List ℕ) (g : ℕ) : Type 0 where
   pub long : length x ≡ length y
   pub at : (p : ℕ) → p < g → getD x (getD w p 0) 0 ≡ f p
-  pub rest : (z : ℕ) → (Has w g z → ⊥) → getD x z 0 ≡ getD y z 0
+  pub rest : (z : ℕ) → (AmongFirst w g z → ⊥) → getD x z 0 ≡ getD y z 0
 
 -- what is written is where the run starts
 abbrev pub Brought : List ℕ → List ℕ → List ℕ → List ℕ → ℕ → Type 0
-Brought w r = Written (λ p. getD r p 0) w
+Brought w r = WrittenFor (λ p. getD r p 0) w
 
 -- it is the first of the run
 abbrev pub Called : List ℕ → List ℕ → List ℕ → List ℕ → ℕ → Type 0
-Called w r = Written (λ p. getD w (getD r p 0) 0) w
+Called w r = WrittenFor (λ p. getD w (getD r p 0) 0) w
 
 -- x is y with n written for those of the first g of w that are not the first of their run
-pub record Marked (w r y x : List ℕ) (n g : ℕ) : Type 0 where
+pub record RepeatsMarked (w r y x : List ℕ) (n g : ℕ) : Type 0 where
   pub long : length x ≡ length y
   pub later : (p : ℕ) → p < g → (getD r p 0 ≡ p → ⊥) → getD x (getD w p 0) 0 ≡ n
   pub first : (p : ℕ) → p < g → getD r p 0 ≡ p → getD x (getD w p 0) 0 ≡ getD y (getD w p 0) 0
-  pub rest : (z : ℕ) → (Has w g z → ⊥) → getD x z 0 ≡ getD y z 0
+  pub rest : (z : ℕ) → (AmongFirst w g z → ⊥) → getD x z 0 ≡ getD y z 0
 
 -- the first g of y are put in order into x, r says where their runs start, and ranks and shared sites are written by the runs
-pub record Ranked (text : ℕ → List ℕ) (y x r rank rank' share share' : List ℕ) (g n : ℕ) : Type 0 where
+pub record RunsRanked (text : ℕ → List ℕ) (y x r rank rank' share share' : List ℕ) (g n : ℕ) : Type 0 where
   pub arranged : Arranged text y x g
-  pub runs : Runs text x r g
+  pub runs : RunStarts text x r g
   pub brought : Brought x r rank rank' g
-  pub marked : Marked x r share share' n g
+  pub marked : RepeatsMarked x r share share' n g
 
 -- the first g of y have a site of their text as their name, all of one text the same one; the others keep their name
 pub record OneName (text : ℕ → List ℕ) (y name name' : List ℕ) (g : ℕ) : Type 0 where
-  pub like : (z : ℕ) → Has y g z → text (getD name' z 0) ≡ text z
-  pub same : (z v : ℕ) → Has y g z → Has y g v → text z ≡ text v → getD name' z 0 ≡ getD name' v 0
-  pub rest : (z : ℕ) → (Has y g z → ⊥) → getD name' z 0 ≡ getD name z 0
+  pub like : (z : ℕ) → AmongFirst y g z → text (getD name' z 0) ≡ text z
+  pub same : (z v : ℕ) → AmongFirst y g z → AmongFirst y g v → text z ≡ text v → getD name' z 0 ≡ getD name' v 0
+  pub rest : (z : ℕ) → (AmongFirst y g z → ⊥) → getD name' z 0 ≡ getD name z 0
 
 -- whether the p-th is in a run of two or more
 abbrev pub inRun : List ℕ → ℕ → ℕ → Bool
@@ -84,18 +85,18 @@ pub record Kept (stay : ℕ → Bool) (y x : List ℕ) (i k : ℕ) : Type 0 wher
   pub long : length x ≡ length y
   pub few : k ≤ i
   pub from : (q : ℕ) → q < k → ((p : ℕ) × (p < i) × (stay p ≡ true) × (getD x q 0 ≡ getD y p 0))
-  pub each : (p : ℕ) → p < i → stay p ≡ true → Has x k (getD y p 0)
-  pub apart : Apart x k
-  pub later : (j : ℕ) → i ≤ j → getD x j 0 ≡ getD y j 0
+  pub each : (p : ℕ) → p < i → stay p ≡ true → AmongFirst x k (getD y p 0)
+  pub apart : FirstDiffer x k
+  pub rest : Framed 0 i y x
 
 -- a whole level: of the first g of y those that go on stand first in x, k of them; ranks and shared sites are written for all g
 pub record Stepped (text : ℕ → List ℕ) (y x rank rank' share share' : List ℕ) (g k m n : ℕ) : Type 0 where
   pub few : k ≤ g
-  pub from : (z : ℕ) → Has x k z → Has y g z × (z + n < m)
-  pub each : (z v : ℕ) → Has y g z → Has y g v → (z ≡ v → ⊥) → text z ≡ text v → z + n < m → Has x k z
-  pub apart : Apart x k
-  pub same : (z v : ℕ) → Has y g z → Has y g v → text z ≡ text v → getD rank' z 0 ≡ getD rank' v 0
-  pub back : (z v : ℕ) → Has y g z → Has y g v → getD rank' z 0 ≡ getD rank' v 0 → text z ≡ text v
-  pub again : (z v : ℕ) → Has y g z → Has y g v → v < z → text v ≡ text z → getD share' z 0 ≡ n
-  pub first : (z : ℕ) → Has y g z → ((v : ℕ) → Has y g v → v < z → text v ≡ text z → ⊥) → getD share' z 0 ≡ getD share z 0
-  pub rest : (z : ℕ) → (Has y g z → ⊥) → getD share' z 0 ≡ getD share z 0
+  pub from : (z : ℕ) → AmongFirst x k z → AmongFirst y g z × (z + n < m)
+  pub each : (z v : ℕ) → AmongFirst y g z → AmongFirst y g v → (z ≡ v → ⊥) → text z ≡ text v → z + n < m → AmongFirst x k z
+  pub apart : FirstDiffer x k
+  pub same : (z v : ℕ) → AmongFirst y g z → AmongFirst y g v → text z ≡ text v → getD rank' z 0 ≡ getD rank' v 0
+  pub back : (z v : ℕ) → AmongFirst y g z → AmongFirst y g v → getD rank' z 0 ≡ getD rank' v 0 → text z ≡ text v
+  pub again : (z v : ℕ) → AmongFirst y g z → AmongFirst y g v → v < z → text v ≡ text z → getD share' z 0 ≡ n
+  pub first : (z : ℕ) → AmongFirst y g z → ((v : ℕ) → AmongFirst y g v → v < z → text v ≡ text z → ⊥) → getD share' z 0 ≡ getD share z 0
+  pub rest : (z : ℕ) → (AmongFirst y g z → ⊥) → getD share' z 0 ≡ getD share z 0

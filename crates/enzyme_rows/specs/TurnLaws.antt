@@ -9,10 +9,11 @@ use borrow.Author.Tests.{eqb-true, eqb-false}
 use lib.Dec.{eqb}
 use lib.ListN.{length, getD, set, length-set}
 use lib.Seq.{getD-set-same, getD-set-other}
+use Rattle.lists.specs.FrameLaws.{Framed, framed-none, framed-then, framed-within, framed-set}
 use Rattle.lists.specs.Tests.{below?, clash}
 use Rattle.lists.specs.Lists.{same}
 use Rattle.lists.specs.SameLaws.{same-refl, same-eq}
-use Rattle.enzyme_rows.specs.Steps.{Has, Apart, Runs, Written, Marked, Kept}
+use Rattle.enzyme_rows.specs.Steps.{AmongFirst, FirstDiffer, RunStarts, WrittenFor, RepeatsMarked, Kept}
 
 -- an index below i + 1 is below i, or it is i
 upTo : (P : ℕ → Type 0) (i p : ℕ) → p < i + 1 → (p < i → P p) → P i → P p
@@ -24,15 +25,15 @@ upTo P i p h f g = go (below? p i)
 
 -- ---- the starts of runs
 
-pub runs-none : (text : ℕ → List ℕ) (w r : List ℕ) → Runs text w r 0
-runs-none text w r = record { start = λ h. absurd (omega arith); same = λ p q e h. absurd (omega arith); differ = λ p q e h. absurd (omega arith) }
+pub run-starts-none : (text : ℕ → List ℕ) (w r : List ℕ) → RunStarts text w r 0
+run-starts-none text w r = record { start = λ h. absurd (omega arith); same = λ p q e h. absurd (omega arith); differ = λ p q e h. absurd (omega arith) }
 
 -- the last one passed and its run's start, from which the next start follows
 pub record Passed (w r : List ℕ) (i last run : ℕ) : Type 0 where
   pub none : i ≡ 0 → (last ≡ 0) × (run ≡ 0)
   pub some : (p : ℕ) → i ≡ p + 1 → (last ≡ getD w p 0) × (run ≡ getD r p 0)
 
-module _ (text : ℕ → List ℕ) (w r : List ℕ) (i last run : ℕ) (c : Runs text w r i) (d : Passed w r i last run) (room : i < length r)
+module _ (text : ℕ → List ℕ) (w r : List ℕ) (i last run : ℕ) (c : RunStarts text w r i) (d : Passed w r i last run) (room : i < length r)
     (v : ℕ) (e : v ≡ cond (same (text last) (text (getD w i 0))) run i)
   where
     old : (p : ℕ) → p < i → getD (set r i v) p 0 ≡ getD r p 0
@@ -41,8 +42,8 @@ module _ (text : ℕ → List ℕ) (w r : List ℕ) (i last run : ℕ) (c : Runs
     new : getD (set r i v) i 0 ≡ v
     new = getD-set-same r i v 0 room
 
-    pub runs-more : Runs text w (set r i v) (i + 1)
-    runs-more = record {
+    pub run-starts-more : RunStarts text w (set r i v) (i + 1)
+    run-starts-more = record {
       start = λ h. first (below? 0 i);
       same = λ p q a h b. like p q a h b (below? q i);
       differ = λ p q a h b. unlike p q a h b (below? q i);
@@ -90,42 +91,42 @@ pub passed-none : (w r : List ℕ) → Passed w r 0 0 0
 passed-none w r = record { none = λ h. (refl, refl); some = λ p h. absurd (omega arith) }
 
 -- the last one passed is one of the row, or 0
-pub passed-has : (w r : List ℕ) (g i last run : ℕ) → i < g → Passed w r i last run → ((z : ℕ) × Has w g z × (last ≤ z))
+pub passed-has : (w r : List ℕ) (g i last run : ℕ) → i < g → Passed w r i last run → ((z : ℕ) × AmongFirst w g z × (last ≤ z))
 passed-has w r g i last run h d = go (below? 0 i)
   where
-    go : (0 < i) ⊎ (i ≤ 0) → ((z : ℕ) × Has w g z × (last ≤ z))
+    go : (0 < i) ⊎ (i ≤ 0) → ((z : ℕ) × AmongFirst w g z × (last ≤ z))
     go (inl l) = let e = d .some (i - 1) (omega arith) .0 in (getD w (i - 1) 0, (i - 1, omega arith, refl), omega arith)
     go (inr l) = let e = d .none (omega arith) .0 in (getD w i 0, (i, h, refl), omega arith)
 
 -- ---- numbers written for the first i of a row
 
-has-more : (w : List ℕ) (i z : ℕ) → Has w i z → Has w (i + 1) z
+has-more : (w : List ℕ) (i z : ℕ) → AmongFirst w i z → AmongFirst w (i + 1) z
 has-more w i z (p, h, e) = (p, omega arith, e)
 
 -- a store for the i-th changes none of those before it
-module _ (w x : List ℕ) (i v : ℕ) (g : ℕ) (a : Apart w g) (h : i < g) where
+module _ (w x : List ℕ) (i v : ℕ) (g : ℕ) (a : FirstDiffer w g) (h : i < g) where
   spared : (p : ℕ) → p < i → getD (set x (getD w i 0) v) (getD w p 0) 0 ≡ getD x (getD w p 0) 0
   spared p l = getD-set-other x (getD w i 0) (getD w p 0) v 0 (λ (z : getD w p 0 ≡ getD w i 0). a p i l h z)
 
-  untouched : (z : ℕ) → (Has w (i + 1) z → ⊥) → getD (set x (getD w i 0) v) z 0 ≡ getD x z 0
+  untouched : (z : ℕ) → (AmongFirst w (i + 1) z → ⊥) → getD (set x (getD w i 0) v) z 0 ≡ getD x z 0
   untouched z n = getD-set-other x (getD w i 0) z v 0 (λ (q : z ≡ getD w i 0). n (i, omega arith, sym q))
 
-pub written-none : (f : ℕ → ℕ) (w y : List ℕ) → Written f w y y 0
-written-none f w y = record { long = refl; at = λ p h. absurd (omega arith); rest = λ z n. refl }
+pub written-for-none : (f : ℕ → ℕ) (w y : List ℕ) → WrittenFor f w y y 0
+written-for-none f w y = record { long = refl; at = λ p h. absurd (omega arith); rest = λ z n. refl }
 
-pub written-more : (f : ℕ → ℕ) (w y x : List ℕ) (g i : ℕ) → Apart w g → i < g → getD w i 0 < length y → Written f w y x i → Written f w y (set x (getD w i 0) (f i)) (i + 1)
-written-more f w y x g i a h room b = record {
+pub written-for-more : (f : ℕ → ℕ) (w y x : List ℕ) (g i : ℕ) → FirstDiffer w g → i < g → getD w i 0 < length y → WrittenFor f w y x i → WrittenFor f w y (set x (getD w i 0) (f i)) (i + 1)
+written-for-more f w y x g i a h room b = record {
   long = length-set x (getD w i 0) (f i) ∙ b .long;
   at = λ p l. upTo (λ (p : ℕ). getD (set x (getD w i 0) (f i)) (getD w p 0) 0 ≡ f p) i p l
       (λ k. spared w x i (f i) g a h p k ∙ b .at p k)
       (getD-set-same x (getD w i 0) (f i) 0 (omega (arith, b .long)));
-  rest = λ z n. untouched w x i (f i) g a h z n ∙ b .rest z (λ (k : Has w i z). n (has-more w i z k));
+  rest = λ z n. untouched w x i (f i) g a h z n ∙ b .rest z (λ (k : AmongFirst w i z). n (has-more w i z k));
 }
 
-pub marked-none : (w r y : List ℕ) (n : ℕ) → Marked w r y y n 0
-marked-none w r y n = record { long = refl; later = λ p h. absurd (omega arith); first = λ p h. absurd (omega arith); rest = λ z k. refl }
+pub repeats-marked-none : (w r y : List ℕ) (n : ℕ) → RepeatsMarked w r y y n 0
+repeats-marked-none w r y n = record { long = refl; later = λ p h. absurd (omega arith); first = λ p h. absurd (omega arith); rest = λ z k. refl }
 
-module _ (w r y x : List ℕ) (n g i : ℕ) (a : Apart w g) (h : i < g) (room : getD w i 0 < length y) (b : Marked w r y x n i)
+module _ (w r y x : List ℕ) (n g i : ℕ) (a : FirstDiffer w g) (h : i < g) (room : getD w i 0 < length y) (b : RepeatsMarked w r y x n i)
     (v : ℕ) (e : v ≡ cond (eqb (getD r i 0) i) (getD x (getD w i 0) 0) n)
   where
     here : getD (set x (getD w i 0) v) (getD w i 0) 0 ≡ v
@@ -139,11 +140,11 @@ module _ (w r y x : List ℕ) (n g i : ℕ) (a : Apart w g) (h : i < g) (room : 
     miss true c d = refl
     miss false c d = absurd (eqb-false (getD r i 0) i c d)
 
-    unseen : Has w i (getD w i 0) → ⊥
+    unseen : AmongFirst w i (getD w i 0) → ⊥
     unseen (p, l, q) = a p i l h q
 
-    pub marked-more : Marked w r y (set x (getD w i 0) v) n (i + 1)
-    marked-more = record {
+    pub repeats-marked-more : RepeatsMarked w r y (set x (getD w i 0) v) n (i + 1)
+    repeats-marked-more = record {
       long = length-set x (getD w i 0) v ∙ b .long;
       later = λ p l. upTo (λ (p : ℕ). (getD r p 0 ≡ p → ⊥) → getD (set x (getD w i 0) v) (getD w p 0) 0 ≡ n) i p l
           (λ k d. spared w x i v g a h p k ∙ b .later p k d)
@@ -151,7 +152,7 @@ module _ (w r y x : List ℕ) (n g i : ℕ) (a : Apart w g) (h : i < g) (room : 
       first = λ p l. upTo (λ (p : ℕ). getD r p 0 ≡ p → getD (set x (getD w i 0) v) (getD w p 0) 0 ≡ getD y (getD w p 0) 0) i p l
           (λ k d. spared w x i v g a h p k ∙ b .first p k d)
           (λ d. here ∙ e ∙ miss (eqb (getD r i 0) i) refl d ∙ b .rest (getD w i 0) unseen);
-      rest = λ z m. untouched w x i v g a h z m ∙ b .rest z (λ (k : Has w i z). m (has-more w i z k));
+      rest = λ z m. untouched w x i v g a h z m ∙ b .rest z (λ (k : AmongFirst w i z). m (has-more w i z k));
     }
 
 -- ---- those that stay
@@ -163,23 +164,24 @@ kept-none stay y = record {
   from = λ q h. absurd (omega arith);
   each = λ p h. absurd (omega arith);
   apart = λ i j h k. absurd (omega arith);
-  later = λ j h. refl;
+  rest = framed-none 0 0 y;
 }
 
-module _ (stay : ℕ → Bool) (y x : List ℕ) (g i k : ℕ) (a : Apart y g) (h : i < g) (room : g ≤ length y) (c : Kept stay y x i k) where
+module _ (stay : ℕ → Bool) (y x : List ℕ) (g i k : ℕ) (a : FirstDiffer y g) (h : i < g) (room : g ≤ length y) (c : Kept stay y x i k) where
   front : (q : ℕ) → q < k → getD (set x k (getD y i 0)) q 0 ≡ getD x q 0
   front q l = getD-set-other x k q (getD y i 0) 0 (λ (z : q ≡ k). omega arith)
 
   seat : getD (set x k (getD y i 0)) k 0 ≡ getD y i 0
   seat = let f = c .few in getD-set-same x k (getD y i 0) 0 (omega (arith, c .long))
 
-  behind : (j : ℕ) → i + 1 ≤ j → getD (set x k (getD y i 0)) j 0 ≡ getD y j 0
-  behind j l = let f = c .few in getD-set-other x k j (getD y i 0) 0 (λ (z : j ≡ k). omega arith) ∙ c .later j (omega arith)
+  behind : Framed 0 (i + 1) y (set x k (getD y i 0))
+  behind = let f = c .few in
+      framed-then 0 (i + 1) y x (set x k (getD y i 0)) (framed-within 0 0 i (i + 1) y x (omega arith) (omega arith) (c .rest)) (framed-set 0 (i + 1) k (getD y i 0) x (omega arith) (omega arith))
 
   long₁ : length (set x k (getD y i 0)) ≡ length y
   long₁ = length-set x k (getD y i 0) ∙ c .long
 
-  has₁ : (z : ℕ) → Has x k z → Has (set x k (getD y i 0)) k z
+  has₁ : (z : ℕ) → AmongFirst x k z → AmongFirst (set x k (getD y i 0)) k z
   has₁ z (q, l, e) = (q, l, front q l ∙ e)
 
   pub kept-left : stay i ≡ false → Kept stay y (set x k (getD y i 0)) (i + 1) k
@@ -187,9 +189,9 @@ module _ (stay : ℕ → Bool) (y x : List ℕ) (g i k : ℕ) (a : Apart y g) (h
     long = long₁;
     few = omega (arith, c .few);
     from = λ q l. let f = c .from q l in (f .0, omega (arith, f .1), f .2, front q l ∙ f .3);
-    each = λ p l. upTo (λ (p : ℕ). stay p ≡ true → Has (set x k (getD y i 0)) k (getD y p 0)) i p l (λ m t. has₁ (getD y p 0) (c .each p m t)) (λ t. clash t s);
+    each = λ p l. upTo (λ (p : ℕ). stay p ≡ true → AmongFirst (set x k (getD y i 0)) k (getD y p 0)) i p l (λ m t. has₁ (getD y p 0) (c .each p m t)) (λ t. clash t s);
     apart = λ q r m n e. c .apart q r m n (sym (front q (omega arith)) ∙ e ∙ front r n);
-    later = behind;
+    rest = behind;
   }
 
   pub kept-more : stay i ≡ true → Kept stay y (set x k (getD y i 0)) (i + 1) (k + 1)
@@ -199,16 +201,16 @@ module _ (stay : ℕ → Bool) (y x : List ℕ) (g i k : ℕ) (a : Apart y g) (h
     from = λ q l. upTo (λ (q : ℕ). ((p : ℕ) × (p < i + 1) × (stay p ≡ true) × (getD (set x k (getD y i 0)) q 0 ≡ getD y p 0))) k q l
         (λ m. let f = c .from q m in (f .0, omega (arith, f .1), f .2, front q m ∙ f .3))
         (i, omega arith, s, seat);
-    each = λ p l. upTo (λ (p : ℕ). stay p ≡ true → Has (set x k (getD y i 0)) (k + 1) (getD y p 0)) i p l
+    each = λ p l. upTo (λ (p : ℕ). stay p ≡ true → AmongFirst (set x k (getD y i 0)) (k + 1) (getD y p 0)) i p l
         (λ m t. has-more (set x k (getD y i 0)) k (getD y p 0) (has₁ (getD y p 0) (c .each p m t)))
         (λ t. (k, omega arith, seat));
     apart = λ q r m n. upTo (λ (r : ℕ). q < r → getD (set x k (getD y i 0)) q 0 ≡ getD (set x k (getD y i 0)) r 0 → ⊥) k r n
         (λ l o e. c .apart q r o l (sym (front q (omega arith)) ∙ e ∙ front r l))
         (λ o e. let f = c .from q o in a (f .0) i (f .1) h (sym (f .3) ∙ sym (front q o) ∙ e ∙ seat)) m;
-    later = behind;
+    rest = behind;
   }
 
-pub kept-turn : (stay : ℕ → Bool) (y x : List ℕ) (g i k v : ℕ) (more : Bool) → Apart y g → i < g → g ≤ length y → Kept stay y x i k → v ≡ getD y i 0 → more ≡ stay i
+pub kept-turn : (stay : ℕ → Bool) (y x : List ℕ) (g i k v : ℕ) (more : Bool) → FirstDiffer y g → i < g → g ≤ length y → Kept stay y x i k → v ≡ getD y i 0 → more ≡ stay i
     → Kept stay y (set x k v) (i + 1) (cond more (k + 1) k)
 kept-turn stay y x g i k v more a h room c e s = rw e (go more s)
   where
@@ -217,8 +219,3 @@ kept-turn stay y x g i k v more a h room c e s = rw e (go more s)
     go false q = kept-left stay y x g i k a h room c (sym q)
 
 -- ---- tables filled one by one
-
-pub filled-more : (f : ℕ → ℕ) (x : List ℕ) (i v : ℕ) → i < length x → v ≡ f i → ((p : ℕ) → p < i → getD x p 0 ≡ f p) → (p : ℕ) → p < i + 1 → getD (set x i v) p 0 ≡ f p
-filled-more f x i v room e c p h = upTo (λ (p : ℕ). getD (set x i v) p 0 ≡ f p) i p h
-    (λ l. getD-set-other x i p v 0 (λ (z : p ≡ i). omega arith) ∙ c p l)
-    (getD-set-same x i v 0 room ∙ e)

@@ -5,7 +5,7 @@ ghost use mathlib.Core.Bool.{cond};
 ghost use Prim.Native.Nat.{ℕ, _+_, _≤_, _<_};
 ghost use lib.Dec.{eqb};
 ghost use lib.ListN.{length, getD};
-ghost use Rattle.enzyme_rows.specs.Steps.{Has, Apart, Brought, Called, Marked};
+ghost use Rattle.enzyme_rows.specs.Steps.{AmongFirst, FirstDiffer, Brought, Called, RepeatsMarked};
 
 // How many there are, with one more or not.
 pub fn after(k: usize, more: bool) -> usize
@@ -31,7 +31,7 @@ pub fn count_up(order: &mut [u16], share: &mut [u8], m: usize)
 
 // Ranks the first g sites in the order by where their runs start.
 pub fn bring(order: &[u16], runs: &[u16], rank: &mut [u16], g: usize)
-    requires { ⌜ (g ≤ length (now order)) × (g ≤ length (now runs)) × Apart (now order) g × ((z : ℕ) → Has (now order) g z → z < length (now rank)) ⌝ }
+    requires { ⌜ (g ≤ length (now order)) × (g ≤ length (now runs)) × FirstDiffer (now order) g × ((z : ℕ) → AmongFirst (now order) g z → z < length (now rank)) ⌝ }
     ensures { λ _. ⌜ Brought (now (order .entry)) (now (runs .entry)) (now (rank .entry)) (now (rank .exit)) g ⌝ }
 {
     let mut i = 0;
@@ -44,7 +44,7 @@ pub fn bring(order: &[u16], runs: &[u16], rank: &mut [u16], g: usize)
 
 // Names the first g sites in the order by the first site of their run.
 pub fn name_runs(order: &[u16], runs: &[u16], name: &mut [u16], g: usize)
-    requires { ⌜ (g ≤ length (now order)) × (g ≤ length (now runs)) × Apart (now order) g × ((z : ℕ) → Has (now order) g z → z < length (now name)) × ((p : ℕ) → p < g → getD (now runs) p 0 < g) ⌝ }
+    requires { ⌜ (g ≤ length (now order)) × (g ≤ length (now runs)) × FirstDiffer (now order) g × ((z : ℕ) → AmongFirst (now order) g z → z < length (now name)) × ((p : ℕ) → p < g → getD (now runs) p 0 < g) ⌝ }
     ensures { λ _. ⌜ Called (now (order .entry)) (now (runs .entry)) (now (name .entry)) (now (name .exit)) g ⌝ }
 {
     let mut i = 0;
@@ -65,8 +65,8 @@ fn shared(run: u16, place: usize, old: u8, n: u8) -> u8
 
 // Writes n for each of the first g sites in the order that is not the first of its run.
 pub fn mark(order: &[u16], runs: &[u16], share: &mut [u8], g: usize, n: u8)
-    requires { ⌜ (g ≤ length (now order)) × (g ≤ length (now runs)) × Apart (now order) g × ((z : ℕ) → Has (now order) g z → z < length (now share)) ⌝ }
-    ensures { λ _. ⌜ Marked (now (order .entry)) (now (runs .entry)) (now (share .entry)) (now (share .exit)) n g ⌝ }
+    requires { ⌜ (g ≤ length (now order)) × (g ≤ length (now runs)) × FirstDiffer (now order) g × ((z : ℕ) → AmongFirst (now order) g z → z < length (now share)) ⌝ }
+    ensures { λ _. ⌜ RepeatsMarked (now (order .entry)) (now (runs .entry)) (now (share .entry)) (now (share .exit)) n g ⌝ }
 {
     let mut i = 0;
     while i < g {

@@ -9,7 +9,7 @@ use lib.ListN.{getD}
 use Rattle.lists.specs.Tests.{below?, truth?, clash}
 use Rattle.lists.specs.Lists.{same}
 use Rattle.lists.specs.SameLaws.{same-refl, same-eq}
-use Rattle.enzyme_rows.specs.Steps.{Lined, Runs}
+use Rattle.enzyme_rows.specs.Steps.{StandTogether, RunStarts}
 
 pub alike? : (t u : List ℕ) → (t ≡ u) ⊎ (t ≡ u → ⊥)
 alike? t u = go (truth? (same t u))
@@ -18,7 +18,7 @@ alike? t u = go (truth? (same t u))
     go (inl e) = inl (same-eq t u e)
     go (inr e) = inr (λ (q : t ≡ u). clash (rw q (same-refl u)) e)
 
-module _ (text : ℕ → List ℕ) (w r : List ℕ) (g : ℕ) (ln : Lined text w g) (rn : Runs text w r g) where
+module _ (text : ℕ → List ℕ) (w r : List ℕ) (g : ℕ) (ln : StandTogether text w g) (rn : RunStarts text w r g) where
   -- a run starts no later than any of its places, with the same text
   pub run-start : (p : ℕ) → p < g → (getD r p 0 ≤ p) × (text (getD w (getD r p 0) 0) ≡ text (getD w p 0))
   run-start zero h = let e = rn .start h in (omega arith, ap (λ (z : ℕ). text (getD w z 0)) e)

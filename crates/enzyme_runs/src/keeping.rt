@@ -4,7 +4,7 @@ ghost use mathlib.Core.Bool.{cond, _&&_, not};
 ghost use Prim.Native.Nat.{_+_, _≤_, _<_};
 ghost use lib.Dec.{ltb, eqb};
 ghost use lib.ListN.{length, getD};
-ghost use Rattle.enzyme_rows.specs.Steps.{Apart, inRun, goesOn, Kept};
+ghost use Rattle.enzyme_rows.specs.Steps.{FirstDiffer, inRun, goesOn, Kept};
 
 // Whether a run does not start at a place.
 fn joins(runs: &[u16], i: usize) -> bool
@@ -37,7 +37,7 @@ fn goes_on(runs: &[u16], x: u16, g: usize, m: usize, n: u8, i: usize) -> bool
 
 // Moves those of the first g sites that go on to the front; says how many there are.
 pub fn keep(order: &mut [u16], runs: &[u16], g: usize, m: usize, n: u8) -> usize
-    requires { ⌜ (g ≤ length (now order)) × (g ≤ length (now runs)) × (g ≤ 65536) × Apart (now order) g ⌝ }
+    requires { ⌜ (g ≤ length (now order)) × (g ≤ length (now runs)) × (g ≤ 65536) × FirstDiffer (now order) g ⌝ }
     ensures { λ r. ⌜ Kept (goesOn (now (order .entry)) (now (runs .entry)) g m n) (now (order .entry)) (now (order .exit)) g r ⌝ }
 {
     let mut k = 0;

@@ -5,12 +5,12 @@ ghost use mathlib.Core.Bool.{cond};
 ghost use Prim.Native.Nat.{_≤_};
 ghost use lib.ListN.{length};
 ghost use Rattle.lists.specs.Lists.{same};
-ghost use Rattle.enzyme_keys.specs.Keys.{Site, lettersAt, namesAt, keyOf};
-ghost use Rattle.enzyme_rows.specs.Steps.{Apart, Sited, Arranged, Runs};
+ghost use Rattle.enzyme_keys.specs.Keys.{SiteWithin, lettersAt, namesAt, sortKey};
+ghost use Rattle.enzyme_rows.specs.Steps.{FirstDiffer, Sited, Arranged, RunStarts};
 
 // Whether two sites have the same letters.
 fn same_site(letters: &[u8], starts: &[u32], a: u16, b: u16) -> bool
-    requires { ⌜ Site (now letters) (now starts) a × Site (now letters) (now starts) b ⌝ }
+    requires { ⌜ SiteWithin (now letters) (now starts) a × SiteWithin (now letters) (now starts) b ⌝ }
     ensures { λ r. ⌜ r ≡ same (lettersAt (now (letters .entry)) (now (starts .entry)) a) (lettersAt (now (letters .entry)) (now (starts .entry)) b) ⌝ }
 {
     let p = enzyme_keys::start_of(starts, a);
@@ -41,8 +41,8 @@ fn same_key(
     a: u16,
     b: u16,
 ) -> bool
-    requires { ⌜ Site (now letters) (now starts) a × Site (now letters) (now starts) b ⌝ }
-    ensures { λ r. ⌜ r ≡ same (keyOf key (now (letters .entry)) (now (starts .entry)) (now (name .entry)) (now (rank .entry)) a) (keyOf key (now (letters .entry)) (now (starts .entry)) (now (name .entry)) (now (rank .entry)) b) ⌝ }
+    requires { ⌜ SiteWithin (now letters) (now starts) a × SiteWithin (now letters) (now starts) b ⌝ }
+    ensures { λ r. ⌜ r ≡ same (sortKey key (now (letters .entry)) (now (starts .entry)) (now (name .entry)) (now (rank .entry)) a) (sortKey key (now (letters .entry)) (now (starts .entry)) (now (name .entry)) (now (rank .entry)) b) ⌝ }
 {
     match key {
         Key::Letters => same_site(letters, starts, a, b),
@@ -62,8 +62,8 @@ fn run_of(
     run: u16,
     place: u16,
 ) -> u16
-    requires { ⌜ Site (now letters) (now starts) before × Site (now letters) (now starts) x ⌝ }
-    ensures { λ r. ⌜ r ≡ cond (same (keyOf key (now (letters .entry)) (now (starts .entry)) (now (name .entry)) (now (rank .entry)) before) (keyOf key (now (letters .entry)) (now (starts .entry)) (now (name .entry)) (now (rank .entry)) x)) run place ⌝ }
+    requires { ⌜ SiteWithin (now letters) (now starts) before × SiteWithin (now letters) (now starts) x ⌝ }
+    ensures { λ r. ⌜ r ≡ cond (same (sortKey key (now (letters .entry)) (now (starts .entry)) (now (name .entry)) (now (rank .entry)) before) (sortKey key (now (letters .entry)) (now (starts .entry)) (now (name .entry)) (now (rank .entry)) x)) run place ⌝ }
 {
     if same_key(key, letters, starts, name, rank, before, x) {
         run
@@ -85,7 +85,7 @@ fn number_runs(
     g: usize,
 )
     requires { ⌜ (g ≤ length (now order)) × (g ≤ length (now runs)) × (g ≤ 65536) × Sited (now letters) (now starts) (now order) g ⌝ }
-    ensures { λ _. ⌜ Runs (keyOf key (now (letters .entry)) (now (starts .entry)) (now (name .entry)) (now (rank .entry))) (now (order .entry)) (now (runs .exit)) g ⌝ }
+    ensures { λ _. ⌜ RunStarts (sortKey key (now (letters .entry)) (now (starts .entry)) (now (name .entry)) (now (rank .entry))) (now (order .entry)) (now (runs .exit)) g ⌝ }
 {
     let mut last: u16 = 0;
     let mut run: u16 = 0;
@@ -111,8 +111,8 @@ pub fn line_up(
     runs: &mut [u16],
     g: usize,
 )
-    requires { ⌜ (g ≤ length (now order)) × (g ≤ length (now runs)) × (g ≤ 65536) × Apart (now order) g × Sited (now letters) (now starts) (now order) g ⌝ }
-    ensures { λ _. ⌜ Arranged (keyOf key (now (letters .entry)) (now (starts .entry)) (now (name .entry)) (now (rank .entry))) (now (order .entry)) (now (order .exit)) g × Runs (keyOf key (now (letters .entry)) (now (starts .entry)) (now (name .entry)) (now (rank .entry))) (now (order .exit)) (now (runs .exit)) g ⌝ }
+    requires { ⌜ (g ≤ length (now order)) × (g ≤ length (now runs)) × (g ≤ 65536) × FirstDiffer (now order) g × Sited (now letters) (now starts) (now order) g ⌝ }
+    ensures { λ _. ⌜ Arranged (sortKey key (now (letters .entry)) (now (starts .entry)) (now (name .entry)) (now (rank .entry))) (now (order .entry)) (now (order .exit)) g × RunStarts (sortKey key (now (letters .entry)) (now (starts .entry)) (now (name .entry)) (now (rank .entry))) (now (order .exit)) (now (runs .exit)) g ⌝ }
 {
     enzyme_sort::sort(key, letters, starts, name, rank, order, runs, g);
     number_runs(key, letters, starts, name, rank, order, runs, g);

@@ -10,28 +10,28 @@ use Rattle.lists.specs.Lists.{same}
 use Rattle.enzyme_cuts.specs.Cutting.{Range, site, part, seenIn, within}
 use Rattle.enzyme_keep.specs.declared.offering.Terms.{Terms}
 use Rattle.enzyme_keep.specs.Buffer.{rangesIn}
-use Rattle.enzyme_once.specs.DistinctLaws.{Distinct}
+use Rattle.enzyme_once.specs.DistinctLaws.{NoRangeTwice}
 use Rattle.enzyme_list.specs.declared.offering.Run.{Run as Ends}
 use Rattle.enzyme_list.specs.declared.offering.Offered.the-variants as list
-use Rattle.enzyme_list.specs.Offer.{Came, Wrote}
-use Rattle.enzyme_list.specs.WriteLaws.{wrote-other}
-use Rattle.enzyme_search.specs.Marks.{markAt, Marked}
+use Rattle.enzyme_list.specs.Offer.{Came, CameUnlinked}
+use Rattle.enzyme_list.specs.WriteLaws.{unlinked-other}
+use Rattle.enzyme_search.specs.Marks.{markAt, SamplesListed}
 use Rattle.enzyme_samples.specs.declared.offering.Run.{Run}
 use Rattle.enzyme_samples.specs.declared.offering.Offered.the-variants.{Left, NoRoom}
-use Rattle.enzyme_samples.specs.Ready.{Ready, Offers, Noted}
+use Rattle.enzyme_samples.specs.Ready.{RangesReady, Offers, Noted}
 use Rattle.enzyme_samples.specs.ReadyLaws.{distinct-less, far-new, far-unseen}
 
 -- the records and the list as they are now, with these samples
 abbrev pub runWith : Ends → ℕ → ℕ → Run
 runWith at samples limit = record { count = at .count; head = at .head; samples = samples; limit = limit }
 
-grown-distinct : (ks now : List Range) (r : Range) (rest : List Range) → (now ≡ ks) ⊎ (now ≡ ks ++ (r ∷ [])) → Distinct (ks ++ (r ∷ rest)) → Distinct (now ++ rest)
+grown-distinct : (ks now : List Range) (r : Range) (rest : List Range) → (now ≡ ks) ⊎ (now ≡ ks ++ (r ∷ [])) → NoRangeTwice (ks ++ (r ∷ rest)) → NoRangeTwice (now ++ rest)
 grown-distinct ks now r rest (inl e) d = rw e (distinct-less ks r rest d)
 grown-distinct ks now r rest (inr e) d = rw (e, append-assoc ks (r ∷ []) rest) d
 
 module _ (s f : List ℕ) (t : Terms) (r : Range) (run : Run) (out marks out′ marks′ : List ℕ) where
   -- it was sought, whatever became of the samples
-  pub sought-left : (at : Ends) (samples limit : ℕ) → Came s t r (run .count) (run .head) out (list.Left at) out′ → Marked (at .count) (at .head) out′ marks′ samples
+  pub sought-left : (at : Ends) (samples limit : ℕ) → Came s t r (run .count) (run .head) out (list.Left at) out′ → SamplesListed (at .count) (at .head) out′ marks′ samples
       → Offers s f t (r ∷ []) run out marks (Left (runWith at samples limit)) out′ marks′
   sought-left at samples limit c m = record {
     view = c .view;
@@ -55,16 +55,16 @@ module _ (s f : List ℕ) (t : Terms) (r : Range) (run : Run) (out marks out′ 
   sought-full c = record { view = c .view; next = λ rest h. tt }
 
   -- each sample is still a record of the list
-  pub sought-marked : (at : Ends) → Ready s f (r ∷ []) run out marks → Came s t r (run .count) (run .head) out (list.Left at) out′ → Marked (at .count) (at .head) out′ marks (run .samples)
+  pub sought-marked : (at : Ends) → RangesReady s f (r ∷ []) run out marks → Came s t r (run .count) (run .head) out (list.Left at) out′ → SamplesListed (at .count) (at .head) out′ marks (run .samples)
   sought-marked at h c = record { room = h .marked .room; listed = λ i l. c .has (markAt marks i) (h .marked .listed i l) }
 
   module _ (long : getD f (r .from) 0 < r .to - r .from) where
     -- no record has its letters
-    pub written-new : Ready s f (r ∷ []) run out marks → seenIn s (rangesIn (run .count) out) (part s r) ≡ false
+    pub written-new : RangesReady s f (r ∷ []) run out marks → seenIn s (rangesIn (run .count) out) (part s r) ≡ false
     written-new h = far-unseen s f (rangesIn (run .count) out) r [] (h .far) (h .keeps .inside) (h .inside .0) (h .inside .1) long (h .once)
 
     -- nor has what the list is to tell of
-    written-other : (rest : List Range) → Ready s f (r ∷ rest) run out marks → (a e : ℕ) → a ≤ e → e ≤ length s → e - a ≤ getD f a 0 → same (part s r) (part s (site a e)) ≡ false
+    written-other : (rest : List Range) → RangesReady s f (r ∷ rest) run out marks → (a e : ℕ) → a ≤ e → e ≤ length s → e - a ≤ getD f a 0 → same (part s r) (part s (site a e)) ≡ false
     written-other rest h a e i j l = far-new s f r (site a e) (h .far) (h .inside .0) (h .inside .1) i j long no
       where
         no : (a ≡ r .from) × (e ≡ r .to) → ⊥
@@ -74,7 +74,7 @@ module _ (s f : List ℕ) (t : Terms) (r : Range) (run : Run) (out marks out′ 
             omega arith
 
     -- it was written
-    pub written-left : (at : Ends) (limit : ℕ) → Wrote s t r (run .count) (run .head) out (list.Left at) out′
+    pub written-left : (at : Ends) (limit : ℕ) → CameUnlinked s t r (run .count) (run .head) out (list.Left at) out′
         → Offers s f t (r ∷ []) run out marks (Left (runWith at (run .samples) limit)) out′ marks
     written-left at limit c = record {
       view = c .view;
@@ -88,13 +88,13 @@ module _ (s f : List ℕ) (t : Terms) (r : Range) (run : Run) (out marks out′ 
       };
     }
 
-    pub written-full : Wrote s t r (run .count) (run .head) out list.NoRoom out′ → Offers s f t (r ∷ []) run out marks NoRoom out′ marks
+    pub written-full : CameUnlinked s t r (run .count) (run .head) out list.NoRoom out′ → Offers s f t (r ∷ []) run out marks NoRoom out′ marks
     written-full c = record { view = c .view; next = λ rest h. tt }
 
   -- its length does not fit
-  pub unfit-left : within (t .minimum) (t .maximum) (r .to - r .from) ≡ false → Ready s f (r ∷ []) run out marks → Offers s f t (r ∷ []) run out marks (Left run) out marks
+  pub unfit-left : within (t .minimum) (t .maximum) (r .to - r .from) ≡ false → RangesReady s f (r ∷ []) run out marks → Offers s f t (r ∷ []) run out marks (Left run) out marks
   unfit-left w g = record {
-    view = wrote-other s t r (run .count) (run .head) out (g .keeps) w .view;
+    view = unlinked-other s t r (run .count) (run .head) out (g .keeps) w .view;
     next = λ rest h. record {
       keeps = h .keeps;
       far = h .far;

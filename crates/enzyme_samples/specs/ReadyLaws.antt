@@ -6,32 +6,33 @@ use mathlib.Core.Logic.{_⊎_, inl, inr, ⊎-elim}
 use mathlib.Core.List.{List, [], _∷_, _++_, append-assoc}
 use native.Mathlib.Omega.{arith}
 use lib.ListN.{length, drop, getD, length-take, length-drop}
+use Rattle.enzyme_cuts.specs.InsideLaws.{part-length}
 use Rattle.lists.specs.Tests.{same?, truth?}
 use Rattle.lists.specs.Lists.{same}
 use Rattle.lists.specs.SameLaws.{same-refl, same-eq, same-short}
 use Rattle.enzyme_cuts.specs.Cutting.{Range, site, part, seenIn}
-use Rattle.enzyme_cuts.specs.Work.{Inside}
+use Rattle.enzyme_cuts.specs.Work.{RangesWithin}
 use Rattle.enzyme_keep.specs.declared.offering.Terms.{Terms}
 use Rattle.enzyme_keep.specs.Buffer.{rangesIn}
-use Rattle.enzyme_keep.specs.Steps.{room, after, offered}
+use Rattle.enzyme_keep.specs.Steps.{digestRoom, after, offered}
 use Rattle.enzyme_keep.specs.StepLaws.{view-then, view-full}
 use Rattle.enzyme_once.specs.ThinLaws.{Hit, hit-left, hit-right, hit-either}
-use Rattle.enzyme_once.specs.DistinctLaws.{Distinct}
-use Rattle.enzyme_list.specs.OfferLaws.{keeps-start, knows-start}
+use Rattle.enzyme_once.specs.DistinctLaws.{NoRangeTwice}
+use Rattle.enzyme_list.specs.OfferLaws.{keeps-start, list-tells-start}
 use Rattle.enzyme_samples.specs.declared.offering.Run.{Run}
 use Rattle.enzyme_samples.specs.declared.offering.Offered.{Offered}
 use Rattle.enzyme_samples.specs.declared.offering.Offered.the-variants.{Left, NoRoom}
-use Rattle.enzyme_samples.specs.Ready.{started, Ready, stepOf, Offers}
+use Rattle.enzyme_samples.specs.Ready.{runStarted, RangesReady, runStep, Offers}
 use Rattle.enzyme_words.specs.Words.{Far}
 
 -- ---- ranges that stand once
 
-distinct-left : (xs ys : List Range) → Distinct (xs ++ ys) → Distinct xs
+distinct-left : (xs ys : List Range) → NoRangeTwice (xs ++ ys) → NoRangeTwice xs
 distinct-left [] ys d = tt
 distinct-left (x ∷ xs) ys d = (λ h. d .0 (hit-left (x .from) (x .to) xs ys h), distinct-left xs ys (d .1))
 
 -- one of them left out
-pub distinct-less : (xs : List Range) (r : Range) (ys : List Range) → Distinct (xs ++ (r ∷ ys)) → Distinct (xs ++ ys)
+pub distinct-less : (xs : List Range) (r : Range) (ys : List Range) → NoRangeTwice (xs ++ (r ∷ ys)) → NoRangeTwice (xs ++ ys)
 distinct-less [] r ys d = d .1
 distinct-less (x ∷ xs) r ys d = (λ h. d .0 (more (hit-either (x .from) (x .to) xs ys h)), distinct-less xs r ys (d .1))
   where
@@ -39,18 +40,15 @@ distinct-less (x ∷ xs) r ys d = (λ h. d .0 (more (hit-either (x .from) (x .to
     more (inl h) = hit-left (x .from) (x .to) xs (r ∷ ys) h
     more (inr h) = hit-right (x .from) (x .to) xs (r ∷ ys) (inr h)
 
-inside-left : (n : ℕ) (xs ys : List Range) → Inside n (xs ++ ys) → Inside n xs
+inside-left : (n : ℕ) (xs ys : List Range) → RangesWithin n (xs ++ ys) → RangesWithin n xs
 inside-left n [] ys i = tt
 inside-left n (x ∷ xs) ys i = (i .0, i .1, inside-left n xs ys (i .2))
 
-inside-right : (n : ℕ) (xs ys : List Range) → Inside n (xs ++ ys) → Inside n ys
+inside-right : (n : ℕ) (xs ys : List Range) → RangesWithin n (xs ++ ys) → RangesWithin n ys
 inside-right n [] ys i = i
 inside-right n (x ∷ xs) ys i = inside-right n xs ys (i .2)
 
 -- ---- letters that stand at one place
-
-part-length : (s : List ℕ) (r : Range) → r .from ≤ r .to → r .to ≤ length s → length (part s r) ≡ r .to - r .from
-part-length s r i j = length-take (r .to - r .from) (drop (r .from) s) ∙ rw (length-drop (r .from) s) (omega arith)
 
 -- a range longer than what f has for its start has other letters than any other range
 pub far-new : (s f : List ℕ) (r k : Range) → Far s f → r .from ≤ r .to → r .to ≤ length s → k .from ≤ k .to → k .to ≤ length s → getD f (r .from) 0 < r .to - r .from
@@ -78,8 +76,8 @@ same-back a b h = ⊎-elim (λ (e : same b a ≡ true). absurd (no e)) (λ (e : 
         let y : _≡_ {A = ℕ} 0 1 = cc in
         omega arith
 
-pub far-unseen : (s f : List ℕ) (ks : List Range) (r : Range) (rest : List Range) → Far s f → Inside (length s) ks → r .from ≤ r .to → r .to ≤ length s → getD f (r .from) 0 < r .to - r .from
-    → Distinct (ks ++ (r ∷ rest)) → seenIn s ks (part s r) ≡ false
+pub far-unseen : (s f : List ℕ) (ks : List Range) (r : Range) (rest : List Range) → Far s f → RangesWithin (length s) ks → r .from ≤ r .to → r .to ≤ length s → getD f (r .from) 0 < r .to - r .from
+    → NoRangeTwice (ks ++ (r ∷ rest)) → seenIn s ks (part s r) ≡ false
 far-unseen s f [] r rest far ins i j long d = refl
 far-unseen s f (k ∷ ks) r rest far ins i j long d =
     let x : same (part s r) (part s k) ≡ false =
@@ -89,18 +87,18 @@ far-unseen s f (k ∷ ks) r rest far ins i j long d =
 -- ---- lists of ranges, one after the other
 
 -- no record yet
-pub ready-start : (s f : List ℕ) (rs : List Range) (out marks : List ℕ) → length s ≤ 65536 → Far s f → Inside (length s) rs → Distinct rs → Ready s f rs started out marks
+pub ready-start : (s f : List ℕ) (rs : List Range) (out marks : List ℕ) → length s ≤ 65536 → Far s f → RangesWithin (length s) rs → NoRangeTwice rs → RangesReady s f rs runStarted out marks
 ready-start s f rs out marks h far i d = record {
   keeps = keeps-start s out h;
   far = far;
-  knows = λ a e p q l. knows-start s out (part s (site a e));
+  knows = λ a e p q l. list-tells-start s out (part s (site a e));
   marked = record { room = omega arith; listed = λ i l. absurd (omega arith) };
   inside = i;
   once = d;
 }
 
 -- the first of them may be offered
-pub ready-first : {s f : List ℕ} {run : Run} {out marks : List ℕ} (xs ys : List Range) → Ready s f (xs ++ ys) run out marks → Ready s f xs run out marks
+pub ready-first : {s f : List ℕ} {run : Run} {out marks : List ℕ} (xs ys : List Range) → RangesReady s f (xs ++ ys) run out marks → RangesReady s f xs run out marks
 ready-first {s} {f} {run} {out} {marks} xs ys h = record {
   keeps = h .keeps;
   far = h .far;
@@ -117,7 +115,7 @@ module _ {s f : List ℕ} {t : Terms} {run : Run} {out marks : List ℕ} where
   pub offers-then : {xs ys : List Range} {at : Run} {o m : List ℕ} {a : Offered} {o′ m′ : List ℕ} → Offers s f t xs run out marks (Left at) o m → Offers s f t ys at o m a o′ m′
       → Offers s f t (xs ++ ys) run out marks a o′ m′
   offers-then {xs} {ys} {at} {o} {m} {a} {o′} {m′} x y = record {
-    view = view-then s t xs ys (run .count) out (at .count) o (stepOf a) o′ (x .view) (y .view);
+    view = view-then s t xs ys (run .count) out (at .count) o (runStep a) o′ (x .view) (y .view);
     next = λ rest h. y .next rest (x .next (ys ++ rest) (rw (append-assoc xs ys rest) at h));
   }
 
@@ -126,16 +124,16 @@ module _ {s f : List ℕ} {t : Terms} {run : Run} {out marks : List ℕ} where
 
 -- ---- what is ahead of a loop: offering the rest gives the claim
 
-abbrev pub Ahead : List ℕ → List ℕ → Terms → (Offered → List ℕ → List ℕ → Type 0) → List Range → Run → List ℕ → List ℕ → Type 0
-Ahead s f t claim rest run out marks = (a : Offered) (o m : List ℕ) → Offers s f t rest run out marks a o m → claim a o m
+abbrev pub LeadsTo : List ℕ → List ℕ → Terms → (Offered → List ℕ → List ℕ → Type 0) → List Range → Run → List ℕ → List ℕ → Type 0
+LeadsTo s f t claim rest run out marks = (a : Offered) (o m : List ℕ) → Offers s f t rest run out marks a o m → claim a o m
 
 module _ {s f : List ℕ} {t : Terms} {claim : Offered → List ℕ → List ℕ → Type 0} {run : Run} {out marks : List ℕ} where
-  pub ahead-end : Ahead s f t claim [] run out marks → claim (Left run) out marks
-  ahead-end g = g (Left run) out marks offers-none
+  pub leads-end : LeadsTo s f t claim [] run out marks → claim (Left run) out marks
+  leads-end g = g (Left run) out marks offers-none
 
-  module _ (xs ys : List Range) (g : Ahead s f t claim (xs ++ ys) run out marks) {o m : List ℕ} where
-    pub ahead-on : {at : Run} → Offers s f t xs run out marks (Left at) o m → Ahead s f t claim ys at o m
-    ahead-on x a o′ m′ y = g a o′ m′ (offers-then x y)
+  module _ (xs ys : List Range) (g : LeadsTo s f t claim (xs ++ ys) run out marks) {o m : List ℕ} where
+    pub leads-on : {at : Run} → Offers s f t xs run out marks (Left at) o m → LeadsTo s f t claim ys at o m
+    leads-on x a o′ m′ y = g a o′ m′ (offers-then x y)
 
-    pub ahead-full : Offers s f t xs run out marks NoRoom o m → claim NoRoom o m
-    ahead-full x = g NoRoom o m (offers-full ys x)
+    pub leads-full : Offers s f t xs run out marks NoRoom o m → claim NoRoom o m
+    leads-full x = g NoRoom o m (offers-full ys x)

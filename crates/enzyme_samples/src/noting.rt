@@ -4,7 +4,7 @@ ghost use mathlib.Core.Path.{_≡_};
 ghost use mathlib.Core.Bool.{false};
 ghost use Prim.Native.Nat.{_-_, _*_, _≤_, _<_};
 ghost use lib.ListN.{length};
-ghost use Rattle.enzyme_search.specs.Marks.{Chained, Marked};
+ghost use Rattle.enzyme_search.specs.Marks.{Chained, SamplesListed};
 ghost use Rattle.enzyme_samples.specs.Ready.{Noted};
 
 // Whether there are as many samples as there may be. Making way for one more costs as many moves as there are samples, but
@@ -31,7 +31,7 @@ fn doubled(limit: usize) -> usize {
 // follows no more links than that; nothing rests on it, and it is not proved. 777,000 records of 60,000 letters came to a
 // limit of 64 with 65,536 marks.
 fn settle(letters: &[u8], out: &[u8], marks: &mut [u32], run: Run, j: usize, size: u32) -> Run
-    requires { ⌜ (16 * run .count ≤ length (now out)) × (run .count ≤ 1048576) × Marked (run .count) (run .head) (now out) (now marks) (run .samples) × (j < run .samples) ⌝ }
+    requires { ⌜ (16 * run .count ≤ length (now out)) × (run .count ≤ 1048576) × SamplesListed (run .count) (run .head) (now out) (now marks) (run .samples) × (j < run .samples) ⌝ }
     ensures { λ r. ⌜ Noted run (now (out .entry)) (now (marks .exit)) r ⌝ }
 {
     if (size as usize) < run.limit {
@@ -80,7 +80,7 @@ pub(crate) fn note(
     k: usize,
     head: u32,
 ) -> Run
-    requires { ⌜ (16 * run .count ≤ length (now out)) × (run .count ≤ 1048576) × Chained (run .count) (run .head) (now out) × Marked (run .count) (run .head) (now out) (now marks) (run .samples) × (k ≤ run .samples) ⌝ }
+    requires { ⌜ (16 * run .count ≤ length (now out)) × (run .count ≤ 1048576) × Chained (run .count) (run .head) (now out) × SamplesListed (run .count) (run .head) (now out) (now marks) (run .samples) × (k ≤ run .samples) ⌝ }
     ensures { λ r. ⌜ Noted run (now (out .entry)) (now (marks .exit)) r ⌝ }
 {
     if marks.len() < 3 {

@@ -6,7 +6,7 @@ ghost use mathlib.Core.List.{[], _∷_};
 ghost use Prim.Native.Nat.{_-_, _≤_, _<_};
 ghost use lib.ListN.{getD};
 ghost use Rattle.enzyme_cuts.specs.Cutting.{range};
-ghost use Rattle.enzyme_samples.specs.Ready.{started, Ready, Offers};
+ghost use Rattle.enzyme_samples.specs.Ready.{runStarted, RangesReady, Offers};
 
 // How many records there are, the first of the list, and how many samples of it there are: the first of them is the
 // list's first, and from each to the next there are fewer than `limit` records.
@@ -25,7 +25,7 @@ pub enum Offered {
 
 // No record yet.
 pub fn start_run() -> Run
-    ensures { λ r. ⌜ r ≡ started ⌝ }
+    ensures { λ r. ⌜ r ≡ runStarted ⌝ }
 {
     Run {
         count: 0,
@@ -55,7 +55,7 @@ fn write_range(
     marks: &[u32],
     run: Run,
 ) -> Offered
-    requires { ⌜ Ready (now letters) (now far) (range a e missed semi ∷ []) run (now out) (now marks) × (getD (now far) a 0 < e - a) ⌝ }
+    requires { ⌜ RangesReady (now letters) (now far) (range a e missed semi ∷ []) run (now out) (now marks) × (getD (now far) a 0 < e - a) ⌝ }
     ensures { λ r. ⌜ Offers (now (letters .entry)) (now (far .entry)) terms (range a e missed semi ∷ []) run (now (out .entry)) (now (marks .entry)) r (now (out .exit)) (now (marks .entry)) ⌝ }
 {
     let got = enzyme_list::write(letters, a, e, missed, semi, terms, out, run.count, run.head);
@@ -83,7 +83,7 @@ fn seek_range(
     marks: &mut [u32],
     run: Run,
 ) -> Offered
-    requires { ⌜ Ready (now letters) (now far) (range a e missed semi ∷ []) run (now out) (now marks) × (e - a ≤ getD (now far) a 0) ⌝ }
+    requires { ⌜ RangesReady (now letters) (now far) (range a e missed semi ∷ []) run (now out) (now marks) × (e - a ≤ getD (now far) a 0) ⌝ }
     ensures { λ r. ⌜ Offers (now (letters .entry)) (now (far .entry)) terms (range a e missed semi ∷ []) run (now (out .entry)) (now (marks .entry)) r (now (out .exit)) (now (marks .exit)) ⌝ }
 {
     let head = enzyme_search::head_of(&letters[a..e]);
@@ -130,7 +130,7 @@ pub fn offer_range(
     marks: &mut [u32],
     run: Run,
 ) -> Offered
-    requires { ⌜ Ready (now letters) (now far) (range a e missed semi ∷ []) run (now out) (now marks) ⌝ }
+    requires { ⌜ RangesReady (now letters) (now far) (range a e missed semi ∷ []) run (now out) (now marks) ⌝ }
     ensures { λ r. ⌜ Offers (now (letters .entry)) (now (far .entry)) terms (range a e missed semi ∷ []) run (now (out .entry)) (now (marks .entry)) r (now (out .exit)) (now (marks .exit)) ⌝ }
 {
     if enzyme_keep::length_within(e - a, terms.minimum, terms.maximum) {

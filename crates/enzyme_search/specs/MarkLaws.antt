@@ -7,14 +7,15 @@ use native.Mathlib.Omega.{arith}
 use lib.ListN.{length, getD, set, length-set}
 use lib.Seq.{getD-set-same, getD-set-other}
 use borrow.Author.Tests.{eq-eqb, ne-eqb}
+use Rattle.lists.specs.FrameLaws.{framed-none, framed-then, framed-within, framed-set}
 use Rattle.lists.specs.Tests.{same?, below?}
 use Rattle.enzyme_cuts.specs.Cutting.{Range}
 use Rattle.enzyme_keep.specs.Buffer.{rangesIn, linksIn}
-use Rattle.enzyme_order.specs.Order.{orderOf}
-use Rattle.enzyme_list.specs.Chain.{textOf, nextOf, Begun}
+use Rattle.enzyme_order.specs.Order.{compared}
+use Rattle.enzyme_list.specs.Chain.{recordText, nextOf, Begun}
 use Rattle.enzyme_list.specs.Offer.{Keeps, Has}
 use Rattle.enzyme_list.specs.OfferLaws.{keeps-begun, has-begun, has-within, has-first, has-next}
-use Rattle.enzyme_search.specs.Marks.{markAt, sampleOf, Marked, Numbered, Below, Chained, Has0, Alike, First, MovedUp, PutIn, Thinned, Thinning}
+use Rattle.enzyme_search.specs.Marks.{markAt, sampleOf, SamplesListed, SamplesNumbered, Below, Chained, Has0, SameSamples, First, MovedUp, PutIn, Thinned, Thinning}
 
 -- ---- samples as they are read
 
@@ -24,9 +25,9 @@ sample-none marks k e = rw (eq-eqb k 0 e)
 pub sample-at : (marks : List ℕ) (k : ℕ) → (k ≡ 0 → ⊥) → sampleOf marks k ≡ markAt marks (k - 1)
 sample-at marks k e = rw (ne-eqb k 0 e)
 
-module _ (count head : ℕ) (out marks : List ℕ) (samples : ℕ) (m : Marked count head out marks samples) where
-  pub marked-numbered : Numbered count marks samples
-  marked-numbered = record {
+module _ (count head : ℕ) (out marks : List ℕ) (samples : ℕ) (m : SamplesListed count head out marks samples) where
+  pub listed-numbered : SamplesNumbered count marks samples
+  listed-numbered = record {
     room = m .room;
     some = λ i l. has-within count head out (markAt marks i) (m .listed i l) .0;
     few = λ i l. has-within count head out (markAt marks i) (m .listed i l) .1;
@@ -49,24 +50,24 @@ module _ (count head : ℕ) (out marks : List ℕ) (samples : ℕ) (m : Marked c
       let e : j + 1 - 1 ≡ j = omega arith in
       rw (sample-at marks (j + 1) (λ z. omega arith), e) (m .listed j l)
 
-  pub alike-marked : (new : List ℕ) → Alike marks new → Marked count head out new samples
-  alike-marked new a = let l = a .long in let r = m .room in record { room = omega arith; listed = λ i h. rw (a .marks i) (m .listed i h) }
+  pub same-samples-listed : (new : List ℕ) → SameSamples marks new → SamplesListed count head out new samples
+  same-samples-listed new a = let l = a .long in let r = m .room in record { room = omega arith; listed = λ i h. rw (a .marks i) (m .listed i h) }
 
-  pub first-marked : (t k : ℕ) (new : List ℕ) (n : ℕ) → Has count head out t → First marks samples t k new n → Marked count head out new n
+  pub first-marked : (t k : ℕ) (new : List ℕ) (n : ℕ) → Has count head out t → First marks samples t k new n → SamplesListed count head out new n
   first-marked t k new n h f = let l = f .long in let r = f .room in record { room = omega arith; listed = λ i b. go i (f .marks i b) }
     where
       go : (i : ℕ) → (markAt new i ≡ t) ⊎ ((i < samples) × (markAt new i ≡ markAt marks i)) → Has count head out (markAt new i)
       go i (inl e) = rw e h
       go i (inr e) = rw (e .1) (m .listed i (e .0))
 
-  pub put-marked : (t : ℕ) (new : List ℕ) → Has count head out t → 3 * samples + 3 ≤ length marks → PutIn marks samples t new → Marked count head out new (samples + 1)
+  pub put-marked : (t : ℕ) (new : List ℕ) → Has count head out t → 3 * samples + 3 ≤ length marks → PutIn marks samples t new → SamplesListed count head out new (samples + 1)
   put-marked t new h room f = let l = f .long in record { room = omega arith; listed = λ i b. go i (f .marks i b) }
     where
       go : (i : ℕ) → (markAt new i ≡ t) ⊎ ((j : ℕ) × (j < samples) × (markAt new i ≡ markAt marks j)) → Has count head out (markAt new i)
       go i (inl e) = rw e h
       go i (inr e) = rw (e .2) (m .listed (e .0) (e .1))
 
-  pub thin-marked : (new : List ℕ) (n : ℕ) → Thinned marks samples n new → Marked count head out new n
+  pub thin-marked : (new : List ℕ) (n : ℕ) → Thinned marks samples n new → SamplesListed count head out new n
   thin-marked new n f = record { room = room (below? 0 n); listed = λ i b. rw (f .marks i b) (m .listed (2 * i) (f .few i b)) }
     where
       room : (0 < n) ⊎ (n ≤ 0) → 3 * n ≤ length new
@@ -84,7 +85,7 @@ has-few count head out t h = ⊎-elim (λ (y : 0 < t). has-within count head out
 pub chained-first : (count head : ℕ) (out : List ℕ) → Chained count head out → Has0 count head out head
 chained-first count head out c p = has-first count head out (c .0) (c .1) p
 
-pub below-here : (s : List ℕ) (ks : List Range) (marks : List ℕ) (samples : ℕ) (new : List ℕ) (m : ℕ) → m < samples → orderOf (textOf s ks (markAt marks m)) new ≡ 0 → Below s ks marks samples new (m + 1)
+pub below-here : (s : List ℕ) (ks : List Range) (marks : List ℕ) (samples : ℕ) (new : List ℕ) (m : ℕ) → m < samples → compared (recordText s ks (markAt marks m)) new ≡ 0 → Below s ks marks samples new (m + 1)
 below-here s ks marks samples new m l o =
     let e : m + 1 - 1 ≡ m = omega arith in
     record { within = omega arith; below = λ p. rw e o }
@@ -98,7 +99,7 @@ Beside p = (x : ℕ) → 3 * x ≡ p → ⊥
 stored-beside : (m : List ℕ) (p v : ℕ) → Beside p → (x : ℕ) → markAt (set m p v) x ≡ markAt m x
 stored-beside m p v b x = getD-set-other m p (3 * x) v 0 (b x)
 
-pub sized-alike : (m : List ℕ) (i v : ℕ) → Alike m (set m (3 * i + 1) v)
+pub sized-alike : (m : List ℕ) (i v : ℕ) → SameSamples m (set m (3 * i + 1) v)
 sized-alike m i v = record { long = length-set m (3 * i + 1) v; marks = stored-beside m (3 * i + 1) v (λ x e. omega arith) }
 
 -- a sample is stored
@@ -118,19 +119,20 @@ module _ (m : List ℕ) (i t v w : ℕ) where
 -- ---- those from a place on move up
 
 pub moved-none : (old : List ℕ) (high : ℕ) → MovedUp old high high old
-moved-none old high = record { long = refl; before = λ x h. refl; on = λ x h l. absurd (omega arith) }
+moved-none old high = record { long = refl; rest = framed-none high (high + 3) old; on = λ x h l. absurd (omega arith) }
 
 pub moved-on : (old new : List ℕ) (i high : ℕ) → 0 < i → i ≤ high → high + 3 ≤ length old → MovedUp old i high new → MovedUp old (i - 1) high (set new (i - 1 + 3) (getD new (i - 1) 0))
 moved-on old new i high p q room m = record {
   long = length-set new (i - 1 + 3) (getD new (i - 1) 0) ∙ m .long;
-  before = λ x h. getD-set-other new (i - 1 + 3) x (getD new (i - 1) 0) 0 (λ e. omega arith) ∙ m .before x (omega arith);
+  rest = framed-then (i - 1) (high + 3) old new (set new (i - 1 + 3) (getD new (i - 1) 0)) (framed-within (i - 1) i (high + 3) (high + 3) old new (omega arith) (omega arith) (m .rest))
+      (framed-set (i - 1) (high + 3) (i - 1 + 3) (getD new (i - 1) 0) new (omega arith) (omega arith));
   on = λ x h l. on x h l (same? x (i - 1));
 }
   where
     on : (x : ℕ) → i - 1 ≤ x → x < high → (x ≡ i - 1) ⊎ (x ≡ i - 1 → ⊥) → getD (set new (i - 1 + 3) (getD new (i - 1) 0)) (x + 3) 0 ≡ getD old x 0
     on x h l (inl e) =
         let n = m .long in
-        rw e (getD-set-same new (i - 1 + 3) (getD new (i - 1) 0) 0 (omega arith) ∙ m .before (i - 1) (omega arith))
+        rw e (getD-set-same new (i - 1 + 3) (getD new (i - 1) 0) 0 (omega arith) ∙ m .rest (i - 1) (inl (omega arith)))
     on x h l (inr n) =
         let k : i ≤ x = ⊎-elim (λ (y : x < i). absurd (n (omega arith))) (λ (y : i ≤ x). y) (below? x i) in
         getD-set-other new (i - 1 + 3) (x + 3) (getD new (i - 1) 0) 0 (λ e. omega arith) ∙ m .on x k l
@@ -205,15 +207,15 @@ module _ (old up : List ℕ) (samples j t head left right : ℕ) (room : 3 * sam
 
   put-at : (i : ℕ) → i < samples + 1 → (i ≡ j) ⊎ (i ≡ j → ⊥) → (i < j) ⊎ (j ≤ i) → (markAt put i ≡ t) ⊎ ((x : ℕ) × (x < samples) × (markAt put i ≡ markAt old x))
   put-at i h (inl e) b = let n = m .long in inl (past i ∙ rw e (stored-here up j t right head (omega arith)))
-  put-at i h (inr n) (inl b) = inr (i, omega arith, past i ∙ stored-other up j t right head i n ∙ m .before (3 * i) (omega arith))
+  put-at i h (inr n) (inl b) = inr (i, omega arith, past i ∙ stored-other up j t right head i n ∙ m .rest (3 * i) (inl (omega arith)))
   put-at i h (inr n) (inr b) =
       let k : j ≤ i - 1 = ⊎-elim (λ (y : j < i). omega arith) (λ (y : i ≤ j). absurd (n (omega arith))) (below? j i) in
       let e : 3 * (i - 1) + 3 ≡ 3 * i = omega arith in
       let z = m .on (3 * (i - 1)) (omega arith) (omega arith) in
       inr (i - 1, omega arith, past i ∙ stored-other up j t right head i n ∙ (rw e at z))
 
-  pub put-more : PutIn old samples t put
-  put-more = record {
+  pub put-in-more : PutIn old samples t put
+  put-in-more = record {
     long = length-set (set (set (set up (3 * j) t) (3 * j + 1) right) (3 * j + 2) head) (3 * j - 2) left ∙ stored-long up j t right head ∙ m .long;
     marks = λ i h. put-at i h (same? i j) (below? i j);
   }

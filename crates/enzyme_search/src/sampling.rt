@@ -4,9 +4,9 @@ ghost use mathlib.Core.Path.{_≡_};
 ghost use Prim.Native.Nat.{_*_, _≤_, _<_};
 ghost use lib.ListN.{length};
 ghost use Rattle.enzyme_cuts.specs.Cutting.{site, part};
-ghost use Rattle.enzyme_cuts.specs.Work.{Inside};
+ghost use Rattle.enzyme_cuts.specs.Work.{RangesWithin};
 ghost use Rattle.enzyme_keep.specs.Buffer.{rangesIn};
-ghost use Rattle.enzyme_search.specs.Marks.{sampleOf, Numbered, Below};
+ghost use Rattle.enzyme_search.specs.Marks.{sampleOf, SamplesNumbered, Below};
 
 fn letter_at(text: &[u8], i: usize) -> u32
     ensures { λ r. ⌜ r < 32 ⌝ }
@@ -59,7 +59,7 @@ fn stands_below(
     e: usize,
     head: u32,
 ) -> bool
-    requires { ⌜ (16 * count ≤ length (now out)) × Inside (length (now letters)) (rangesIn count (now out)) × (a ≤ e) × (e ≤ length (now letters)) × Numbered count (now marks) samples × (j < samples) ⌝ }
+    requires { ⌜ (16 * count ≤ length (now out)) × RangesWithin (length (now letters)) (rangesIn count (now out)) × (a ≤ e) × (e ≤ length (now letters)) × SamplesNumbered count (now marks) samples × (j < samples) ⌝ }
 {
     let x = marks[3 * j + 2];
     if x < head {
@@ -83,7 +83,7 @@ fn how_many_below(
     e: usize,
     head: u32,
 ) -> usize
-    requires { ⌜ (16 * count ≤ length (now out)) × Inside (length (now letters)) (rangesIn count (now out)) × (a ≤ e) × (e ≤ length (now letters)) × Numbered count (now marks) samples ⌝ }
+    requires { ⌜ (16 * count ≤ length (now out)) × RangesWithin (length (now letters)) (rangesIn count (now out)) × (a ≤ e) × (e ≤ length (now letters)) × SamplesNumbered count (now marks) samples ⌝ }
     ensures { λ r. ⌜ r ≤ samples ⌝ }
 {
     let mut lo = 0;
@@ -111,7 +111,7 @@ pub fn last_below(
     e: usize,
     head: u32,
 ) -> usize
-    requires { ⌜ (16 * count ≤ length (now out)) × Inside (length (now letters)) (rangesIn count (now out)) × (a ≤ e) × (e ≤ length (now letters)) × Numbered count (now marks) samples ⌝ }
+    requires { ⌜ (16 * count ≤ length (now out)) × RangesWithin (length (now letters)) (rangesIn count (now out)) × (a ≤ e) × (e ≤ length (now letters)) × SamplesNumbered count (now marks) samples ⌝ }
     ensures { λ r. ⌜ Below (now (letters .entry)) (rangesIn count (now (out .entry))) (now (marks .entry)) samples (part (now (letters .entry)) (site a e)) r ⌝ }
 {
     let k = how_many_below(letters, out, count, marks, samples, a, e, head);

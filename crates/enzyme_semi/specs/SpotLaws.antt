@@ -6,16 +6,15 @@ use native.Mathlib.Omega.{arith}
 use lib.ListN.{length, take, getD, length-append}
 use Rattle.enzyme_cuts.specs.declared.kinds.Knife.{Knife}
 use Rattle.enzyme_cuts.specs.Cutting.{Range, site, setSites, windowsFrom}
-use Rattle.enzyme_windows.specs.Pieces.{pieces, joined, placed}
-use Rattle.enzyme_windows.specs.StartLaws.{startOf}
-use Rattle.enzyme_once.specs.Once.{filled}
+use Rattle.enzyme_windows.specs.Pieces.{pieces, endToEnd, placesFrom}
+use Rattle.enzyme_windows.specs.SiteLaws.{nonEmpty, sites-pieces}
+use Rattle.enzyme_windows.specs.StartLaws.{pieceStart}
 use Rattle.enzyme_once.specs.SpotLaws.{spots}
 use Rattle.enzyme_fresh.specs.Fresh.{freshFrom, fresh}
-use Rattle.enzyme_fresh.specs.FreshLaws.{filled-pieces}
 use Rattle.enzyme_sites.specs.Starts.{Starts}
-use Rattle.enzyme_parts.specs.Walk.{placeIn, sitesIn}
+use Rattle.enzyme_parts.specs.Walk.{siteStart, sitesIn}
 
-placed-spots : (f : ℕ → ℕ) (i a : ℕ) (ts : List (List ℕ)) → ((j : ℕ) → j ≤ length ts → f (i + j) ≡ a + startOf ts j) → placed a ts ≡ spots f i (length ts)
+placed-spots : (f : ℕ → ℕ) (i a : ℕ) (ts : List (List ℕ)) → ((j : ℕ) → j ≤ length ts → f (i + j) ≡ a + pieceStart ts j) → placesFrom a ts ≡ spots f i (length ts)
 placed-spots f i a [] h = refl
 placed-spots f i a (t ∷ ts) h =
     let p : i + 0 ≡ i = omega arith in
@@ -25,19 +24,19 @@ placed-spots f i a (t ∷ ts) h =
     let y : f (suc i) ≡ a + length t = rw (q, append-nil t) at (h 1 (omega arith)) in
     rw (x, y) (ap (λ (rs : List Range). site a (a + length t) ∷ rs) (placed-spots f (suc i) (a + length t) ts (λ j l.
     let e : suc i + j ≡ i + suc j = omega arith in
-    let z = length-append t (joined (take j ts)) in
+    let z = length-append t (endToEnd (take j ts)) in
     ap f e ∙ h (suc j) (omega arith) ∙ omega arith)))
 
-pub filled-spots : (k : Knife) (s x : List ℕ) (m : ℕ) → Starts k s x m → filled (setSites k 0 0 s) ≡ sitesIn x m
-filled-spots k s x m g =
-    let h : (j : ℕ) → j ≤ length (pieces k s) → placeIn x (0 + j) ≡ 0 + startOf (pieces k s) j = λ j l.
+pub non-empty-spots : (k : Knife) (s x : List ℕ) (m : ℕ) → Starts k s x m → nonEmpty (setSites k 0 0 s) ≡ sitesIn x m
+non-empty-spots k s x m g =
+    let h : (j : ℕ) → j ≤ length (pieces k s) → siteStart x (0 + j) ≡ 0 + pieceStart (pieces k s) j = λ j l.
     let e : 0 + j ≡ j = omega arith in
     let n = g .count in
-    let d : getD x j 0 ≡ startOf (pieces k s) j = g .at j (omega arith) in
-    ap (placeIn x) e ∙ omega arith in
-    filled-pieces k s ∙ placed-spots (placeIn x) 0 0 (pieces k s) h ∙ rw (g .count)
+    let d : getD x j 0 ≡ pieceStart (pieces k s) j = g .at j (omega arith) in
+    ap (siteStart x) e ∙ omega arith in
+    sites-pieces k s ∙ placed-spots (siteStart x) 0 0 (pieces k s) h ∙ rw (g .count)
 
 -- all windows, and behind them the parts of those that are new
 pub fresh-spots : (f : ℕ → ℕ) (k : Knife) (missed : ℕ) (s x : List ℕ) (m : ℕ) → Starts k s x m
     → fresh f k missed s ≡ windowsFrom 0 (suc missed) (sitesIn x m) ++ freshFrom f 0 (suc missed) (sitesIn x m)
-fresh-spots f k missed s x m g = ap (λ (rs : List Range). windowsFrom 0 (suc missed) rs ++ freshFrom f 0 (suc missed) rs) (filled-spots k s x m g)
+fresh-spots f k missed s x m g = ap (λ (rs : List Range). windowsFrom 0 (suc missed) rs ++ freshFrom f 0 (suc missed) rs) (non-empty-spots k s x m g)

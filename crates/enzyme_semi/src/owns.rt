@@ -9,7 +9,7 @@ ghost use Prim.Native.Nat.{suc, _+_, _<_, _≤_};
 ghost use lib.ListN.{length};
 ghost use Rattle.enzyme_once.specs.Once.{own};
 ghost use Rattle.enzyme_fresh.specs.Fresh.{freshOwns, freshFrom};
-ghost use Rattle.enzyme_samples.specs.Ready.{Ready, Offers};
+ghost use Rattle.enzyme_samples.specs.Ready.{RangesReady, Offers};
 ghost use Rattle.enzyme_parts.specs.Walk.{sitesIn, siteIn, sharedIn, freshIn};
 
 // Offers the parts of the window of the sites i to j.
@@ -25,7 +25,7 @@ fn offer_parts(
     marks: &mut [u32],
     run: Run,
 ) -> Offered
-    requires { ⌜ (i ≤ j) × (j + 1 < length (now starts)) × Ready (now letters) (now far) (own missed (siteIn (now starts) i) (siteIn (now starts) j)) run (now out) (now marks) ⌝ }
+    requires { ⌜ (i ≤ j) × (j + 1 < length (now starts)) × RangesReady (now letters) (now far) (own missed (siteIn (now starts) i) (siteIn (now starts) j)) run (now out) (now marks) ⌝ }
     ensures { λ r. ⌜ Offers (now (letters .entry)) (now (far .entry)) terms (own missed (siteIn (now (starts .entry)) i) (siteIn (now (starts .entry)) j)) run (now (out .entry)) (now (marks .entry)) r (now (out .exit)) (now (marks .exit)) ⌝ }
 {
     let a = place(starts, i);
@@ -56,7 +56,7 @@ fn offer_fresh(
     marks: &mut [u32],
     run: Run,
 ) -> Offered
-    requires { ⌜ (i ≤ j) × (j + 1 < length (now starts)) × Ready (now letters) (now far) (freshIn (now starts) (now share) missed i j) run (now out) (now marks) ⌝ }
+    requires { ⌜ (i ≤ j) × (j + 1 < length (now starts)) × RangesReady (now letters) (now far) (freshIn (now starts) (now share) missed i j) run (now out) (now marks) ⌝ }
     ensures { λ r. ⌜ Offers (now (letters .entry)) (now (far .entry)) terms (freshIn (now (starts .entry)) (now (share .entry)) missed i j) run (now (out .entry)) (now (marks .entry)) r (now (out .exit)) (now (marks .exit)) ⌝ }
 {
     if missed < shared(share, i) {
@@ -78,7 +78,7 @@ fn offer_owns(
     marks: &mut [u32],
     run: Run,
 ) -> Offered
-    requires { ⌜ (m < length (now starts)) × Ready (now letters) (now far) (freshOwns (sharedIn (now share)) missed (sitesIn (now starts) m)) run (now out) (now marks) ⌝ }
+    requires { ⌜ (m < length (now starts)) × RangesReady (now letters) (now far) (freshOwns (sharedIn (now share)) missed (sitesIn (now starts) m)) run (now out) (now marks) ⌝ }
     ensures { λ r. ⌜ Offers (now (letters .entry)) (now (far .entry)) terms (freshOwns (sharedIn (now (share .entry))) missed (sitesIn (now (starts .entry)) m)) run (now (out .entry)) (now (marks .entry)) r (now (out .exit)) (now (marks .exit)) ⌝ }
 {
     let mut i = 0;
@@ -120,7 +120,7 @@ pub(crate) fn offer_all_owns(
     marks: &mut [u32],
     run: Run,
 ) -> Offered
-    requires { ⌜ (m < length (now starts)) × (missed < 255) × Ready (now letters) (now far) (freshFrom (sharedIn (now share)) 0 (suc missed) (sitesIn (now starts) m)) run (now out) (now marks) ⌝ }
+    requires { ⌜ (m < length (now starts)) × (missed < 255) × RangesReady (now letters) (now far) (freshFrom (sharedIn (now share)) 0 (suc missed) (sitesIn (now starts) m)) run (now out) (now marks) ⌝ }
     ensures { λ r. ⌜ Offers (now (letters .entry)) (now (far .entry)) terms (freshFrom (sharedIn (now (share .entry))) 0 (suc missed) (sitesIn (now (starts .entry)) m)) run (now (out .entry)) (now (marks .entry)) r (now (out .exit)) (now (marks .exit)) ⌝ }
 {
     let mut k: u8 = 0;

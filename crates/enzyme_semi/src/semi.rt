@@ -14,7 +14,7 @@ ghost use Rattle.enzyme_cuts.specs.Cutting.{windowsFrom};
 ghost use Rattle.enzyme_keep.specs.Steps.{View};
 ghost use Rattle.enzyme_fresh.specs.Fresh.{freshFrom, fresh};
 ghost use Rattle.enzyme_sites.specs.Starts.{Starts};
-ghost use Rattle.enzyme_samples.specs.Ready.{Ready, Offers};
+ghost use Rattle.enzyme_samples.specs.Ready.{RangesReady, Offers};
 ghost use Rattle.enzyme_words.specs.Words.{Far};
 ghost use Rattle.enzyme_parts.specs.Walk.{sitesIn, sharedIn};
 
@@ -31,7 +31,7 @@ fn offer_both(
     marks: &mut [u32],
     run: Run,
 ) -> Offered
-    requires { ⌜ (m < length (now starts)) × (missed < 255) × Ready (now letters) (now far) (windowsFrom 0 (suc missed) (sitesIn (now starts) m) ++ freshFrom (sharedIn (now share)) 0 (suc missed) (sitesIn (now starts) m)) run (now out) (now marks) ⌝ }
+    requires { ⌜ (m < length (now starts)) × (missed < 255) × RangesReady (now letters) (now far) (windowsFrom 0 (suc missed) (sitesIn (now starts) m) ++ freshFrom (sharedIn (now share)) 0 (suc missed) (sitesIn (now starts) m)) run (now out) (now marks) ⌝ }
     ensures { λ r. ⌜ Offers (now (letters .entry)) (now (far .entry)) terms (windowsFrom 0 (suc missed) (sitesIn (now (starts .entry)) m) ++ freshFrom (sharedIn (now (share .entry))) 0 (suc missed) (sitesIn (now (starts .entry)) m)) run (now (out .entry)) (now (marks .entry)) r (now (out .exit)) (now (marks .exit)) ⌝ }
 {
     let Offered::Left(x) = offer_all_windows(

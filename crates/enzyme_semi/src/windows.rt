@@ -8,13 +8,13 @@ ghost use mathlib.Core.List.{[], _∷_};
 ghost use Prim.Native.Nat.{suc, _+_, _<_, _≤_};
 ghost use lib.ListN.{length};
 ghost use Rattle.enzyme_cuts.specs.Cutting.{range, windows, windowsFrom};
-ghost use Rattle.enzyme_samples.specs.Ready.{Ready, Offers};
-ghost use Rattle.enzyme_parts.specs.Walk.{placeIn, sitesIn};
+ghost use Rattle.enzyme_samples.specs.Ready.{RangesReady, Offers};
+ghost use Rattle.enzyme_parts.specs.Walk.{siteStart, sitesIn};
 
 // The place at which site i starts.
 pub(crate) fn place(starts: &[u32], i: usize) -> usize
     requires { ⌜ i < length (now starts) ⌝ }
-    ensures { λ r. ⌜ (r ≡ placeIn (now (starts .entry)) i) × (r < 4294967296) ⌝ }
+    ensures { λ r. ⌜ (r ≡ siteStart (now (starts .entry)) i) × (r < 4294967296) ⌝ }
 {
     starts[i] as usize
 }
@@ -32,8 +32,8 @@ fn offer_window(
     marks: &mut [u32],
     run: Run,
 ) -> Offered
-    requires { ⌜ (i ≤ j) × (j + 1 < length (now starts)) × Ready (now letters) (now far) (range (placeIn (now starts) i) (placeIn (now starts) (j + 1)) missed 0 ∷ []) run (now out) (now marks) ⌝ }
-    ensures { λ r. ⌜ Offers (now (letters .entry)) (now (far .entry)) terms (range (placeIn (now (starts .entry)) i) (placeIn (now (starts .entry)) (j + 1)) missed 0 ∷ []) run (now (out .entry)) (now (marks .entry)) r (now (out .exit)) (now (marks .exit)) ⌝ }
+    requires { ⌜ (i ≤ j) × (j + 1 < length (now starts)) × RangesReady (now letters) (now far) (range (siteStart (now starts) i) (siteStart (now starts) (j + 1)) missed 0 ∷ []) run (now out) (now marks) ⌝ }
+    ensures { λ r. ⌜ Offers (now (letters .entry)) (now (far .entry)) terms (range (siteStart (now (starts .entry)) i) (siteStart (now (starts .entry)) (j + 1)) missed 0 ∷ []) run (now (out .entry)) (now (marks .entry)) r (now (out .exit)) (now (marks .exit)) ⌝ }
 {
     let a = place(starts, i);
     let e = place(starts, j + 1);
@@ -52,7 +52,7 @@ fn offer_windows(
     marks: &mut [u32],
     run: Run,
 ) -> Offered
-    requires { ⌜ (m < length (now starts)) × Ready (now letters) (now far) (windows missed (sitesIn (now starts) m)) run (now out) (now marks) ⌝ }
+    requires { ⌜ (m < length (now starts)) × RangesReady (now letters) (now far) (windows missed (sitesIn (now starts) m)) run (now out) (now marks) ⌝ }
     ensures { λ r. ⌜ Offers (now (letters .entry)) (now (far .entry)) terms (windows missed (sitesIn (now (starts .entry)) m)) run (now (out .entry)) (now (marks .entry)) r (now (out .exit)) (now (marks .exit)) ⌝ }
 {
     let mut i = 0;
@@ -92,7 +92,7 @@ pub(crate) fn offer_all_windows(
     marks: &mut [u32],
     run: Run,
 ) -> Offered
-    requires { ⌜ (m < length (now starts)) × (missed < 255) × Ready (now letters) (now far) (windowsFrom 0 (suc missed) (sitesIn (now starts) m)) run (now out) (now marks) ⌝ }
+    requires { ⌜ (m < length (now starts)) × (missed < 255) × RangesReady (now letters) (now far) (windowsFrom 0 (suc missed) (sitesIn (now starts) m)) run (now out) (now marks) ⌝ }
     ensures { λ r. ⌜ Offers (now (letters .entry)) (now (far .entry)) terms (windowsFrom 0 (suc missed) (sitesIn (now (starts .entry)) m)) run (now (out .entry)) (now (marks .entry)) r (now (out .exit)) (now (marks .exit)) ⌝ }
 {
     let mut k: u8 = 0;

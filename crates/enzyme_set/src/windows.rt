@@ -6,7 +6,7 @@ ghost use mathlib.Core.Bool.{false};
 ghost use Prim.Native.Nat.{_+_, _≤_, _<_};
 ghost use lib.ListN.{length};
 ghost use Rattle.enzyme_cuts.specs.Work.{setWork};
-ghost use Rattle.enzyme_tables.specs.Listed.{Listed};
+ghost use Rattle.enzyme_tables.specs.Listed.{DigestsListed};
 
 // With tables that are lent: where the sites start; two for their order; their names, and the ranks of windows; how many sites each
 // window shares with an earlier one; and what was seen of their letters.
@@ -25,7 +25,7 @@ fn windows_over(
     seen: &mut [u8],
 ) -> Step
     requires { ⌜ (length (now letters) ≤ 65536) × (missed ≤ 16) × (length (now letters) < length (now starts)) × (length (now letters) ≤ length (now order)) × (length (now letters) ≤ length (now other)) × (length (now letters) ≤ length (now name)) × (length (now letters) ≤ length (now rank)) × (length (now letters) ≤ length (now share)) ⌝ }
-    ensures { λ r. ⌜ Listed (now (letters .entry)) terms (setWork knife false missed (now (letters .entry))) (now (out .entry)) r (now (out .exit)) ⌝ }
+    ensures { λ r. ⌜ DigestsListed (now (letters .entry)) terms (setWork knife false missed (now (letters .entry))) (now (out .entry)) r (now (out .exit)) ⌝ }
 {
     let m = enzyme_sites::sites(letters, knife, starts);
     let most = missed as usize + 1;
@@ -47,7 +47,7 @@ fn windows_over(
 // The same with tables of three sizes.
 pub fn windows_small(letters: &[u8], knife: Knife, missed: u8, terms: Terms, out: &mut [u8]) -> Step
     requires { ⌜ (length (now letters) ≤ 1024) × (missed ≤ 16) ⌝ }
-    ensures { λ r. ⌜ Listed (now (letters .entry)) terms (setWork knife false missed (now (letters .entry))) (now (out .entry)) r (now (out .exit)) ⌝ }
+    ensures { λ r. ⌜ DigestsListed (now (letters .entry)) terms (setWork knife false missed (now (letters .entry))) (now (out .entry)) r (now (out .exit)) ⌝ }
 {
     let mut starts = [0 as u32; 1025];
     let mut order = [0 as u16; 1024];
@@ -80,7 +80,7 @@ pub fn windows_middle(
     out: &mut [u8],
 ) -> Step
     requires { ⌜ (length (now letters) ≤ 8192) × (missed ≤ 16) ⌝ }
-    ensures { λ r. ⌜ Listed (now (letters .entry)) terms (setWork knife false missed (now (letters .entry))) (now (out .entry)) r (now (out .exit)) ⌝ }
+    ensures { λ r. ⌜ DigestsListed (now (letters .entry)) terms (setWork knife false missed (now (letters .entry))) (now (out .entry)) r (now (out .exit)) ⌝ }
 {
     let mut starts = [0 as u32; 8193];
     let mut order = [0 as u16; 8192];
@@ -107,7 +107,7 @@ pub fn windows_middle(
 
 pub fn windows_large(letters: &[u8], knife: Knife, missed: u8, terms: Terms, out: &mut [u8]) -> Step
     requires { ⌜ (length (now letters) ≤ 65536) × (missed ≤ 16) ⌝ }
-    ensures { λ r. ⌜ Listed (now (letters .entry)) terms (setWork knife false missed (now (letters .entry))) (now (out .entry)) r (now (out .exit)) ⌝ }
+    ensures { λ r. ⌜ DigestsListed (now (letters .entry)) terms (setWork knife false missed (now (letters .entry))) (now (out .entry)) r (now (out .exit)) ⌝ }
 {
     let mut starts = [0 as u32; 65537];
     let mut order = [0 as u16; 65536];

@@ -8,11 +8,11 @@ use native.Mathlib.Omega.{arith}
 use borrow.Author.Tests.{lt-ltb, le-ltb, le-leb}
 use lib.ListN.{length, getD, set, List·getD-eq-default}
 use lib.Seq.{getD-set-same, getD-set-other, set-getD, set-out}
+use Rattle.lists.specs.FrameLaws.{set-more}
 use Rattle.lists.specs.Tests.{same?, below?}
-use Rattle.enzyme_rows.specs.Steps.{Has}
-use Rattle.enzyme_rows.specs.TurnLaws.{filled-more}
+use Rattle.enzyme_rows.specs.Steps.{AmongFirst}
 use Rattle.enzyme_codes.specs.Codes.{codeOf, codeAt}
-use Rattle.enzyme_sifted.specs.Sifted.{Sifted, oneMore, raised, CodesSeen, seenTwice, Picked}
+use Rattle.enzyme_sifted.specs.Sifted.{Sifted, oneMore, raised, CodesSeen, seenTwice, RepeatsPicked}
 
 -- ---- a code counted
 
@@ -47,7 +47,7 @@ seen-none code codes seen = record { coded = λ z h. absurd (omega arith); once 
 
 pub seen-more : (code : ℕ → ℕ) (codes seen : List ℕ) (i v : ℕ) → i < length codes → v ≡ code i → CodesSeen code codes seen i → CodesSeen code (set codes i v) (raised seen v) (i + 1)
 seen-more code codes seen i v room e c = record {
-  coded = filled-more code codes i v room e (c .coded);
+  coded = set-more code codes i v room e (c .coded);
   once = λ z h. first z h (below? z i);
   twice = λ z w l h s. second z w l h s (below? w i);
 }
@@ -68,25 +68,25 @@ seen-more code codes seen i v room e c = record {
 
 -- ---- sites picked
 
-pub picked-none : (codes seen order : List ℕ) → Picked codes seen order 0 0
-picked-none codes seen order = record {
+pub repeats-picked-none : (codes seen order : List ℕ) → RepeatsPicked codes seen order 0 0
+repeats-picked-none codes seen order = record {
   few = omega arith;
   inside = λ p h. absurd (omega arith);
   each = λ z h. absurd (omega arith);
   rises = λ p q l h. absurd (omega arith);
 }
 
-module _ (codes seen order : List ℕ) (i k : ℕ) (room : i < length order) (c : Picked codes seen order i k) where
+module _ (codes seen order : List ℕ) (i k : ℕ) (room : i < length order) (c : RepeatsPicked codes seen order i k) where
   front : (p : ℕ) → p < k → getD (set order k i) p 0 ≡ getD order p 0
   front p h = getD-set-other order k p i 0 (λ (z : p ≡ k). omega arith)
 
   seat : getD (set order k i) k 0 ≡ i
   seat = let f = c .few in getD-set-same order k i 0 (omega arith)
 
-  still : (z : ℕ) → Has order k z → Has (set order k i) k z
+  still : (z : ℕ) → AmongFirst order k z → AmongFirst (set order k i) k z
   still z (p, h, e) = (p, h, front p h ∙ e)
 
-  left : seenTwice seen (getD codes i 0) ≡ false → Picked codes seen (set order k i) (i + 1) k
+  left : seenTwice seen (getD codes i 0) ≡ false → RepeatsPicked codes seen (set order k i) (i + 1) k
   left s = record {
     few = omega (arith, c .few);
     inside = λ p h. omega (arith, front p h, c .inside p h);
@@ -94,11 +94,11 @@ module _ (codes seen order : List ℕ) (i k : ℕ) (room : i < length order) (c 
     rises = λ p q l h. omega (arith, front p (omega arith), front q h, c .rises p q l h);
   }
     where
-      old : (z : ℕ) → z < i + 1 → seenTwice seen (getD codes z 0) ≡ true → (z < i) ⊎ (i ≤ z) → Has (set order k i) k z
+      old : (z : ℕ) → z < i + 1 → seenTwice seen (getD codes z 0) ≡ true → (z < i) ⊎ (i ≤ z) → AmongFirst (set order k i) k z
       old z h t (inl l) = still z (c .each z l t)
       old z h t (inr l) = let q : z ≡ i = omega arith in absurd (true≢false (sym t ∙ rw q s))
 
-  taken : Picked codes seen (set order k i) (i + 1) (k + 1)
+  taken : RepeatsPicked codes seen (set order k i) (i + 1) (k + 1)
   taken = record {
     few = omega (arith, c .few);
     inside = λ p h. within p h (below? p k);
@@ -110,7 +110,7 @@ module _ (codes seen order : List ℕ) (i k : ℕ) (room : i < length order) (c 
       within p h (inl l) = omega (arith, front p l, c .inside p l)
       within p h (inr l) = let q : p ≡ k = omega arith in rw (q, seat) (omega arith)
 
-      both : (z : ℕ) → z < i + 1 → seenTwice seen (getD codes z 0) ≡ true → (z < i) ⊎ (i ≤ z) → Has (set order k i) (k + 1) z
+      both : (z : ℕ) → z < i + 1 → seenTwice seen (getD codes z 0) ≡ true → (z < i) ⊎ (i ≤ z) → AmongFirst (set order k i) (k + 1) z
       both z h t (inl l) = let o = still z (c .each z l t) in (o .0, omega (arith, o .1), o .2)
       both z h t (inr l) = (k, omega arith, seat ∙ (let q : i ≡ z = omega arith in q))
 
@@ -120,13 +120,13 @@ module _ (codes seen order : List ℕ) (i k : ℕ) (room : i < length order) (c 
           let e : q ≡ k = omega arith in
           rw (e, seat) (omega (arith, front p (omega arith), c .inside p (omega arith)))
 
-  pub picked-turn : (t : Bool) → t ≡ seenTwice seen (getD codes i 0) → Picked codes seen (set order k i) (i + 1) (cond t (k + 1) k)
-  picked-turn true e = taken
-  picked-turn false e = left (sym e)
+  pub repeats-picked-turn : (t : Bool) → t ≡ seenTwice seen (getD codes i 0) → RepeatsPicked codes seen (set order k i) (i + 1) (cond t (k + 1) k)
+  repeats-picked-turn true e = taken
+  repeats-picked-turn false e = left (sym e)
 
 -- ---- both together
 
-pub sifted : (s starts codes seen order : List ℕ) (size m g : ℕ) → CodesSeen (codeAt size s starts) codes seen m → Picked codes seen order m g → Sifted s starts order m g
+pub sifted : (s starts codes seen order : List ℕ) (size m g : ℕ) → CodesSeen (codeAt size s starts) codes seen m → RepeatsPicked codes seen order m g → Sifted s starts order m g
 sifted s starts codes seen order size m g c d = record {
   few = d .few;
   apart = λ i j l h e. omega (arith, d .rises i j l h);

@@ -6,14 +6,14 @@ use mathlib.Core.List.{List}
 use lib.Dec.{ltb, leb}
 use lib.ListN.{getD, set}
 use Rattle.enzyme_keys.specs.Keys.{lettersAt}
-use Rattle.enzyme_rows.specs.Steps.{Has, Apart}
+use Rattle.enzyme_rows.specs.Steps.{AmongFirst, FirstDiffer}
 
 -- of m sites the first g in order; each that has the letters of another is one of them
 pub record Sifted (s starts order : List ℕ) (m g : ℕ) : Type 0 where
   pub few : g ≤ m
-  pub apart : Apart order g
-  pub inside : (z : ℕ) → Has order g z → z < m
-  pub each : (z v : ℕ) → z < m → v < m → (z ≡ v → ⊥) → lettersAt s starts z ≡ lettersAt s starts v → Has order g z
+  pub apart : FirstDiffer order g
+  pub inside : (z : ℕ) → AmongFirst order g z → z < m
+  pub each : (z v : ℕ) → z < m → v < m → (z ≡ v → ⊥) → lettersAt s starts z ≡ lettersAt s starts v → AmongFirst order g z
 
 -- one more, up to 2
 abbrev pub oneMore : ℕ → ℕ
@@ -34,8 +34,8 @@ abbrev pub seenTwice : List ℕ → ℕ → Bool
 seenTwice seen code = leb 2 (getD seen code 2)
 
 -- the first k in order are of the first i sites, rising, and each whose code was seen twice is one of them
-pub record Picked (codes seen order : List ℕ) (i k : ℕ) : Type 0 where
+pub record RepeatsPicked (codes seen order : List ℕ) (i k : ℕ) : Type 0 where
   pub few : k ≤ i
   pub inside : (p : ℕ) → p < k → getD order p 0 < i
-  pub each : (z : ℕ) → z < i → seenTwice seen (getD codes z 0) ≡ true → Has order k z
+  pub each : (z : ℕ) → z < i → seenTwice seen (getD codes z 0) ≡ true → AmongFirst order k z
   pub rises : (p q : ℕ) → p < q → q < k → getD order p 0 < getD order q 0

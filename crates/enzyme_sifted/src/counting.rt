@@ -2,7 +2,7 @@
 ghost use mathlib.Core.Path.{_≡_};
 ghost use Prim.Native.Nat.{ℕ, _≤_, _<_};
 ghost use lib.ListN.{length};
-ghost use Rattle.enzyme_keys.specs.Keys.{Site};
+ghost use Rattle.enzyme_keys.specs.Keys.{SiteWithin};
 ghost use Rattle.enzyme_codes.specs.Codes.{codeAt};
 ghost use Rattle.enzyme_sifted.specs.Sifted.{oneMore, raised, CodesSeen};
 
@@ -25,7 +25,7 @@ fn raise(seen: &mut [u8], code: u16)
 
 // Writes the codes of m sites and counts them.
 pub(crate) fn count(letters: &[u8], starts: &[u32], m: usize, codes: &mut [u16], seen: &mut [u8])
-    requires { ⌜ (m ≤ length (now codes)) × ((z : ℕ) → z < m → Site (now letters) (now starts) z) ⌝ }
+    requires { ⌜ (m ≤ length (now codes)) × ((z : ℕ) → z < m → SiteWithin (now letters) (now starts) z) ⌝ }
     ensures { λ _. ⌜ CodesSeen (codeAt (length (now (seen .entry))) (now (letters .entry)) (now (starts .entry))) (now (codes .exit)) (now (seen .exit)) m ⌝ }
 {
     let size = seen.len();

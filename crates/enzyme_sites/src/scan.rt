@@ -6,7 +6,7 @@ ghost use Prim.Native.Nat.{_+_, _≤_, _<_};
 ghost use lib.ListN.{length, drop};
 ghost use Rattle.enzyme_windows.specs.Pieces.{cleft, between};
 ghost use Rattle.enzyme_sites.specs.Starts.{Starts};
-ghost use Rattle.enzyme_sites.specs.Scanning.{ends};
+ghost use Rattle.enzyme_sites.specs.Scanning.{endsSite};
 
 // The letter that has to be in the cleave set.
 fn cleft_of(side: Side, b: u8, c: u8) -> u8
@@ -36,7 +36,7 @@ fn cuts(knife: Knife, b: u8, c: u8) -> bool
 // Whether a site ends behind the letter at j, which is not the last.
 fn ends_at(letters: &[u8], knife: Knife, j: usize) -> bool
     requires { ⌜ j + 1 < length (now letters) ⌝ }
-    ensures { λ r. ⌜ r ≡ ends knife (drop j (now (letters .entry))) ⌝ }
+    ensures { λ r. ⌜ r ≡ endsSite knife (drop j (now (letters .entry))) ⌝ }
 {
     cuts(knife, letters[j], letters[j + 1])
 }

@@ -10,11 +10,11 @@ use Rattle.records.specs.declared.refusal.Tested.{Tested}
 use Rattle.records.specs.declared.refusal.Tested.the-variants.{Passed, Refused as RefusedBy}
 use Rattle.records.specs.Le.{le, numberAt}
 use Rattle.records.specs.Outcome.{Outcome}
-use Rattle.records.specs.Cases.{Case, Hold, answered, refused, numbers, told}
+use Rattle.records.specs.Cases.{Case, Hold, answered, refusedAs, numbers, told}
 use Rattle.records.specs.Room.{written}
 use Rattle.records.specs.Search.{seek}
 use Rattle.letters.specs.declared.letter_set.LetterSet.{LetterSet}
-use Rattle.letters.specs.Letters.{isLetter, bit, has, proper, subset, firstBad}
+use Rattle.letters.specs.Letters.{isLetter, bitSet, has, proper, subset, firstBad}
 use Rattle.enzyme_cuts.specs.declared.kinds.Side.{Side}
 use Rattle.enzyme_cuts.specs.declared.kinds.Side.the-variants.{C, N}
 use Rattle.enzyme_cuts.specs.declared.kinds.Kind.{Kind}
@@ -56,7 +56,7 @@ digestCases =
     -- P5: AAC, none, lengths 1 to 2
     ∷ digesting (65 ∷ 65 ∷ 67 ∷ []) (enzyme None (set 0) C false) (set 67108863) (settings 0 1 2) 64 (answered 4) (row 0 1 0 0 0 0 9 ∷ row 2 3 0 0 1 0 9 ∷ row 0 2 0 0 0 0 9 ∷ row 1 3 0 0 1 0 9 ∷ []) 0
     -- no room: the first records that fit
-    ∷ digesting (77 ∷ 65 ∷ 75 ∷ 67 ∷ 82 ∷ 68 ∷ 75 ∷ []) (enzyme (Set (set 132096)) (set 32768) C false) (set 67108863) (settings 1 2 50) 79 (refused 11 0) (row 0 3 0 0 0 0 9 ∷ row 3 5 0 0 3 0 9 ∷ row 5 7 0 0 1 0 9 ∷ row 0 5 1 0 0 0 9 ∷ []) 15
+    ∷ digesting (77 ∷ 65 ∷ 75 ∷ 67 ∷ 82 ∷ 68 ∷ 75 ∷ []) (enzyme (Set (set 132096)) (set 32768) C false) (set 67108863) (settings 1 2 50) 79 (refusedAs 11 0) (row 0 3 0 0 0 0 9 ∷ row 3 5 0 0 3 0 9 ∷ row 5 7 0 0 1 0 9 ∷ row 0 5 1 0 0 0 9 ∷ []) 15
     -- the skip set, on the C side
     ∷ digesting (65 ∷ 75 ∷ 80 ∷ 65 ∷ 75 ∷ 65 ∷ []) (enzyme (Set (set 132096)) (set 32768) C false) (set 67108863) (settings 0 1 50) 32 (answered 2) (row 0 5 0 0 0 0 9 ∷ row 5 6 0 0 1 0 9 ∷ []) 0
     -- the skip set, on the N side
@@ -70,17 +70,17 @@ digestCases =
     -- the empty protein
     ∷ digesting [] (enzyme (Set (set 1024)) (set 0) C true) (set 67108863) (settings 2 1 5) 16 (answered 0) [] 16
     -- 2: AkA
-    ∷ digesting (65 ∷ 107 ∷ 65 ∷ []) (enzyme (Set (set 1024)) (set 0) C false) (set 67108863) (settings 0 1 50) 16 (refused 2 1) [] 16
+    ∷ digesting (65 ∷ 107 ∷ 65 ∷ []) (enzyme (Set (set 1024)) (set 0) C false) (set 67108863) (settings 0 1 50) 16 (refusedAs 2 1) [] 16
     -- 3 before 2: the cleave set
-    ∷ digesting (65 ∷ 107 ∷ 65 ∷ []) (enzyme (Set (set 1024)) (set 0) C false) (set 67107839) (settings 0 1 50) 16 (refused 3 0) [] 16
+    ∷ digesting (65 ∷ 107 ∷ 65 ∷ []) (enzyme (Set (set 1024)) (set 0) C false) (set 67107839) (settings 0 1 50) 16 (refusedAs 3 0) [] 16
     -- 3: the skip set, any kind
-    ∷ digesting (65 ∷ 107 ∷ 65 ∷ []) (enzyme End (set 32768) C false) (set 67076095) (settings 0 1 50) 16 (refused 3 0) [] 16
+    ∷ digesting (65 ∷ 107 ∷ 65 ∷ []) (enzyme End (set 32768) C false) (set 67076095) (settings 0 1 50) 16 (refusedAs 3 0) [] 16
     -- 3: alphabet bits above 25
-    ∷ digesting (65 ∷ 107 ∷ 65 ∷ []) (enzyme None (set 0) C false) (set 134217727) (settings 0 1 50) 16 (refused 3 0) [] 16
+    ∷ digesting (65 ∷ 107 ∷ 65 ∷ []) (enzyme None (set 0) C false) (set 134217727) (settings 0 1 50) 16 (refusedAs 3 0) [] 16
     -- 3: a skip set's bit above 25
-    ∷ digesting (65 ∷ 107 ∷ 65 ∷ []) (enzyme None (set 67108864) C false) (set 67108863) (settings 0 1 50) 16 (refused 3 0) [] 16
+    ∷ digesting (65 ∷ 107 ∷ 65 ∷ []) (enzyme None (set 67108864) C false) (set 67108863) (settings 0 1 50) 16 (refusedAs 3 0) [] 16
     -- 1 before 3
-    ∷ digesting (65 ∷ 107 ∷ 65 ∷ []) (enzyme None (set 0) C false) (set 134217727) (settings 17 1 50) 16 (refused 1 0) [] 16
+    ∷ digesting (65 ∷ 107 ∷ 65 ∷ []) (enzyme None (set 0) C false) (set 134217727) (settings 17 1 50) 16 (refusedAs 1 0) [] 16
     ∷ []
 
 -- ---- reversal
@@ -93,7 +93,7 @@ toldTested o = go (o .answer) ∷ o .lent
   where
     go : Tested → List ℕ
     go Passed = passed
-    go (RefusedBy why) = refused (numberOf why) (placeOf why)
+    go (RefusedBy why) = refusedAs (numberOf why) (placeOf why)
 
 reversing : List ℕ → List ℕ → List ℕ → Case
 reversing letters answer after = record { got = toldTested (reverseOutcome letters); want = answer ∷ after ∷ [] }
@@ -111,27 +111,27 @@ reversalCases =
     -- two letters, one, none
     ∷ reversing (65 ∷ 75 ∷ []) passed (65 ∷ 75 ∷ [])
     ∷ reversing (75 ∷ []) passed (75 ∷ [])
-    ∷ reversing [] (refused 1 0) []
+    ∷ reversing [] (refusedAs 1 0) []
     -- 2: AkAK
-    ∷ reversing (65 ∷ 107 ∷ 65 ∷ 75 ∷ []) (refused 2 1) (65 ∷ 107 ∷ 65 ∷ 75 ∷ [])
+    ∷ reversing (65 ∷ 107 ∷ 65 ∷ 75 ∷ []) (refusedAs 2 1) (65 ∷ 107 ∷ 65 ∷ 75 ∷ [])
     -- a record becomes a decoy, a decoy stays
     ∷ marking (row 3 5 0 0 3 0 9) passed (row 3 5 0 0 3 1 9)
     ∷ marking (row 3 5 0 0 3 1 9) passed (row 3 5 0 0 3 1 9)
     -- 9: an empty range; 8 before 9: a record without its last bytes
-    ∷ marking (row 5 5 0 0 3 0 9) (refused 9 0) (row 5 5 0 0 3 0 9)
-    ∷ marking (le 4 5 ++ le 4 5) (refused 8 0) (le 4 5 ++ le 4 5)
+    ∷ marking (row 5 5 0 0 3 0 9) (refusedAs 9 0) (row 5 5 0 0 3 0 9)
+    ∷ marking (le 4 5 ++ le 4 5) (refusedAs 8 0) (le 4 5 ++ le 4 5)
     -- the letters of 1..5 of MACDEK, and of its decoy
     ∷ spelling (77 ∷ 65 ∷ 67 ∷ 68 ∷ 69 ∷ 75 ∷ []) (row 1 5 0 0 3 0 9) 6 (answered 4) (65 ∷ 67 ∷ 68 ∷ 69 ∷ 170 ∷ 170 ∷ [])
     ∷ spelling (77 ∷ 65 ∷ 67 ∷ 68 ∷ 69 ∷ 75 ∷ []) (row 1 5 0 0 3 1 9) 4 (answered 4) (65 ∷ 68 ∷ 67 ∷ 69 ∷ [])
     -- no room: the first letters that fit
-    ∷ spelling (77 ∷ 65 ∷ 67 ∷ 68 ∷ 69 ∷ 75 ∷ []) (row 1 5 0 0 3 1 9) 3 (refused 11 0) (65 ∷ 68 ∷ 67 ∷ [])
+    ∷ spelling (77 ∷ 65 ∷ 67 ∷ 68 ∷ 69 ∷ 75 ∷ []) (row 1 5 0 0 3 1 9) 3 (refusedAs 11 0) (65 ∷ 68 ∷ 67 ∷ [])
     -- 9: the end is not within the protein
-    ∷ spelling (77 ∷ 65 ∷ 67 ∷ []) (row 1 4 0 0 3 1 9) 3 (refused 9 0) (170 ∷ 170 ∷ 170 ∷ [])
+    ∷ spelling (77 ∷ 65 ∷ 67 ∷ []) (row 1 4 0 0 3 1 9) 3 (refusedAs 9 0) (170 ∷ 170 ∷ 170 ∷ [])
     ∷ []
 
 pub table : List Case
 table = digestCases ++ reversalCases
 
 pub cases : Hold table
-unfolding isLetter bit has proper subset firstBad seek numberAt positionOf recordOf flatten written passed toldTested set enzyme settings row digesting digestCases reversing marking spelling reversalCases table
+unfolding isLetter bitSet has proper subset firstBad seek numberAt positionOf recordOf flatten written passed toldTested set enzyme settings row digesting digestCases reversing marking spelling reversalCases table
 cases = refl

@@ -9,11 +9,10 @@ use lib.Dec.{ltb, leb, eqb}
 use Rattle.records.specs.declared.refusal.Refusal.the-variants.{Size, Letter, Length, Field}
 use Rattle.records.specs.declared.refusal.Tested.{Tested}
 use Rattle.records.specs.declared.refusal.Tested.the-variants.{Passed, Refused}
-use Rattle.records.specs.Le.{numberAt}
 use Rattle.records.specs.Outcome.{Outcome, outcome, unlessRefused, only}
 use Rattle.records.specs.Room.{singly, counted}
 use Rattle.letters.specs.Letters.{firstBad}
-use Rattle.enzyme_keep.specs.Digests.{goodRecord}
+use Rattle.enzyme_keep.specs.Digests.{startOf, endOf, isDecoy, goodRecord}
 use Rattle.letters.specs.Reversal.{reversed, lettersOf}
 use Rattle.records.specs.declared.refusal.Counted.{Counted}
 use Rattle.records.specs.declared.refusal.Counted.the-variants.{Refused as No}
@@ -45,7 +44,7 @@ abbrev pub rangeLetters : List ℕ → ℕ → ℕ → List ℕ
 rangeLetters s start end = take (end - start) (drop start s)
 
 abbrev pub recordLetters : List ℕ → List ℕ → List ℕ
-recordLetters s r = lettersOf (eqb (getD r 11 0) 1) (rangeLetters s (numberAt 4 r 0) (numberAt 4 r 4))
+recordLetters s r = lettersOf (isDecoy r) (rangeLetters s (startOf r) (endOf r))
 
 -- 1: more than a protein's letters; 8; 2; and 9 also where the end is not within this protein
 abbrev pub spellingTested : List ℕ → List ℕ → Tested
@@ -53,7 +52,7 @@ spellingTested s r =
     cond (ltb 65536 (length s)) (Refused Size)
     (cond (eqb (length r) 16)
     (cond (ltb (firstBad s) (length s)) (Refused (Letter (firstBad s)))
-    (cond (goodRecord r && leb (numberAt 4 r 4) (length s)) Passed (Refused (Field 0))))
+    (cond (goodRecord r && leb (endOf r) (length s)) Passed (Refused (Field 0))))
     (Refused Length))
 
 -- then 11: a text's record is a byte

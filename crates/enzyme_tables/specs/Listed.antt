@@ -8,5 +8,5 @@ use Rattle.enzyme_keep.specs.declared.offering.Terms.{Terms}
 use Rattle.enzyme_keep.specs.Steps.{after, offers}
 
 -- the ranges rs of s were offered to the buffer out: that gave r, and left new
-abbrev pub Listed : List ℕ → Terms → List Range → List ℕ → Step → List ℕ → Type 0
-Listed s t rs out r new = after r new ≡ offers s t rs 0 out
+abbrev pub DigestsListed : List ℕ → Terms → List Range → List ℕ → Step → List ℕ → Type 0
+DigestsListed s t rs out r new = after r new ≡ offers s t rs 0 out

@@ -8,24 +8,24 @@ use Rattle.enzyme_cuts.specs.declared.kinds.Kind.the-variants.{None, End, Set}
 use Rattle.enzyme_cuts.specs.declared.kinds.Enzyme.{Enzyme}
 use Rattle.enzyme_cuts.specs.Cutting.{Range, site, knife, noneSites, meant}
 use Rattle.enzyme_cuts.specs.Work.{setWork}
-use Rattle.enzyme_once.specs.Once.{once}
+use Rattle.enzyme_once.specs.Once.{eachOnce}
 
 -- all of "none", the whole protein of "end", the windows of a set, or with semi each different range of it once
 abbrev pub wayOf : Kind → Enzyme → ℕ → ℕ → ℕ → List ℕ → List Range
 wayOf None e missed minimum maximum s = noneSites (length s) minimum maximum
 wayOf End e missed minimum maximum s = site 0 (length s) ∷ []
 wayOf (Set cleave) e missed minimum maximum s =
-    cond (e .semi) (once (knife cleave (e .skip) (e .side)) true missed s) (setWork (knife cleave (e .skip) (e .side)) false missed s)
+    cond (e .semi) (eachOnce (knife cleave (e .skip) (e .side)) true missed s) (setWork (knife cleave (e .skip) (e .side)) false missed s)
 
 abbrev pub way : Enzyme → ℕ → ℕ → ℕ → List ℕ → List Range
 way e missed minimum maximum s = wayOf (meant (e .kind)) e missed minimum maximum s
 
 -- the enzyme that cuts everywhere
-abbrev pub none : Enzyme → Enzyme
-none e = record { kind = None; skip = e .skip; side = e .side; semi = e .semi }
+abbrev pub everywhere : Enzyme → Enzyme
+everywhere e = record { kind = None; skip = e .skip; side = e .side; semi = e .semi }
 
 -- how often a kind is looked at again: an empty set as "none"
-abbrev pub turns : Kind → ℕ
-turns None = 0
-turns End = 0
-turns (Set cleave) = 1
+abbrev pub looksAgain : Kind → ℕ
+looksAgain None = 0
+looksAgain End = 0
+looksAgain (Set cleave) = 1

@@ -5,11 +5,11 @@ ghost use mathlib.Core.List.{[], _∷_};
 ghost use Prim.Native.Nat.{_≤_};
 ghost use lib.ListN.{length};
 ghost use Rattle.enzyme_cuts.specs.Cutting.{site};
-ghost use Rattle.enzyme_tables.specs.Listed.{Listed};
+ghost use Rattle.enzyme_tables.specs.Listed.{DigestsListed};
 
 pub(crate) fn offer_end(letters: &[u8], terms: Terms, out: &mut [u8]) -> Step
     requires { ⌜ length (now letters) ≤ 65536 ⌝ }
-    ensures { λ r. ⌜ Listed (now (letters .entry)) terms (site 0 (length (now (letters .entry))) ∷ []) (now (out .entry)) r (now (out .exit)) ⌝ }
+    ensures { λ r. ⌜ DigestsListed (now (letters .entry)) terms (site 0 (length (now (letters .entry))) ∷ []) (now (out .entry)) r (now (out .exit)) ⌝ }
 {
     let n = letters.len();
     let wanted = enzyme_keep::length_within(n, terms.minimum, terms.maximum);

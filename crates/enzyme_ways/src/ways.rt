@@ -10,12 +10,12 @@ ghost use mathlib.Core.Path.{_≡_};
 ghost use Prim.Native.Nat.{_≤_};
 ghost use lib.ListN.{length};
 ghost use Rattle.enzyme_cuts.specs.Cutting.{knife};
-ghost use Rattle.enzyme_tables.specs.Listed.{Listed};
-ghost use Rattle.enzyme_ways.specs.Ways.{none, way};
+ghost use Rattle.enzyme_tables.specs.Listed.{DigestsListed};
+ghost use Rattle.enzyme_ways.specs.Ways.{everywhere, way};
 
 // The enzyme that cuts everywhere.
 fn without_set(enzyme: Enzyme) -> Enzyme
-    ensures { λ r. ⌜ r ≡ none enzyme ⌝ }
+    ensures { λ r. ⌜ r ≡ everywhere enzyme ⌝ }
 {
     let skip = enzyme.skip;
     let side = enzyme.side;
@@ -41,7 +41,7 @@ fn knife_of(enzyme: Enzyme, cleave: LetterSet) -> Knife
 // itself at each size.
 pub fn offer_all(letters: &[u8], enzyme: Enzyme, missed: u8, terms: Terms, out: &mut [u8]) -> Step
     requires { ⌜ (length (now letters) ≤ 65536) × (missed ≤ 16) × (terms .maximum ≤ 65536) ⌝ }
-    ensures { λ r. ⌜ Listed (now (letters .entry)) terms (way enzyme missed (terms .minimum) (terms .maximum) (now (letters .entry))) (now (out .entry)) r (now (out .exit)) ⌝ }
+    ensures { λ r. ⌜ DigestsListed (now (letters .entry)) terms (way enzyme missed (terms .minimum) (terms .maximum) (now (letters .entry))) (now (out .entry)) r (now (out .exit)) ⌝ }
 {
     let n = letters.len();
     let kind = enzyme.kind;

@@ -14,7 +14,7 @@ use Rattle.lists.specs.Tests.{below?, same?}
 use Rattle.lists.specs.Lists.{same}
 use Rattle.lists.specs.SameLaws.{same-eq}
 use Rattle.enzyme_cuts.specs.Cutting.{site, part}
-use Rattle.enzyme_words.specs.Words.{digitOf, wordAt, codeAt, Coded, Twice, Tallied, Picked, Far, Reach, Swept}
+use Rattle.enzyme_words.specs.Words.{digitOf, wordAt, wordCode, WordsCoded, Twice, WordsTallied, EndOfSingle, Far, AloneBeyond, StartsSwept}
 
 -- ---- the number of a word
 
@@ -40,8 +40,8 @@ number-behind s i (suc q) =
 
 -- the word at i from the letters before its last, at e, and back to those behind its first
 module _ (s : List ℕ) (i q : ℕ) (some : 1 ≤ q) where
-  pub number-on : (e x y : ℕ) → e + 1 ≡ i + q → x ≡ wordAt s i (q - 1) → y ≡ digitOf (getD s e 0) → 26 * x + y ≡ wordAt s i q
-  number-on e x y k f g =
+  pub word-number-on : (e x y : ℕ) → e + 1 ≡ i + q → x ≡ wordAt s i (q - 1) → y ≡ digitOf (getD s e 0) → 26 * x + y ≡ wordAt s i q
+  word-number-on e x y k f g =
       let h : q ≡ suc (q - 1) = omega arith in
       let l : e ≡ i + (q - 1) = omega arith in
       rw (h, f, g, l)
@@ -52,12 +52,12 @@ module _ (s : List ℕ) (i q : ℕ) (some : 1 ≤ q) where
       let e : w ≡ t * y + wordAt s (i + 1) (q - 1) = rw (g, k) (f ∙ ap (wordAt s i) h ∙ number-behind s i (q - 1)) in
       (omega arith, omega arith)
 
-pub code-small : (s : List ℕ) (i q m : ℕ) → 0 < m → codeAt s i q m < m
-unfolding codeAt
+pub code-small : (s : List ℕ) (i q m : ℕ) → 0 < m → wordCode s i q m < m
+unfolding wordCode
 code-small s i q m h = mod-lt (wordAt s i q) h
 
-pub code-number : (s : List ℕ) (i q m x r : ℕ) → x ≡ wordAt s i q → r ≡ x % m → r ≡ codeAt s i q m
-unfolding codeAt
+pub code-number : (s : List ℕ) (i q m x r : ℕ) → x ≡ wordAt s i q → r ≡ x % m → r ≡ wordCode s i q m
+unfolding wordCode
 code-number s i q m x r e f = cc
 
 -- equal words have equal numbers
@@ -65,17 +65,17 @@ number-same : (s : List ℕ) (i j q : ℕ) → ((k : ℕ) → k < q → getD s (
 number-same s i j zero h = refl
 number-same s i j (suc q) h = rw (h q (omega arith), number-same s i j q (λ k l. h k (omega arith)))
 
-pub code-same : (s : List ℕ) (i j q m : ℕ) → ((k : ℕ) → k < q → getD s (i + k) 0 ≡ getD s (j + k) 0) → codeAt s i q m ≡ codeAt s j q m
-unfolding codeAt
+pub code-same : (s : List ℕ) (i j q m : ℕ) → ((k : ℕ) → k < q → getD s (i + k) 0 ≡ getD s (j + k) 0) → wordCode s i q m ≡ wordCode s j q m
+unfolding wordCode
 code-same s i j q m h = ap (λ (x : ℕ). x % m) (number-same s i j q h)
 
 -- ---- counting
 
-pub tallied-none : (s : List ℕ) (q m : ℕ) (far count : List ℕ) → Tallied s q m 0 far count
-tallied-none s q m far count = record { codes = λ j h l. absurd (omega arith); some = λ j h. absurd (omega arith); twice = λ j k h l e. absurd (omega arith) }
+pub words-tallied-none : (s : List ℕ) (q m : ℕ) (far count : List ℕ) → WordsTallied s q m 0 far count
+words-tallied-none s q m far count = record { codes = λ j h l. absurd (omega arith); some = λ j h. absurd (omega arith); twice = λ j k h l e. absurd (omega arith) }
 
 -- one more word
-module _ (s : List ℕ) (q m n : ℕ) (far count : List ℕ) (t : Tallied s q m n far count) (c v : ℕ) (e : c ≡ codeAt s n q m)
+module _ (s : List ℕ) (q m n : ℕ) (far count : List ℕ) (t : WordsTallied s q m n far count) (c v : ℕ) (e : c ≡ wordCode s n q m)
     (f : v ≡ cond (eqb (getD count c 0) 0) 1 2) (wide : n < length far) (room : c < length count) where
   value : (0 < v) × (0 < getD count c 0 → v ≡ 2)
   value = go (eqb (getD count c 0) 0) refl f
@@ -101,22 +101,22 @@ module _ (s : List ℕ) (q m n : ℕ) (far count : List ℕ) (t : Tallied s q m 
   two-stays : (x : ℕ) → getD count x 0 ≡ 2 → getD (set count c v) x 0 ≡ 2
   two-stays x h = ⊎-elim (λ (g : x ≡ c). two-here x g (omega arith)) (λ (g : x ≡ c → ⊥). there x g ∙ h) (same? x c)
 
-  pub tallied-one : Tallied s q m (n + 1) (set far n c) (set count c v)
-  tallied-one = record {
+  pub words-tallied-one : WordsTallied s q m (n + 1) (set far n c) (set count c v)
+  words-tallied-one = record {
     codes = λ j h l. ⊎-elim (λ (g : j ≡ n). rw g (getD-set-same far n c 0 wide ∙ e)) (λ (g : j ≡ n → ⊥). getD-set-other far n j c 0 g ∙ t .codes j (before j h g) l) (same? j n);
-    some = λ j h. ⊎-elim (λ (g : j ≡ n). rw (here (codeAt s j q m) (rw g (sym e))) (value .0)) (λ (g : j ≡ n → ⊥). stays (codeAt s j q m) (t .some j (before j h g))) (same? j n);
-    twice = λ j k h l o. ⊎-elim (λ (g : k ≡ n). two-here (codeAt s j q m) (o ∙ rw g (sym e)) (t .some j (omega arith))) (λ (g : k ≡ n → ⊥). two-stays (codeAt s j q m) (t .twice j k h (before k l g) o)) (same? k n);
+    some = λ j h. ⊎-elim (λ (g : j ≡ n). rw (here (wordCode s j q m) (rw g (sym e))) (value .0)) (λ (g : j ≡ n → ⊥). stays (wordCode s j q m) (t .some j (before j h g))) (same? j n);
+    twice = λ j k h l o. ⊎-elim (λ (g : k ≡ n). two-here (wordCode s j q m) (o ∙ rw g (sym e)) (t .some j (omega arith))) (λ (g : k ≡ n → ⊥). two-stays (wordCode s j q m) (t .twice j k h (before k l g) o)) (same? k n);
   }
     where
       before : (j : ℕ) → j < n + 1 → (j ≡ n → ⊥) → j < n
       before j h g = ⊎-elim (λ (l : j < n). l) (λ (l : n ≤ j). absurd (g (omega arith))) (below? j n)
 
-module _ (s : List ℕ) (q m n : ℕ) (far count : List ℕ) (t : Tallied s q m n far count) (all : length s < n + q) where
-  pub tallied-coded : Coded s q m (length s) far
-  tallied-coded j h l = t .codes j (omega arith) l
+module _ (s : List ℕ) (q m n : ℕ) (far count : List ℕ) (t : WordsTallied s q m n far count) (all : length s < n + q) where
+  pub words-tallied-coded : WordsCoded s q m (length s) far
+  words-tallied-coded j h l = t .codes j (omega arith) l
 
-  pub tallied-twice : Twice s q m count
-  tallied-twice j k h l e = t .twice j k h (omega arith) e
+  pub words-tallied-twice : Twice s q m count
+  words-tallied-twice j k h l e = t .twice j k h (omega arith) e
 
 -- ---- a word that stands once
 
@@ -130,18 +130,18 @@ letters-same s a b len k e h =
 
 module _ (s : List ℕ) (q m : ℕ) (some : 1 ≤ q) (count : List ℕ) (two : Twice s q m count) where
   -- two places with the same number
-  never : (j k : ℕ) → j + q ≤ length s → k + q ≤ length s → (j ≡ k → ⊥) → codeAt s j q m ≡ codeAt s k q m → getD count (codeAt s j q m) 0 ≡ 1 → ⊥
+  never : (j k : ℕ) → j + q ≤ length s → k + q ≤ length s → (j ≡ k → ⊥) → wordCode s j q m ≡ wordCode s k q m → getD count (wordCode s j q m) 0 ≡ 1 → ⊥
   never j k h l ne e one = ⊎-elim
       (λ (g : j < k). let x = two j k g l e in omega arith)
-      (λ (g : k ≤ j). let x = two k j (apart g (below? k j)) h (sym e) in let y : getD count (codeAt s j q m) 0 ≡ 2 = rw e x in omega arith)
+      (λ (g : k ≤ j). let x = two k j (apart g (below? k j)) h (sym e) in let y : getD count (wordCode s j q m) 0 ≡ 2 = rw e x in omega arith)
       (below? j k)
     where
       apart : k ≤ j → (k < j) ⊎ (j ≤ k) → k < j
       apart g (inl m) = m
       apart g (inr m) = absurd (ne (omega arith))
 
-  pub reach-once : (i : ℕ) → i + q ≤ length s → getD count (codeAt s i q m) 0 ≡ 1 → Reach s i (i + q)
-  reach-once i h one a b len before ends inside other ne = go (same (part s (site a (a + len))) (part s (site b (b + len)))) refl
+  pub alone-once : (i : ℕ) → i + q ≤ length s → getD count (wordCode s i q m) 0 ≡ 1 → AloneBeyond s i (i + q)
+  alone-once i h one a b len before ends inside other ne = go (same (part s (site a (a + len))) (part s (site b (b + len)))) refl
     where
       d : ℕ
       d = i - a
@@ -158,7 +158,7 @@ module _ (s : List ℕ) (q m : ℕ) (some : 1 ≤ q) (count : List ℕ) (two : T
 
 -- ---- from the last start down
 
-pub swept-start : (s : List ℕ) (q m : ℕ) (far : List ℕ) → Coded s q m (length s) far → Swept s q m (length s) far (length s + 1)
+pub swept-start : (s : List ℕ) (q m : ℕ) (far : List ℕ) → WordsCoded s q m (length s) far → StartsSwept s q m (length s) far (length s + 1)
 swept-start s q m far codes = record {
   codes = codes;
   above = omega arith;
@@ -167,16 +167,16 @@ swept-start s q m far codes = record {
   done = λ a b len h inside other ne long. absurd (omega arith);
 }
 
-module _ (s : List ℕ) (q m : ℕ) (some : 1 ≤ q) (count : List ℕ) (two : Twice s q m count) (i j : ℕ) (far : List ℕ) (r : ℕ) (w : Swept s q m i far r) (e : i ≡ j + 1)
-    (wide : j < length far) (x : ℕ) (p : Picked j q (length s) (getD far j 0) count r x) where
-  pub on-reach : (j < x) × (x ≤ length s + 1) × Reach s j x
+module _ (s : List ℕ) (q m : ℕ) (some : 1 ≤ q) (count : List ℕ) (two : Twice s q m count) (i j : ℕ) (far : List ℕ) (r : ℕ) (w : StartsSwept s q m i far r) (e : i ≡ j + 1)
+    (wide : j < length far) (x : ℕ) (p : EndOfSingle j q (length s) (getD far j 0) count r x) where
+  pub on-reach : (j < x) × (x ≤ length s + 1) × AloneBeyond s j x
   on-reach = ⊎-elim
       (λ (g : x ≡ r). (omega (arith, w .above), omega (arith, w .low), rw g (λ a b len before. w .reach a b len (omega arith))))
       (λ (g : (x ≡ j + q) × (j + q ≤ length s) × (getD count (getD far j 0) 0 ≡ 1)).
-      (omega (arith, g .0), omega (arith, g .0, g .1), rw (g .0) (reach-once s q m some count two j (g .1) (rw (w .codes j (omega arith) (g .1)) at (g .2)))))
+      (omega (arith, g .0), omega (arith, g .0, g .1), rw (g .0) (alone-once s q m some count two j (g .1) (rw (w .codes j (omega arith) (g .1)) at (g .2)))))
       p
 
-  pub swept-on : Swept s q m j (set far j (x - j - 1)) x
+  pub swept-on : StartsSwept s q m j (set far j (x - j - 1)) x
   swept-on = record {
     codes = λ k h l. getD-set-other far j k (x - j - 1) 0 (λ g. omega arith) ∙ w .codes k (omega arith) l;
     above = on-reach .0;
@@ -194,5 +194,5 @@ module _ (s : List ℕ) (q m : ℕ) (some : 1 ≤ q) (count : List ℕ) (two : T
       behind : (a : ℕ) → j ≤ a → (a ≡ j → ⊥) → i ≤ a
       behind a h g = ⊎-elim (λ (l : a < i). absurd (g (omega arith))) (λ (l : i ≤ a). l) (below? a i)
 
-pub swept-end : (s : List ℕ) (q m i : ℕ) (far : List ℕ) (r : ℕ) → i ≤ 0 → Swept s q m i far r → Far s far
+pub swept-end : (s : List ℕ) (q m i : ℕ) (far : List ℕ) (r : ℕ) → i ≤ 0 → StartsSwept s q m i far r → Far s far
 swept-end s q m i far r h w a b len inside other ne long = w .done a b len (omega arith) inside other ne long

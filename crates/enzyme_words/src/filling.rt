@@ -9,14 +9,7 @@ ghost use mathlib.Core.Bool.{cond};
 ghost use Prim.Native.Nat.{ℕ, _+_, _-_, _≤_, _<_};
 ghost use lib.ListN.{length, getD};
 ghost use lib.Dec.{eqb};
-ghost use Rattle.enzyme_words.specs.Words.{Zeros, Tallied, Twice, Coded, Picked, Far};
-
-// A number as an index.
-fn wide(x: u32) -> usize
-    ensures { λ r. ⌜ r ≡ x ⌝ }
-{
-    x as usize
-}
+ghost use Rattle.enzyme_words.specs.Words.{Zeros, WordsTallied, Twice, WordsCoded, EndOfSingle, Far};
 
 // None, one, or more.
 fn raised(x: u8) -> u8
@@ -29,7 +22,7 @@ fn raised(x: u8) -> u8
 // without its last letter.
 fn tally(letters: &[u8], q: usize, m: usize, far: &mut [u32], count: &mut [u8])
     requires { ⌜ (1 ≤ q) × (q ≤ 13) × (length (now letters) ≤ length (now far)) × (0 < m) × (m ≤ 131072) × (m ≤ length (now count)) × Zeros (now count) ⌝ }
-    ensures { λ _. ⌜ Coded (now (letters .entry)) q m (length (now (letters .entry))) (now (far .exit)) × Twice (now (letters .entry)) q m (now (count .exit)) ⌝ }
+    ensures { λ _. ⌜ WordsCoded (now (letters .entry)) q m (length (now (letters .entry))) (now (far .exit)) × Twice (now (letters .entry)) q m (now (count .exit)) ⌝ }
 {
     let n = letters.len();
     if n < q {
@@ -54,18 +47,18 @@ fn tally(letters: &[u8], q: usize, m: usize, far: &mut [u32], count: &mut [u8])
 // Where a stretch from i or before has to end to stand once: behind the word at i where that stands once, else at r as before.
 fn end_at(i: usize, q: usize, n: usize, code: u32, count: &[u8], r: usize) -> usize
     requires { ⌜ (i ≤ n) × (n ≤ 65536) × (q ≤ 13) × (i + q ≤ n → code < length (now count)) ⌝ }
-    ensures { λ x. ⌜ Picked i q n code (now (count .entry)) r x ⌝ }
+    ensures { λ x. ⌜ EndOfSingle i q n code (now (count .entry)) r x ⌝ }
 {
     if n < i + q {
         return r;
     }
-    let at = wide(code);
+    let at = records::wide(code);
     if count[at] == 1 { i + q } else { r }
 }
 
 // From the last start down, each start's number in the place of its word's.
 fn sweep(letters: &[u8], q: usize, m: usize, far: &mut [u32], count: &[u8])
-    requires { ⌜ (1 ≤ q) × (q ≤ 13) × (length (now letters) ≤ 65536) × (length (now letters) ≤ length (now far)) × (0 < m) × (m ≤ length (now count)) × Coded (now letters) q m (length (now letters)) (now far) × Twice (now letters) q m (now count) ⌝ }
+    requires { ⌜ (1 ≤ q) × (q ≤ 13) × (length (now letters) ≤ 65536) × (length (now letters) ≤ length (now far)) × (0 < m) × (m ≤ length (now count)) × WordsCoded (now letters) q m (length (now letters)) (now far) × Twice (now letters) q m (now count) ⌝ }
     ensures { λ _. ⌜ Far (now (letters .entry)) (now (far .exit)) ⌝ }
 {
     let n = letters.len();

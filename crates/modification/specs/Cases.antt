@@ -3,7 +3,7 @@ use Prim.Native.Nat.{ℕ}
 use mathlib.Core.Path.{refl}
 use mathlib.Core.List.{List, [], _∷_, _++_, flatten}
 use lib.ListN.{replicate}
-use Rattle.records.specs.Cases.{Case, Hold, refused}
+use Rattle.records.specs.Cases.{Case, Hold, refusedAs}
 use Rattle.records.specs.Le.{numberAt}
 use Rattle.records.specs.Refusals.{numberOf, placeOf}
 use Rattle.letters.specs.Letters.{isLetter}
@@ -21,7 +21,7 @@ bare = 0 ∷ 0 ∷ 1 ∷ 0 ∷ 2 ∷ 0 ∷ 0 ∷ 0 ∷ []
 
 said : Read → List ℕ
 said (Read.Rule q) = 0 ∷ 0 ∷ kindOf (q .on) ∷ letterOf (q .on) ∷ q .id ∷ q .limit ∷ []
-said (Read.Refused why) = refused (numberOf why) (placeOf why)
+said (Read.Refused why) = refusedAs (numberOf why) (placeOf why)
 
 reading : List ℕ → ℕ → List ℕ → Case
 reading rules r want = record { got = said (readRule rules r) ∷ []; want = want ∷ [] }
@@ -32,16 +32,16 @@ table =
     reading (bare ++ onM) 1 (0 ∷ 0 ∷ 0 ∷ 77 ∷ 1 ∷ 2 ∷ [])
     ∷ reading (flatten (replicate 32 onM)) 31 (0 ∷ 0 ∷ 0 ∷ 77 ∷ 1 ∷ 2 ∷ [])
     -- 33 records, also where the length is not whole or the record is none
-    ∷ reading (flatten (replicate 33 onM)) 0 (refused 1 0)
-    ∷ reading (0 ∷ flatten (replicate 33 onM)) 40 (refused 1 0)
+    ∷ reading (flatten (replicate 33 onM)) 0 (refusedAs 1 0)
+    ∷ reading (0 ∷ flatten (replicate 33 onM)) 40 (refusedAs 1 0)
     -- one byte too many, or too few, also where the record is none
-    ∷ reading (onM ++ (0 ∷ [])) 0 (refused 8 0)
-    ∷ reading (0 ∷ 77 ∷ 1 ∷ 0 ∷ 2 ∷ 0 ∷ 0 ∷ []) 0 (refused 8 0)
-    ∷ reading (bare ++ (0 ∷ [])) 5 (refused 8 0)
+    ∷ reading (onM ++ (0 ∷ [])) 0 (refusedAs 8 0)
+    ∷ reading (0 ∷ 77 ∷ 1 ∷ 0 ∷ 2 ∷ 0 ∷ 0 ∷ []) 0 (refusedAs 8 0)
+    ∷ reading (bare ++ (0 ∷ [])) 5 (refusedAs 8 0)
     -- no rule; no such record; no records
-    ∷ reading (onM ++ bare) 1 (refused 9 1)
-    ∷ reading (onM ++ onM) 2 (refused 9 2)
-    ∷ reading [] 0 (refused 9 0)
+    ∷ reading (onM ++ bare) 1 (refusedAs 9 1)
+    ∷ reading (onM ++ onM) 2 (refusedAs 9 2)
+    ∷ reading [] 0 (refusedAs 9 0)
     ∷ []
 
 pub cases : Hold table

@@ -43,13 +43,13 @@ module _ (fixed : Bool) (rules : List ℕ) where
       length-part h = rw (not-many, ne-eqb (length rules % 8) 0 h)
 
   module _ (t : Tested) (is : t ≡ testedLength fixed rules) where
-    pub tested-refused : (why : Refusal) → t ≡ Tested.Refused why → Tested.Refused why ≡ testedRules fixed rules
+    pub rules-tested-refused : (why : Refusal) → t ≡ Tested.Refused why → Tested.Refused why ≡ testedRules fixed rules
     unfolding testedRules
-    tested-refused why e = first-refuses (testedLength fixed rules) _ why (sym is ∙ e)
+    rules-tested-refused why e = first-refuses (testedLength fixed rules) _ why (sym is ∙ e)
 
-    pub tested-on : t ≡ Tested.Passed → (bad : ℕ) → bad ≡ firstBadRule fixed rules → fieldTested bad (length rules / 8) ≡ testedRules fixed rules
+    pub rules-tested-on : t ≡ Tested.Passed → (bad : ℕ) → bad ≡ firstBadRule fixed rules → fieldTested bad (length rules / 8) ≡ testedRules fixed rules
     unfolding testedRules
-    tested-on e bad first = rw (first, ← is, e)
+    rules-tested-on e bad first = rw (first, ← is, e)
 
 -- ---- a record that is read
 

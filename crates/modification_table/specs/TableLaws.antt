@@ -52,18 +52,18 @@ same-zero = refl
 -- ---- the tests, one after the other
 
 module _ (table : List ℕ) (count : ℕ) where
-  pub tested-size : 255 < count → Tested.Refused Size ≡ testedTable table count
+  pub table-tested-size : 255 < count → Tested.Refused Size ≡ testedTable table count
   unfolding testedTable
-  tested-size h = rw (lt-ltb 255 count h)
+  table-tested-size h = rw (lt-ltb 255 count h)
 
   module _ (few : count ≤ 255) where
-    pub tested-length : length table / 8 < count → Tested.Refused Length ≡ testedTable table count
+    pub table-tested-length : length table / 8 < count → Tested.Refused Length ≡ testedTable table count
     unfolding testedTable
-    tested-length h = rw (le-ltb 255 count few, lt-ltb (length table / 8) count h)
+    table-tested-length h = rw (le-ltb 255 count few, lt-ltb (length table / 8) count h)
 
-    pub tested-passed : count ≤ length table / 8 → Tested.Passed ≡ testedTable table count
+    pub table-tested-passed : count ≤ length table / 8 → Tested.Passed ≡ testedTable table count
     unfolding testedTable
-    tested-passed h = rw (le-ltb 255 count few, le-ltb (length table / 8) count h)
+    table-tested-passed h = rw (le-ltb 255 count few, le-ltb (length table / 8) count h)
 
   -- a table that passed its tests is small
   pub passed-few : Tested.Passed ≡ testedTable table count → count ≤ 255
@@ -71,7 +71,7 @@ module _ (table : List ℕ) (count : ℕ) where
     where
       large : 255 < count → count ≤ 255
       large h =
-          let f : Tested.Passed ≡ Tested.Refused Size = e ∙ sym (tested-size h) in
+          let f : Tested.Passed ≡ Tested.Refused Size = e ∙ sym (table-tested-size h) in
           let z : _≡_ {A = ℕ} 0 1 = cc in
           absurd (omega arith)
 

@@ -14,7 +14,7 @@ use Rattle.peptide_listing.specs.FormTests.{testedForm, testedLists}
 use Rattle.peptide_mass.specs.Masses.{addAll, noMass}
 use Rattle.peptide_digests.specs.DigestTests.{unfit, firstUnfit, testedDigest}
 use Rattle.records.specs.Le.{le, numberAt}
-use Rattle.records.specs.Cases.{Case, Hold, answered, refused, told}
+use Rattle.records.specs.Cases.{Case, Hold, answered, refusedAs, told}
 use Rattle.records.specs.CaseLaws.{joined}
 use Rattle.records.specs.Refusals.{numberOf, placeOf}
 use Rattle.records.specs.Room.{written}
@@ -24,19 +24,19 @@ use Rattle.letters.specs.Letters.{isLetter, firstBad}
 use Rattle.modification_rules.specs.Rules.{goodRule, firstBadRule}
 use Rattle.peptide_choices.specs.Choices.{choicesOf, bySize}
 use Rattle.peptide_slots.specs.Mirror.{mirror, allZero}
-use Rattle.peptide_forms.specs.Enumeration.{noCap, accepted}
+use Rattle.peptide_forms.specs.Enumeration.{noCap, upToCap}
 use Rattle.peptide.specs.declared.making.Peptide.{Peptide}
 use Rattle.peptide.specs.declared.making.Made.{Made}
-use Rattle.peptide.specs.Peptides.{lettersOf, clear, testedContents, given, madeOfForm}
+use Rattle.peptide.specs.Peptides.{residuesOf, clear, testedContents, peptideFrom, madeOfForm}
 use Rattle.peptide.specs.Digested.{digested, madeOfDigest, weighedDigest}
-use Rattle.peptide.specs.Sites.{sitesOf, passes, filled}
+use Rattle.peptide.specs.Sites.{ruleSites, passes, filled}
 use Rattle.peptide.specs.Forms.{testedForms, choices, formOf, formsOf, formsOutcome}
 
 abbrev MAM : List ℕ
 MAM = 77 ∷ 65 ∷ 77 ∷ []
 
 abbrev mam : ℕ → Peptide
-mam position = given MAM [] position false
+mam position = peptideFrom MAM [] position false
 
 -- a rule of a kind on a letter, with an id, without limit
 abbrev rule : ℕ → ℕ → ℕ → List ℕ
@@ -75,7 +75,7 @@ listing position variable fixed limit cap forms = forming (mam position) variabl
 
 -- a refusal, and nothing written
 abbrev refusing : Peptide → List ℕ → List ℕ → ℕ → ℕ → ℕ → Case
-refusing p variable fixed limit number place = forming p variable fixed limit noCap 300 (refused number place) []
+refusing p variable fixed limit number place = forming p variable fixed limit noCap 300 (refusedAs number place) []
 
 -- refusal 0 is none, and then come the length and the first five slots
 abbrev shown : Made → List ℕ
@@ -83,7 +83,7 @@ shown made = go (made .tested) (made .peptide)
   where
     go : Tested → Peptide → List ℕ
     go Tested.Passed p = 0 ∷ 0 ∷ p .len ∷ p .nterm ∷ p .cterm ∷ take 3 (p .ids)
-    go (Tested.Refused why) p = refused (numberOf why) (placeOf why)
+    go (Tested.Refused why) p = refusedAs (numberOf why) (placeOf why)
 
 -- letters with a form and a position
 abbrev making : List ℕ → List ℕ → ℕ → List ℕ → Case
@@ -111,18 +111,18 @@ formCases =
     ∷ listing 0 (rule 3 0 7 ++ rule 4 77 8) [] 1 noCap (form 0 0 0 0 0 ∷ form 7 0 0 0 0 ∷ [])
     ∷ listing 3 (rule 3 0 7 ++ rule 4 0 8 ++ rule 2 0 9) [] 1 noCap (form 0 0 0 0 0 ∷ form 0 9 0 0 0 ∷ [])
     -- ids that the peptide has stay
-    ∷ forming (given MAM (slots 60 0) 2 false) (onM 3) (rule 0 65 4) 1 noCap 300 (answered 3) (form 7 8 1 4 2 ∷ form 7 8 1 4 2 ∷ form 7 8 1 4 2 ∷ [])
+    ∷ forming (peptideFrom MAM (slots 60 0) 2 false) (onM 3) (rule 0 65 4) 1 noCap 300 (answered 3) (form 7 8 1 4 2 ∷ form 7 8 1 4 2 ∷ form 7 8 1 4 2 ∷ [])
     -- the greatest sizes
     ∷ listing 2 (idle 16) (idle 32) 8 noCap (form 0 0 0 0 0 ∷ [])
     -- room: exact, one byte short, for one form, for none
     ∷ forming (mam 2) (onM 1) [] 2 noCap 264 (answered 4) (form 0 0 0 0 0 ∷ form 0 0 1 0 0 ∷ form 0 0 0 0 1 ∷ form 0 0 1 0 1 ∷ [])
-    ∷ forming (mam 2) (onM 1) [] 2 noCap 263 (refused 11 0) (form 0 0 0 0 0 ∷ form 0 0 1 0 0 ∷ form 0 0 0 0 1 ∷ [])
-    ∷ forming (mam 2) (onM 1) [] 2 noCap 66 (refused 11 0) (form 0 0 0 0 0 ∷ [])
-    ∷ forming (mam 2) (onM 1) [] 2 noCap 65 (refused 11 0) []
-    ∷ forming (mam 2) (onM 1) [] 2 noCap 0 (refused 11 0) []
+    ∷ forming (mam 2) (onM 1) [] 2 noCap 263 (refusedAs 11 0) (form 0 0 0 0 0 ∷ form 0 0 1 0 0 ∷ form 0 0 0 0 1 ∷ [])
+    ∷ forming (mam 2) (onM 1) [] 2 noCap 66 (refusedAs 11 0) (form 0 0 0 0 0 ∷ [])
+    ∷ forming (mam 2) (onM 1) [] 2 noCap 65 (refusedAs 11 0) []
+    ∷ forming (mam 2) (onM 1) [] 2 noCap 0 (refusedAs 11 0) []
     -- 1: no letters; 65 letters; 17 variable rules; 33 fixed ones; combination limit 9
-    ∷ refusing (given [] [] 2 false) [] [] 2 1 0
-    ∷ refusing (given (replicate 65 77) [] 2 false) [] [] 2 1 0
+    ∷ refusing (peptideFrom [] [] 2 false) [] [] 2 1 0
+    ∷ refusing (peptideFrom (replicate 65 77) [] 2 false) [] [] 2 1 0
     ∷ refusing (mam 2) (idle 17) [] 2 1 0
     ∷ refusing (mam 2) [] (idle 33) 2 1 0
     ∷ refusing (mam 2) [] [] 9 1 0
@@ -130,35 +130,35 @@ formCases =
     ∷ refusing (mam 2) (onM 1 ++ (0 ∷ [])) [] 2 8 0
     ∷ refusing (mam 2) [] (take 7 (onM 1)) 2 8 0
     -- 2: the second byte is no letter; 9: a slot past the length is filled, a position that is none
-    ∷ refusing (given (77 ∷ 97 ∷ 97 ∷ []) [] 2 false) (onM 1) [] 2 2 1
-    ∷ refusing (given MAM (slots 60 1) 2 false) (onM 1) [] 2 9 0
+    ∷ refusing (peptideFrom (77 ∷ 97 ∷ 97 ∷ []) [] 2 false) (onM 1) [] 2 2 1
+    ∷ refusing (peptideFrom MAM (slots 60 1) 2 false) (onM 1) [] 2 9 0
     ∷ refusing (mam 4) (onM 1) [] 2 9 0
     -- 9: the second variable rule is none, nor is the third; the third fixed rule has a limit
     ∷ refusing (mam 2) (onM 1 ++ none ++ none) (onM 2) 2 9 1
     ∷ refusing (mam 2) onceM (onM 1 ++ onM 2 ++ onceM) 2 9 2
     -- 1 before 8; 8 before 2; 2 before 9
     ∷ refusing (mam 2) (0 ∷ []) [] 9 1 0
-    ∷ refusing (given (97 ∷ []) [] 2 false) (0 ∷ []) [] 2 8 0
-    ∷ refusing (given (77 ∷ 97 ∷ []) [] 4 false) none none 2 2 1
+    ∷ refusing (peptideFrom (97 ∷ []) [] 2 false) (0 ∷ []) [] 2 8 0
+    ∷ refusing (peptideFrom (77 ∷ 97 ∷ []) [] 4 false) none none 2 2 1
     -- 9 of the peptide before that of the rules, of the variable before that of the fixed; 9 before 11
     ∷ refusing (mam 4) (onM 1 ++ none) none 2 9 0
     ∷ refusing (mam 2) (onM 1 ++ none) none 2 9 1
-    ∷ forming (mam 2) none [] 2 noCap 0 (refused 9 0) []
+    ∷ forming (mam 2) none [] 2 noCap 0 (refusedAs 9 0) []
     -- of a form
     ∷ making MAM (slots 60 0) 2 (0 ∷ 0 ∷ 3 ∷ 7 ∷ 8 ∷ 1 ∷ 0 ∷ 2 ∷ [])
     -- no letters, or 65, also where the form is no record
-    ∷ making [] (slots 60 0) 2 (refused 1 0)
-    ∷ making (replicate 65 77) [] 2 (refused 1 0)
+    ∷ making [] (slots 60 0) 2 (refusedAs 1 0)
+    ∷ making (replicate 65 77) [] 2 (refusedAs 1 0)
     -- a form of 65 bytes, of 67, of none, also where a byte is no letter
-    ∷ making MAM (slots 59 0) 2 (refused 8 0)
-    ∷ making MAM (slots 61 0) 2 (refused 8 0)
-    ∷ making (97 ∷ []) [] 2 (refused 8 0)
+    ∷ making MAM (slots 59 0) 2 (refusedAs 8 0)
+    ∷ making MAM (slots 61 0) 2 (refusedAs 8 0)
+    ∷ making (97 ∷ []) [] 2 (refusedAs 8 0)
     -- a byte that is no letter, also where a slot past the length is filled
-    ∷ making (77 ∷ 97 ∷ []) (slots 60 1) 2 (refused 2 1)
+    ∷ making (77 ∷ 97 ∷ []) (slots 60 1) 2 (refusedAs 2 1)
     -- a slot past the length is filled: the last one, or the third of two letters; a position that is none
-    ∷ making MAM (slots 60 1) 2 (refused 9 0)
-    ∷ making (77 ∷ 65 ∷ []) (slots 60 0) 2 (refused 9 0)
-    ∷ making MAM (slots 60 0) 4 (refused 9 0)
+    ∷ making MAM (slots 60 1) 2 (refusedAs 9 0)
+    ∷ making (77 ∷ 65 ∷ []) (slots 60 0) 2 (refusedAs 9 0)
+    ∷ making MAM (slots 60 0) 4 (refusedAs 9 0)
     ∷ []
 
 -- ---- digests
@@ -180,20 +180,20 @@ abbrev cut : Made → List ℕ
 cut made = go (made .tested) (made .peptide)
   where
     go : Tested → Peptide → List ℕ
-    go Tested.Passed p = 0 ∷ 0 ∷ p .position ∷ cond (p .decoy) 1 0 ∷ lettersOf p
-    go (Tested.Refused why) p = refused (numberOf why) (placeOf why)
+    go Tested.Passed p = 0 ∷ 0 ∷ p .position ∷ cond (p .decoy) 1 0 ∷ residuesOf p
+    go (Tested.Refused why) p = refusedAs (numberOf why) (placeOf why)
 
 -- or the mass, a whole number
 abbrev mass : Weighed → List ℕ
 mass (Weighed.Mass m) = 0 ∷ 0 ∷ toUnsigned 32 m ∷ []
-mass (Weighed.Refused why) = refused (numberOf why) (placeOf why)
+mass (Weighed.Refused why) = refusedAs (numberOf why) (placeOf why)
 
 abbrev cutting : List ℕ → List ℕ → List Float → List ℕ → List ℕ → Case
 cutting letters bytes table peptide weight =
     record { got = cut (madeOfDigest letters bytes table) ∷ mass (weighedDigest letters bytes table (fin false 0 (pos 0))) ∷ []; want = peptide ∷ weight ∷ [] }
 
 abbrev without : List ℕ → List ℕ → List Float → ℕ → ℕ → Case
-without letters bytes table number place = cutting letters bytes table (refused number place) (refused number place)
+without letters bytes table number place = cutting letters bytes table (refusedAs number place) (refusedAs number place)
 
 digestCases : List Case
 digestCases =
@@ -232,7 +232,7 @@ digestCases =
 -- ---- in one table
 
 formCases-hold : Hold formCases
-unfolding flatten numberAt written seek isLetter firstBad goodRule firstBadRule choicesOf bySize allZero accepted clear testedContents testedForm sitesOf passes filled testedLists testedForms choices formOf formsOf formsOutcome
+unfolding flatten numberAt written seek isLetter firstBad goodRule firstBadRule choicesOf bySize allZero upToCap clear testedContents testedForm ruleSites passes filled testedLists testedForms choices formOf formsOf formsOutcome
 formCases-hold = refl
 
 digestCases-hold : Hold digestCases

@@ -8,27 +8,28 @@ use lib.ListN.{take, drop}
 use lib.Ieee.{Float}
 use Rattle.peptide_mass.specs.declared.mass.Weighed.{Weighed}
 use Rattle.peptide_mass.specs.Masses.{addAll, weighedOr}
-use Rattle.peptide_digests.specs.DigestTests.{startOf, endOf, positionIn, isDecoy, testedDigest}
+use Rattle.enzyme_keep.specs.Digests.{startOf, endOf, positionIn, isDecoy}
+use Rattle.peptide_digests.specs.DigestTests.{testedDigest}
 use Rattle.peptide.specs.declared.making.Peptide.{Peptide}
 use Rattle.peptide.specs.declared.making.Made.{Made}
-use Rattle.peptide.specs.Peptides.{lettersOf, given, none, madeOr, reversed}
+use Rattle.peptide.specs.Peptides.{residuesOf, peptideFrom, noPeptide, madeOr, reversedPeptide}
 
 -- ---- the peptide
 
 -- of a range's letters, unmodified; a decoy is that peptide reversed
 abbrev pub ofRange : List ℕ → ℕ → Bool → Peptide
-ofRange part position decoy = let p = given part [] position false in cond decoy (reversed p) p
+ofRange part position decoy = let p = peptideFrom part [] position false in cond decoy (reversedPeptide p) p
 
 unfoldable pub digested : List ℕ → List ℕ → Peptide
 digested s r = ofRange (take (endOf r - startOf r) (drop (startOf r) s)) (positionIn r) (isDecoy r)
 
 unfoldable pub madeOfDigest : List ℕ → List ℕ → List Float → Made
 unfolding testedDigest digested
-madeOfDigest s r masses = madeOr (testedDigest s r masses) (digested s r) none
+madeOfDigest s r masses = madeOr (testedDigest s r masses) (digested s r) noPeptide
 
 -- ---- its mass
 
 -- a decoy's letters are added in their own order
 unfoldable pub weighedDigest : List ℕ → List ℕ → List Float → Float → Weighed
 unfolding testedDigest digested addAll
-weighedDigest s r masses water = weighedOr (testedDigest s r masses) (addAll masses water (lettersOf (digested s r)))
+weighedDigest s r masses water = weighedOr (testedDigest s r masses) (addAll masses water (residuesOf (digested s r)))

@@ -12,7 +12,8 @@ use borrow.Author.Tests.{le-leb, le-ltb, ne-eqb}
 use Rattle.peptide_mass.specs.declared.mass.Weighed.{Weighed}
 use Rattle.peptide_mass.specs.Masses.{wrongSize, addAll, noMass, firstNoMass, testedLetters, weighed, weighedOr}
 use Rattle.peptide_mass.specs.MassLaws.{noMassAt, has-mass-letter, letters-passed, weighed-passed}
-use Rattle.peptide_digests.specs.DigestTests.{startOf, endOf, positionIn, isDecoy, testedDigest}
+use Rattle.enzyme_keep.specs.Digests.{startOf, endOf, positionIn, isDecoy}
+use Rattle.peptide_digests.specs.DigestTests.{testedDigest}
 use Rattle.lists.specs.Tests.{below?}
 use Rattle.records.specs.declared.refusal.Refusal.{Refusal}
 use Rattle.records.specs.declared.refusal.Tested.{Tested}
@@ -20,13 +21,13 @@ use Rattle.records.specs.Search.{seek}
 use Rattle.records.specs.SearchLaws.{seek-passes}
 use Rattle.letters.specs.Letters.{isLetter, noLetter, firstBad}
 use Rattle.peptide_slots.specs.Mirror.{mirror, allZero}
-use Rattle.peptide_slots.specs.MirrorLaws.{Turned, until, mirror-turned}
+use Rattle.peptide_slots.specs.MirrorLaws.{MirroredTo, until, mirror-turned}
 use Rattle.peptide_slots.specs.Windows.{window}
 use Rattle.peptide_digests.specs.DigestTestLaws.{rangeIn, Digestible, passed-digestible}
 use Rattle.peptide.specs.declared.making.Peptide.{Peptide}
 use Rattle.peptide.specs.declared.making.Made.{Made}
-use Rattle.peptide.specs.Peptides.{lettersOf, clear, testedPeptide, given, none, madeOr, reversed}
-use Rattle.peptide.specs.PeptideLaws.{contents-clear, tested-on, tested-of}
+use Rattle.peptide.specs.Peptides.{residuesOf, clear, testedPeptide, peptideFrom, noPeptide, madeOr, reversedPeptide}
+use Rattle.peptide.specs.PeptideLaws.{contents-clear, peptide-tested-on, tested-of}
 use Rattle.peptide.specs.Digested.{ofRange, digested, madeOfDigest, weighedDigest}
 
 -- ---- letters in a peptide's array
@@ -48,7 +49,7 @@ zero-from : (n : ℕ) (xs : List ℕ) → length xs ≡ 64 → ZeroFrom n xs →
 zero-from n xs l z = all-zero (drop n xs) (λ k g. getD-drop n xs k 0 ∙ z (n + k) (omega arith) (omega (arith, length-drop n xs)))
 
 module _ (n : ℕ) (xs : List ℕ) (some : 1 ≤ n) (fits : n ≤ 64) (l : length xs ≡ 64) where
-  turn : Turned n (until n) xs (mirror n xs)
+  turn : MirroredTo n (until n) xs (mirror n xs)
   turn = mirror-turned n xs (omega arith)
 
   -- what is mirrored stood inside too, what is not stays
@@ -81,43 +82,43 @@ module _ (part : List ℕ) (some : 1 ≤ length part) (fits : length part ≤ 64
 -- ---- the peptide of a range
 
 -- a peptide of letters that lies clear passes its tests
-passes-of : (q : Peptide) → 1 ≤ q .len → q .len ≤ 64 → length (lettersOf q) ≡ q .len → ((k : ℕ) → k < q .len → noLetter (lettersOf q) k ≡ false) → clear q ≡ true → testedPeptide q ≡ Tested.Passed
+passes-of : (q : Peptide) → 1 ≤ q .len → q .len ≤ 64 → length (residuesOf q) ≡ q .len → ((k : ℕ) → k < q .len → noLetter (residuesOf q) k ≡ false) → clear q ≡ true → testedPeptide q ≡ Tested.Passed
 unfolding firstBad
 passes-of q a b l h e =
-    let low = none-found (noLetter (lettersOf q)) (length (lettersOf q)) (λ k g. h k (omega arith)) in
+    let low = none-found (noLetter (residuesOf q)) (length (residuesOf q)) (λ k g. h k (omega arith)) in
     let sized : wrongSize (q .len) ≡ false = rw (ne-eqb (q .len) 0 (λ x. omega arith), le-ltb 64 (q .len) b) in
-    sym (tested-on q Tested.Passed sized (contents-clear q (firstBad (lettersOf q)) refl (omega arith) e))
+    sym (peptide-tested-on q Tested.Passed sized (contents-clear q (firstBad (residuesOf q)) refl (omega arith) e))
 
 clear-of : (q : Peptide) → length (q .letters) ≡ 64 → length (q .ids) ≡ 64 → ZeroFrom (q .len) (q .letters) → ZeroFrom (q .len) (q .ids) → q .position ≤ 3 → clear q ≡ true
 unfolding clear
 clear-of q l m y z h = rw (zero-from (q .len) (q .letters) l y, zero-from (q .len) (q .ids) m z, le-leb (q .position) 3 h)
 
 module _ (part : List ℕ) (position : ℕ) (decoy : Bool) where
-  pub range-decoy : decoy ≡ true → reversed (given part [] position false) ≡ ofRange part position decoy
+  pub range-decoy : decoy ≡ true → reversedPeptide (peptideFrom part [] position false) ≡ ofRange part position decoy
   range-decoy e = rw e
 
-  pub range-target : decoy ≡ false → given part [] position false ≡ ofRange part position decoy
+  pub range-target : decoy ≡ false → peptideFrom part [] position false ≡ ofRange part position decoy
   range-target e = rw e
 
 module _ (part : List ℕ) (some : 1 ≤ length part) (fits : length part ≤ 64) (position : ℕ) where
   abbrev plain : Peptide
-  plain = given part [] position false
+  plain = peptideFrom part [] position false
 
-  held-turned : Turned (length part) (until (length part)) (window 64 0 part) (mirror (length part) (window 64 0 part))
+  held-turned : MirroredTo (length part) (until (length part)) (window 64 0 part) (mirror (length part) (window 64 0 part))
   held-turned = turn (length part) (window 64 0 part) some fits (held-length part some fits)
 
-  pub range-length : (decoy : Bool) → length (lettersOf (ofRange part position decoy)) ≡ length part
+  pub range-length : (decoy : Bool) → length (residuesOf (ofRange part position decoy)) ≡ length part
   range-length false = length-take-le (length part) (window 64 0 part) (omega (arith, held-length part some fits))
   range-length true = length-take-le (length part) (mirror (length part) (window 64 0 part)) (omega (arith, held-length part some fits, held-turned .len))
 
-  range-letter : (decoy : Bool) (k : ℕ) → k < length part → (j : ℕ) × (j < length part) × (getD (lettersOf (ofRange part position decoy)) k 0 ≡ getD part j 0)
+  range-letter : (decoy : Bool) (k : ℕ) → k < length part → (j : ℕ) × (j < length part) × (getD (residuesOf (ofRange part position decoy)) k 0 ≡ getD part j 0)
   range-letter false k h = (k, h, getD-take (length part) (window 64 0 part) k 0 h ∙ held-in part some fits k h)
   range-letter true k h =
       let m = mirror-in (length part) (window 64 0 part) some fits (held-length part some fits) k h in
       (m .0, m .1, getD-take (length part) (mirror (length part) (window 64 0 part)) k 0 h ∙ m .2 ∙ held-in part some fits (m .0) (m .1))
 
   -- what no letter of the range passes, no letter of the peptide does
-  pub range-each : (p : ℕ → Bool) → ((k : ℕ) → k < length part → p (getD part k 0) ≡ false) → (decoy : Bool) (k : ℕ) → k < length part → p (getD (lettersOf (ofRange part position decoy)) k 0) ≡ false
+  pub range-each : (p : ℕ → Bool) → ((k : ℕ) → k < length part → p (getD part k 0) ≡ false) → (decoy : Bool) (k : ℕ) → k < length part → p (getD (residuesOf (ofRange part position decoy)) k 0) ≡ false
   range-each p h decoy k g = let m = range-letter decoy k g in ap p (m .2) ∙ h (m .0) (m .1)
 
   no-ids : ZeroFrom (length part) (window 64 2 [])
@@ -126,19 +127,19 @@ module _ (part : List ℕ) (some : 1 ≤ length part) (fits : length part ≤ 64
   range-clear : position ≤ 3 → (decoy : Bool) → clear (ofRange part position decoy) ≡ true
   range-clear h false = clear-of plain (held-length part some fits) refl (held-past part some fits) no-ids h
   range-clear h true =
-      clear-of (reversed plain) (held-turned .len ∙ held-length part some fits) (turn (length part) (window 64 2 []) some fits refl .len)
+      clear-of (reversedPeptide plain) (held-turned .len ∙ held-length part some fits) (turn (length part) (window 64 2 []) some fits refl .len)
       (mirror-past (length part) (window 64 0 part) some fits (held-length part some fits) (held-past part some fits))
       (mirror-past (length part) (window 64 2 []) some fits refl no-ids) h
 
   pub range-passes : position ≤ 3 → ((k : ℕ) → k < length part → noLetter part k ≡ false) → (decoy : Bool) → testedPeptide (ofRange part position decoy) ≡ Tested.Passed
   range-passes h l false = passes-of plain some fits (range-length false) (range-each (λ (b : ℕ). not (isLetter b)) l false) (range-clear h false)
-  range-passes h l true = passes-of (reversed plain) some fits (range-length true) (range-each (λ (b : ℕ). not (isLetter b)) l true) (range-clear h true)
+  range-passes h l true = passes-of (reversedPeptide plain) some fits (range-length true) (range-each (λ (b : ℕ). not (isLetter b)) l true) (range-clear h true)
 
   module _ (masses : List Float) (whole : length masses ≡ 26) where
-    pub range-weighed : ((k : ℕ) → k < length part → noMass masses (getD part k 0) ≡ false) → (decoy : Bool) → Tested.Passed ≡ testedLetters (lettersOf (ofRange part position decoy)) masses
+    pub range-weighed : ((k : ℕ) → k < length part → noMass masses (getD part k 0) ≡ false) → (decoy : Bool) → Tested.Passed ≡ testedLetters (residuesOf (ofRange part position decoy)) masses
     unfolding firstNoMass
     range-weighed h decoy =
-        let q : List ℕ = lettersOf (ofRange part position decoy) in
+        let q : List ℕ = residuesOf (ofRange part position decoy) in
         let l : length q ≡ length part = range-length decoy in
         let low = none-found (noMassAt masses q) (length q) (λ k g. range-each (noMass masses) h decoy k (omega arith)) in
         let sized : wrongSize (length q) ≡ false = rw (ne-eqb (length q) 0 (λ x. omega arith), le-ltb 64 (length q) (omega arith)) in
@@ -171,20 +172,20 @@ module _ (s r : List ℕ) (masses : List Float) (h : testedDigest s r masses ≡
   digested-passes = range-passes (rangeIn s r masses) some range-fits (positionIn r) (d .placed) letters-in (isDecoy r)
 
   -- its mass is that of its letters
-  pub digested-mass : (water : Float) → weighed (lettersOf (digested s r)) masses water ≡ weighedDigest s r masses water
+  pub digested-mass : (water : Float) → weighed (residuesOf (digested s r)) masses water ≡ weighedDigest s r masses water
   unfolding digested weighedDigest
-  digested-mass water = sym (weighed-passed (lettersOf (digested s r)) masses water (range-weighed (rangeIn s r masses) some range-fits (positionIn r) masses (d .whole) masses-in (isDecoy r))) ∙ ap (λ (t : Tested). weighedOr t (addAll masses water (lettersOf (digested s r)))) (sym h)
+  digested-mass water = sym (weighed-passed (residuesOf (digested s r)) masses water (range-weighed (rangeIn s r masses) some range-fits (positionIn r) masses (d .whole) masses-in (isDecoy r))) ∙ ap (λ (t : Tested). weighedOr t (addAll masses water (residuesOf (digested s r)))) (sym h)
 
 -- ---- what was made, and what was weighed
 
 module _ (s r : List ℕ) (masses : List Float) where
   pub made-tested : (m : Made) → m ≡ madeOfDigest s r masses → m .tested ≡ testedDigest s r masses
   unfolding madeOfDigest
-  made-tested m e = ap (λ (x : Made). x .tested) e ∙ tested-of (testedDigest s r masses) (digested s r) none
+  made-tested m e = ap (λ (x : Made). x .tested) e ∙ tested-of (testedDigest s r masses) (digested s r) noPeptide
 
   pub made-digested : testedDigest s r masses ≡ Tested.Passed → (m : Made) → m ≡ madeOfDigest s r masses → m .peptide ≡ digested s r
   unfolding madeOfDigest
-  made-digested h m e = ap (λ (x : Made). x .peptide) e ∙ ap (λ (t : Tested). madeOr t (digested s r) none .peptide) h
+  made-digested h m e = ap (λ (x : Made). x .peptide) e ∙ ap (λ (t : Tested). madeOr t (digested s r) noPeptide .peptide) h
 
   pub mass-refused : (water : Float) (why : Refusal) → testedDigest s r masses ≡ Tested.Refused why → Weighed.Refused why ≡ weighedDigest s r masses water
   unfolding weighedDigest

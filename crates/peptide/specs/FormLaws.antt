@@ -19,7 +19,7 @@ use Rattle.records.specs.Outcome.{outcome, only}
 use Rattle.records.specs.Room.{counted}
 use Rattle.modification_rules.specs.Rules.{ruleAt}
 use Rattle.peptide_choices.specs.Choices.{bySize}
-use Rattle.peptide_choices.specs.ListingLaws.{Complete, complete}
+use Rattle.peptide_choices.specs.ListingLaws.{Complete, listing-complete}
 use Rattle.peptide_slots.specs.Hits.{fillAt}
 use Rattle.peptide_slots.specs.Filling.{apply}
 use Rattle.peptide_slots.specs.Used.{used}
@@ -27,7 +27,7 @@ use Rattle.peptide_slots.specs.FillLaws.{length-apply, fill-at-keeps}
 use Rattle.peptide_slots.specs.Overlays.{overlay}
 use Rattle.peptide_slots.specs.OverlayLaws.{fixed-by-table}
 use Rattle.peptide_forms.specs.Enumeration.{mostForms, noCap}
-use Rattle.peptide_forms.specs.Packed.{choices as packedChoices, chosen as packedChosen, formOf as packedForm}
+use Rattle.peptide_forms.specs.Packed.{packedChoices, packedChosen, packedForm}
 use Rattle.peptide_forms.specs.CapLaws.{accepted-all}
 use Rattle.peptide_forms.specs.UsedLaws.{choices-used}
 use Rattle.peptide_forms.specs.RunLaws.{quick}
@@ -37,30 +37,30 @@ use Rattle.records.specs.declared.refusal.Counted.{Counted}
 use Rattle.records.specs.Tested.{andThen}
 use Rattle.records.specs.TestedLaws.{passed-both, passed-first}
 use Rattle.peptide.specs.Peptides.{testedContents}
-use Rattle.peptide.specs.Sites.{Site, sitesOf, passes, filled}
+use Rattle.peptide.specs.Sites.{Site, ruleSites, passes, filled}
 use Rattle.peptide.specs.Forms.{testedForms, bare, chosen, choices, formOf, formsOutcome}
 use Rattle.peptide.specs.PackedLaws.{packedSites, packedForms, forms-packed}
 
 -- ---- all tests
 
 module _ (p : Peptide) (variable fixed : List ℕ) (limit : ℕ) where
-  pub tested-large : tooLarge (p .len) variable fixed limit ≡ true → Tested.Refused Size ≡ testedForms p variable fixed limit
+  pub forms-tested-large : tooLarge (p .len) variable fixed limit ≡ true → Tested.Refused Size ≡ testedForms p variable fixed limit
   unfolding testedForms
-  tested-large e = rw e
+  forms-tested-large e = rw e
 
   module _ (sized : tooLarge (p .len) variable fixed limit ≡ false) where
-    pub tested-whole : notWhole variable fixed ≡ true → Tested.Refused Length ≡ testedForms p variable fixed limit
+    pub forms-tested-whole : notWhole variable fixed ≡ true → Tested.Refused Length ≡ testedForms p variable fixed limit
     unfolding testedForms
-    tested-whole e = rw (sized, e)
+    forms-tested-whole e = rw (sized, e)
 
     module _ (whole : notWhole variable fixed ≡ false) where
-      pub tested-contents : (why : Refusal) → Tested.Refused why ≡ testedContents p → Tested.Refused why ≡ testedForms p variable fixed limit
+      pub forms-tested-contents : (why : Refusal) → Tested.Refused why ≡ testedContents p → Tested.Refused why ≡ testedForms p variable fixed limit
       unfolding testedForms
-      tested-contents why e = rw (sized, whole, ← e)
+      forms-tested-contents why e = rw (sized, whole, ← e)
 
-      pub tested-lists : (r : Tested) → Tested.Passed ≡ testedContents p → r ≡ testedLists variable fixed → r ≡ testedForms p variable fixed limit
+      pub forms-tested-lists : (r : Tested) → Tested.Passed ≡ testedContents p → r ≡ testedLists variable fixed → r ≡ testedForms p variable fixed limit
       unfolding testedForms
-      tested-lists r e f = rw (sized, whole, ← e) f
+      forms-tested-lists r e f = rw (sized, whole, ← e) f
 
   -- what is known once they passed
   passed-apart : testedForms p variable fixed limit ≡ Tested.Passed → (tooLarge (p .len) variable fixed limit ≡ false) × (notWhole variable fixed ≡ false) × (testedLists variable fixed ≡ Tested.Passed)
@@ -128,17 +128,17 @@ filled-stays rules form (s ∷ ss) k h =
     filled-stays rules next ss k (λ (z : getD next k 0 ≡ 0). h (sym e ∙ z)) ∙ e
 
 -- a fixed rule never changes a slot that a variable one, or the peptide itself, has filled
-pub fixed-never-overwrites : (p : Peptide) (variable fixed c : List ℕ) (k : ℕ) → (getD (filled variable (bare p) (chosen (sitesOf p variable) c)) k 0 ≡ 0 → ⊥)
-    → getD (formOf p variable fixed c) k 0 ≡ getD (filled variable (bare p) (chosen (sitesOf p variable) c)) k 0
+pub fixed-never-overwrites : (p : Peptide) (variable fixed c : List ℕ) (k : ℕ) → (getD (filled variable (bare p) (chosen (ruleSites p variable) c)) k 0 ≡ 0 → ⊥)
+    → getD (formOf p variable fixed c) k 0 ≡ getD (filled variable (bare p) (chosen (ruleSites p variable) c)) k 0
 unfolding formOf
-fixed-never-overwrites p variable fixed c k h = filled-stays fixed (filled variable (bare p) (chosen (sitesOf p variable) c)) (sitesOf p fixed) k h
+fixed-never-overwrites p variable fixed c k h = filled-stays fixed (filled variable (bare p) (chosen (ruleSites p variable) c)) (ruleSites p fixed) k h
 
 -- without a cap the forms are those of the empty choice and of all choices that pass, in order, each once
 pub forms-complete : (p : Peptide) (variable : List ℕ) (limit : ℕ)
-    → (list : List (List ℕ)) × (choices (sitesOf p variable) variable limit noCap ≡ [] ∷ list) × Complete (λ (c : List ℕ). passes variable (chosen (sitesOf p variable) c)) (length (sitesOf p variable)) limit list
+    → (list : List (List ℕ)) × (choices (ruleSites p variable) variable limit noCap ≡ [] ∷ list) × Complete (λ (c : List ℕ). passes variable (chosen (ruleSites p variable) c)) (length (ruleSites p variable)) limit list
 unfolding choices
 forms-complete p variable limit =
-    let sites : List Site = sitesOf p variable in
+    let sites : List Site = ruleSites p variable in
     let ok : List ℕ → Bool = λ (c : List ℕ). passes variable (chosen sites c) in
     let list : List (List ℕ) = keep ok (bySize (length sites) 1 limit) in
-    (list, ap (λ (z : List (List ℕ)). [] ∷ z) (accepted-all 1 (keep ok (bySize (length sites) 1 limit))), complete ok (length sites) limit)
+    (list, ap (λ (z : List (List ℕ)). [] ∷ z) (accepted-all 1 (keep ok (bySize (length sites) 1 limit))), listing-complete ok (length sites) limit)

@@ -12,13 +12,13 @@ use Rattle.records.specs.declared.refusal.Tested.{Tested}
 use Rattle.records.specs.Outcome.{Outcome, unlessRefused}
 use Rattle.records.specs.Room.{counted}
 use Rattle.peptide_choices.specs.Choices.{bySize}
-use Rattle.peptide_forms.specs.Enumeration.{mostForms, accepted}
+use Rattle.peptide_forms.specs.Enumeration.{mostForms, upToCap}
 use Rattle.peptide_listing.specs.FormTests.{tooLarge, notWhole, testedLists}
 use Rattle.peptide.specs.declared.making.Peptide.{Peptide}
 use Rattle.records.specs.declared.refusal.Counted.{Counted}
 use Rattle.records.specs.Tested.{andThen}
 use Rattle.peptide.specs.Peptides.{testedContents}
-use Rattle.peptide.specs.Sites.{Site, site, sitesOf, passes, filled}
+use Rattle.peptide.specs.Sites.{Site, ruleSite, ruleSites, passes, filled}
 
 -- ---- the tests
 
@@ -37,22 +37,22 @@ bare p = p .nterm ∷ p .cterm ∷ p .ids
 
 -- the sites at the chosen places
 abbrev pub chosen : List Site → List ℕ → List Site
-chosen sites c = map (λ (k : ℕ). getD sites k (site 0 0)) c
+chosen sites c = map (λ (k : ℕ). getD sites k (ruleSite 0 0)) c
 
 -- the choices that make forms, each a list of places among the sites, the empty one first
 unfoldable pub choices : List Site → List ℕ → ℕ → ℕ → List (List ℕ)
-unfolding accepted bySize passes
-choices sites rules limit cap = [] ∷ accepted cap 1 (keep (λ (c : List ℕ). passes rules (chosen sites c)) (bySize (length sites) 1 limit))
+unfolding upToCap bySize passes
+choices sites rules limit cap = [] ∷ upToCap cap 1 (keep (λ (c : List ℕ). passes rules (chosen sites c)) (bySize (length sites) 1 limit))
 
 -- a form: the chosen sites of the variable rules, then all sites of the fixed ones
 unfoldable pub formOf : Peptide → List ℕ → List ℕ → List ℕ → List ℕ
-unfolding filled sitesOf
-formOf p variable fixed c = filled fixed (filled variable (bare p) (chosen (sitesOf p variable) c)) (sitesOf p fixed)
+unfolding filled ruleSites
+formOf p variable fixed c = filled fixed (filled variable (bare p) (chosen (ruleSites p variable) c)) (ruleSites p fixed)
 
 -- of at most `limit` variable sites each, at most `cap` in all
 unfoldable pub formsOf : Peptide → List ℕ → List ℕ → ℕ → ℕ → List (List ℕ)
 unfolding choices formOf
-formsOf p variable fixed limit cap = map (formOf p variable fixed) (choices (sitesOf p variable) variable limit cap)
+formsOf p variable fixed limit cap = map (formOf p variable fixed) (choices (ruleSites p variable) variable limit cap)
 
 -- ---- the answer
 

@@ -21,16 +21,16 @@ use Rattle.modification_kinds.specs.declared.specificity.Specificity.the-varian
 use Rattle.modification_kinds.specs.Specificities.{kindOf, letterOf, specificity, sound}
 use Rattle.modification_rules.specs.Rules.{goodRule, noRule, noLimit, ruleAt, firstBadRule}
 use Rattle.peptide_choices.specs.Choices.{bySize}
-use Rattle.peptide_slots.specs.Sites.{kindAt, letterAt, limitAt, slotOf, ruleOf, ifHit, hitFrom, placesOf, slotsOf as slotNumbers, sitesFrom, allSites}
+use Rattle.peptide_slots.specs.Sites.{kindAt, letterAt, limitAt, slotOf, ruleOf, ifHit, hitFrom, placesOf, slotNumbers, sitesFrom, allSites}
 use Rattle.peptide_slots.specs.SiteLaws.{slot-back, rule-back}
 use Rattle.peptide_slots.specs.Filling.{apply}
-use Rattle.peptide_forms.specs.Passing.{passes as packedPasses}
+use Rattle.peptide_forms.specs.Passing.{packedPasses}
 use Rattle.peptide_forms.specs.PassingLaws.{swap}
-use Rattle.peptide_forms.specs.Enumeration.{accepted}
-use Rattle.peptide_forms.specs.Packed.{choices as packedChoices, chosen as packedChosen, formOf as packedForm}
+use Rattle.peptide_forms.specs.Enumeration.{upToCap}
+use Rattle.peptide_forms.specs.Packed.{packedChoices, packedChosen, packedForm}
 use Rattle.peptide_forms.specs.UsedLaws.{freeIn, usesIn, onceIn, limitsIn, fine, passes-chosen}
 use Rattle.peptide.specs.declared.making.Peptide.{Peptide}
-use Rattle.peptide.specs.Sites.{Site, site, hits, slotsOf, sitesOf, each, passes, filled}
+use Rattle.peptide.specs.Sites.{Site, ruleSite, hits, slotsOf, ruleSites, each, passes, filled}
 use Rattle.peptide.specs.Forms.{bare, chosen, choices, formOf, formsOf}
 
 -- ---- the forms by numbers
@@ -44,10 +44,10 @@ packedForms p variable fixed limit cap =
 
 -- the site that a number stands for
 abbrev unpack : ℕ → Site
-unpack x = site (ruleOf x) (slotOf x)
+unpack x = ruleSite (ruleOf x) (slotOf x)
 
-unpacked : (r slot : ℕ) → slot < 128 → site r slot ≡ unpack (r * 128 + slot)
-unpacked r slot h = ap₂ site (sym (rule-back r slot h)) (sym (slot-back r slot h))
+unpacked : (r slot : ℕ) → slot < 128 → ruleSite r slot ≡ unpack (r * 128 + slot)
+unpacked r slot h = ap₂ ruleSite (sym (rule-back r slot h)) (sym (slot-back r slot h))
 
 -- ---- the kind and the letter of a rule are read back
 
@@ -87,25 +87,25 @@ kinds fixed rules e r h =
 
 -- ---- the sites
 
-residues : (r : ℕ) (hit : ℕ → Bool) (j c : ℕ) → j + c ≤ 64 → map (site r) (keep hit (upFrom (suc (suc j)) c)) ≡ map unpack (hitFrom (λ (k : ℕ). hit (suc (suc k))) (r * 128) j c)
+residues : (r : ℕ) (hit : ℕ → Bool) (j c : ℕ) → j + c ≤ 64 → map (ruleSite r) (keep hit (upFrom (suc (suc j)) c)) ≡ map unpack (hitFrom (λ (k : ℕ). hit (suc (suc k))) (r * 128) j c)
 unfolding hitFrom ifHit
 residues r hit j zero h = refl
 residues r hit j (suc c) h = go (hit (suc (suc j))) (residues r hit (suc j) c (omega arith))
   where
-    here : site r (suc (suc j)) ≡ unpack (r * 128 + (j + 2))
+    here : ruleSite r (suc (suc j)) ≡ unpack (r * 128 + (j + 2))
     here = unpacked r (suc (suc j)) (omega arith) ∙ ap unpack (let e : r * 128 + suc (suc j) ≡ r * 128 + (j + 2) = omega arith in e)
 
-    go : (b : Bool) → map (site r) (keep hit (upFrom (suc (suc (suc j))) c)) ≡ map unpack (hitFrom (λ (k : ℕ). hit (suc (suc k))) (r * 128) (suc j) c)
-        → map (site r) (cond b (suc (suc j) ∷ keep hit (upFrom (suc (suc (suc j))) c)) (keep hit (upFrom (suc (suc (suc j))) c)))
+    go : (b : Bool) → map (ruleSite r) (keep hit (upFrom (suc (suc (suc j))) c)) ≡ map unpack (hitFrom (λ (k : ℕ). hit (suc (suc k))) (r * 128) (suc j) c)
+        → map (ruleSite r) (cond b (suc (suc j) ∷ keep hit (upFrom (suc (suc (suc j))) c)) (keep hit (upFrom (suc (suc (suc j))) c)))
         ≡ map unpack (cond b ((r * 128 + (j + 2)) ∷ []) [] ++ hitFrom (λ (k : ℕ). hit (suc (suc k))) (r * 128) (suc j) c)
     go true e = ap₂ {C = List Site} (λ (x : Site) (xs : List Site). x ∷ xs) here e
     go false e = e
 
 -- of one rule: the slots of both ends, then those of the residues
-rule-sites : (p : Peptide) (r kind letter : ℕ) → p .len ≤ 64 → map (site r) (keep (hits p kind letter) (upFrom 0 (p .len + 2))) ≡ map unpack (slotNumbers (p .letters) (p .len) kind (p .position) letter (r * 128))
+rule-sites : (p : Peptide) (r kind letter : ℕ) → p .len ≤ 64 → map (ruleSite r) (keep (hits p kind letter) (upFrom 0 (p .len + 2))) ≡ map unpack (slotNumbers (p .letters) (p .len) kind (p .position) letter (r * 128))
 unfolding slotNumbers placesOf ifHit
 rule-sites p r kind letter h =
-    ap (λ (n : ℕ). map (site r) (keep (hits p kind letter) (upFrom 0 n))) (let e : p .len + 2 ≡ suc (suc (p .len)) = omega arith in e)
+    ap (λ (n : ℕ). map (ruleSite r) (keep (hits p kind letter) (upFrom 0 n))) (let e : p .len + 2 ≡ suc (suc (p .len)) = omega arith in e)
     ∙ go (hits p kind letter 0) (hits p kind letter 1) (residues r (hits p kind letter) 0 (p .len) (omega arith))
   where
     rest : List ℕ
@@ -114,36 +114,36 @@ rule-sites p r kind letter h =
     more : List ℕ
     more = hitFrom (λ (k : ℕ). hits p kind letter (suc (suc k))) (r * 128) 0 (p .len)
 
-    at : (slot : ℕ) → slot < 128 → (xs : List Site) → site r slot ∷ xs ≡ unpack (r * 128 + slot) ∷ xs
+    at : (slot : ℕ) → slot < 128 → (xs : List Site) → ruleSite r slot ∷ xs ≡ unpack (r * 128 + slot) ∷ xs
     at slot l xs = ap (λ (x : Site). x ∷ xs) (unpacked r slot l)
 
     zero-slot : r * 128 ≡ r * 128 + 0
     zero-slot = omega arith
 
-    second : (c : Bool) → map (site r) rest ≡ map unpack more → map (site r) (cond c (1 ∷ rest) rest) ≡ map unpack (cond c ((r * 128 + 1) ∷ []) [] ++ more)
-    second true e = at 1 (omega arith) (map (site r) rest) ∙ ap (λ (xs : List Site). unpack (r * 128 + 1) ∷ xs) e
+    second : (c : Bool) → map (ruleSite r) rest ≡ map unpack more → map (ruleSite r) (cond c (1 ∷ rest) rest) ≡ map unpack (cond c ((r * 128 + 1) ∷ []) [] ++ more)
+    second true e = at 1 (omega arith) (map (ruleSite r) rest) ∙ ap (λ (xs : List Site). unpack (r * 128 + 1) ∷ xs) e
     second false e = e
 
-    go : (b c : Bool) → map (site r) rest ≡ map unpack more
-        → map (site r) (cond b (0 ∷ cond c (1 ∷ rest) rest) (cond c (1 ∷ rest) rest)) ≡ map unpack (cond b ((r * 128) ∷ []) [] ++ (cond c ((r * 128 + 1) ∷ []) [] ++ more))
+    go : (b c : Bool) → map (ruleSite r) rest ≡ map unpack more
+        → map (ruleSite r) (cond b (0 ∷ cond c (1 ∷ rest) rest) (cond c (1 ∷ rest) rest)) ≡ map unpack (cond b ((r * 128) ∷ []) [] ++ (cond c ((r * 128 + 1) ∷ []) [] ++ more))
     go true c e =
-        at 0 (omega arith) (map (site r) (cond c (1 ∷ rest) rest))
+        at 0 (omega arith) (map (ruleSite r) (cond c (1 ∷ rest) rest))
         ∙ ap₂ {C = List Site} (λ (x : ℕ) (xs : List Site). unpack x ∷ xs) (sym zero-slot) (second c e)
     go false c e = second c e
 
 sites-from : (p : Peptide) (rules : List ℕ) → p .len ≤ 64 → Kinds rules → (r k : ℕ) → r + k ≤ length rules / 8
-    → flatten (map (λ (i : ℕ). map (site i) (slotsOf p (ruleAt rules i))) (upFrom r k)) ≡ map unpack (sitesFrom (p .letters) (p .len) (p .position) rules r k)
+    → flatten (map (λ (i : ℕ). map (ruleSite i) (slotsOf p (ruleAt rules i))) (upFrom r k)) ≡ map unpack (sitesFrom (p .letters) (p .len) (p .position) rules r k)
 unfolding sitesFrom flatten
 sites-from p rules h good r zero l = refl
 sites-from p rules h good r (suc k) l =
     ap₂ _++_
-    (ap₂ (λ (kind letter : ℕ). map (site r) (keep (hits p kind letter) (upFrom 0 (p .len + 2)))) (kind-back (kindAt rules r) (letterAt rules r) (good r (omega arith))) (letter-back (kindAt rules r) (letterAt rules r))
+    (ap₂ (λ (kind letter : ℕ). map (ruleSite r) (keep (hits p kind letter) (upFrom 0 (p .len + 2)))) (kind-back (kindAt rules r) (letterAt rules r) (good r (omega arith))) (letter-back (kindAt rules r) (letterAt rules r))
     ∙ rule-sites p r (kindAt rules r) (letterAt rules r) h)
     (sites-from p rules h good (suc r) k (omega arith))
     ∙ sym (map-append unpack (slotNumbers (p .letters) (p .len) (kindAt rules r) (p .position) (letterAt rules r) (r * 128)) (sitesFrom (p .letters) (p .len) (p .position) rules (suc r) k))
 
-sites-packed : (p : Peptide) (rules : List ℕ) → p .len ≤ 64 → Kinds rules → sitesOf p rules ≡ map unpack (packedSites p rules)
-unfolding sitesOf allSites
+sites-packed : (p : Peptide) (rules : List ℕ) → p .len ≤ 64 → Kinds rules → ruleSites p rules ≡ map unpack (packedSites p rules)
+unfolding ruleSites allSites
 sites-packed p rules h good = sites-from p rules h good 0 (length rules / 8) (omega arith)
 
 -- ---- which choices pass
@@ -237,7 +237,7 @@ filled-packed rules form (x ∷ xs) = filled-packed rules _ xs
 choices-packed : (ps rules : List ℕ) (limit cap : ℕ) → choices (map unpack ps) rules limit cap ≡ packedChoices ps rules limit cap
 unfolding choices packedChoices
 choices-packed ps rules limit cap =
-    ap (λ (z : List (List ℕ)). [] ∷ accepted cap 1 z)
+    ap (λ (z : List (List ℕ)). [] ∷ upToCap cap 1 z)
     (ap (λ (n : ℕ). keep (λ (c : List ℕ). passes rules (chosen (map unpack ps) c)) (bySize n 1 limit)) (length-map ps unpack)
     ∙ keep-alike (λ (c : List ℕ). passes rules (chosen (map unpack ps) c)) (packedPasses ps rules) (bySize (length ps) 1 limit)
     (λ c i. ap (passes rules) (chosen-packed ps c) ∙ sym (passes-packed rules (packedChosen ps c)) ∙ sym (passes-chosen ps rules c)))
@@ -247,13 +247,13 @@ pub forms-packed : (p : Peptide) (variable fixed : List ℕ) (limit cap : ℕ) �
 unfolding testedLists formsOf packedForms formOf packedForm
 forms-packed p variable fixed limit cap h e =
     let t = passed-both (fieldTested (firstBadRule false variable) (length variable / 8)) (fieldTested (firstBadRule true fixed) (length fixed / 8)) e in
-    let v : sitesOf p variable ≡ map unpack (packedSites p variable) = sites-packed p variable h (kinds false variable (t .0)) in
-    let f : sitesOf p fixed ≡ map unpack (packedSites p fixed) = sites-packed p fixed h (kinds true fixed (t .1)) in
-    map-alike (formOf p variable fixed) (packedForm (bare p) (packedSites p variable) variable (packedSites p fixed) fixed) (choices (sitesOf p variable) variable limit cap) (λ c i. form v f c)
+    let v : ruleSites p variable ≡ map unpack (packedSites p variable) = sites-packed p variable h (kinds false variable (t .0)) in
+    let f : ruleSites p fixed ≡ map unpack (packedSites p fixed) = sites-packed p fixed h (kinds true fixed (t .1)) in
+    map-alike (formOf p variable fixed) (packedForm (bare p) (packedSites p variable) variable (packedSites p fixed) fixed) (choices (ruleSites p variable) variable limit cap) (λ c i. form v f c)
     ∙ ap (map (packedForm (bare p) (packedSites p variable) variable (packedSites p fixed) fixed))
     (ap (λ (s : List Site). choices s variable limit cap) v ∙ choices-packed (packedSites p variable) variable limit cap)
   where
-    form : sitesOf p variable ≡ map unpack (packedSites p variable) → sitesOf p fixed ≡ map unpack (packedSites p fixed) → (c : List ℕ)
+    form : ruleSites p variable ≡ map unpack (packedSites p variable) → ruleSites p fixed ≡ map unpack (packedSites p fixed) → (c : List ℕ)
         → formOf p variable fixed c ≡ packedForm (bare p) (packedSites p variable) variable (packedSites p fixed) fixed c
     form v f c =
         ap₂ (λ (x y : List Site). filled fixed (filled variable (bare p) (chosen x c)) y) v f

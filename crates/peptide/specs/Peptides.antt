@@ -20,8 +20,8 @@ use Rattle.peptide.specs.declared.making.Made.{Made}
 -- ---- the tests
 
 -- the letters that count
-abbrev pub lettersOf : Peptide → List ℕ
-lettersOf p = take (p .len) (p .letters)
+abbrev pub residuesOf : Peptide → List ℕ
+residuesOf p = take (p .len) (p .letters)
 
 -- places past the length are 0, and the position is one of the four
 unfoldable pub clear : Peptide → Bool
@@ -32,7 +32,7 @@ clear p = allZero (drop (p .len) (p .letters)) && allZero (drop (p .len) (p .ids
 unfoldable pub testedContents : Peptide → Tested
 unfolding firstBad clear
 testedContents p =
-    cond (ltb (firstBad (lettersOf p)) (p .len)) (Tested.Refused (Letter (firstBad (lettersOf p))))
+    cond (ltb (firstBad (residuesOf p)) (p .len)) (Tested.Refused (Letter (firstBad (residuesOf p))))
     (cond (clear p) Tested.Passed (Tested.Refused (Field 0)))
 
 unfoldable pub testedPeptide : Peptide → Tested
@@ -47,8 +47,8 @@ madeOr (Tested.Refused why) new other = record { tested = Tested.Refused why; pe
 -- ---- peptides
 
 -- of 1 to 64 letters, with the ids of a form: both ends, then the residues. With no form it is unmodified
-abbrev pub given : List ℕ → List ℕ → ℕ → Bool → Peptide
-given letters form position decoy =
+abbrev pub peptideFrom : List ℕ → List ℕ → ℕ → Bool → Peptide
+peptideFrom letters form position decoy =
     record {
       letters = window 64 0 letters;
       ids = window 64 2 form;
@@ -60,17 +60,17 @@ given letters form position decoy =
     }
 
 -- what is handed out where none was made
-abbrev pub none : Peptide
-none = given [] [] 0 false
+abbrev pub noPeptide : Peptide
+noPeptide = peptideFrom [] [] 0 false
 
 -- of a form's one record: 1, 8, then 2 and 9 of the peptide
 abbrev pub madeOfForm : List ℕ → List ℕ → ℕ → Bool → Made
 madeOfForm letters form position decoy =
-    let p = given letters form position decoy in
-    madeOr (andThen (testedForm letters form) (testedContents p)) p none
+    let p = peptideFrom letters form position decoy in
+    madeOr (andThen (testedForm letters form) (testedContents p)) p noPeptide
 
-abbrev pub reversed : Peptide → Peptide
-reversed p =
+abbrev pub reversedPeptide : Peptide → Peptide
+reversedPeptide p =
     record {
       letters = mirror (p .len) (p .letters);
       ids = mirror (p .len) (p .ids);

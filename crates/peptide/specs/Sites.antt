@@ -18,8 +18,8 @@ pub record Site : Type 0 where
   pub rule : ℕ
   pub slot : ℕ
 
-abbrev pub site : ℕ → ℕ → Site
-site rule slot = record { rule = rule; slot = slot }
+abbrev pub ruleSite : ℕ → ℕ → Site
+ruleSite rule slot = record { rule = rule; slot = slot }
 
 -- a rule of a kind without a letter hits the slot of an end, one with a letter those of residues
 abbrev pub hits : Peptide → ℕ → ℕ → ℕ → Bool
@@ -32,9 +32,9 @@ abbrev pub slotsOf : Peptide → Rule → List ℕ
 slotsOf p rule = keep (hits p (kindOf (rule .on)) (letterOf (rule .on))) (upFrom 0 (p .len + 2))
 
 -- rules in order, each rule's sites ascending
-unfoldable pub sitesOf : Peptide → List ℕ → List Site
+unfoldable pub ruleSites : Peptide → List ℕ → List Site
 unfolding flatten
-sitesOf p rules = flatten (map (λ (r : ℕ). map (site r) (slotsOf p (ruleAt rules r))) (upFrom 0 (length rules / 8)))
+ruleSites p rules = flatten (map (λ (r : ℕ). map (ruleSite r) (slotsOf p (ruleAt rules r))) (upFrom 0 (length rules / 8)))
 
 -- ---- some of the sites
 

@@ -8,7 +8,7 @@ ghost use Prim.Native.Nat.{_≤_};
 ghost use lib.ListN.{length};
 ghost use Rattle.peptide_mass.specs.Masses.{testedPart};
 ghost use Rattle.records.specs.declared.refusal.Tested.the-variants.{Refused};
-ghost use Rattle.peptide.specs.Peptides.{testedPeptide, reversed, given, none, madeOr, madeOfForm};
+ghost use Rattle.peptide.specs.Peptides.{testedPeptide, reversedPeptide, peptideFrom, noPeptide, madeOr, madeOfForm};
 
 // Its letters and the ids of its residues, of which the first len count; the ids of its ends; its place in the protein. An
 // id of 0 is none.
@@ -31,7 +31,7 @@ pub struct Made {
 // The peptide of some letters with the ids of a form, its contents untested.
 pub(crate) fn given(letters: &[u8], form: &[u8], position: u8, decoy: bool) -> Peptide
     requires { ⌜ length (now letters) ≤ 64 ⌝ }
-    ensures { λ r. ⌜ r ≡ given (now (letters .entry)) (now (form .entry)) position decoy ⌝ }
+    ensures { λ r. ⌜ r ≡ peptideFrom (now (letters .entry)) (now (form .entry)) position decoy ⌝ }
 {
     let held = peptide_slots::window(letters, 0);
     let ids = peptide_slots::window(form, 2);
@@ -51,7 +51,7 @@ pub(crate) fn given(letters: &[u8], form: &[u8], position: u8, decoy: bool) -> P
 
 // The peptide that is handed out where none was made.
 fn none() -> Peptide
-    ensures { λ r. ⌜ r ≡ none ⌝ }
+    ensures { λ r. ⌜ r ≡ noPeptide ⌝ }
 {
     Peptide {
         letters: [0; 64],
@@ -66,7 +66,7 @@ fn none() -> Peptide
 
 // What is answered where tests refuse.
 pub(crate) fn refused(why: Refusal) -> Made
-    ensures { λ r. ⌜ r ≡ madeOr (Refused why) none none ⌝ }
+    ensures { λ r. ⌜ r ≡ madeOr (Refused why) noPeptide noPeptide ⌝ }
 {
     let tested = Tested::Refused(why);
     let peptide = none();
@@ -76,7 +76,7 @@ pub(crate) fn refused(why: Refusal) -> Made
 // A peptide reversed, its contents untested: the inner letters and residue ids, the ends as they are, the decoy flag flipped.
 pub(crate) fn turned(p: Peptide) -> Peptide
     requires { ⌜ p .len ≤ 64 ⌝ }
-    ensures { λ r. ⌜ r ≡ reversed p ⌝ }
+    ensures { λ r. ⌜ r ≡ reversedPeptide p ⌝ }
 {
     let n = p.len as usize;
     let old_letters = p.letters;
@@ -112,7 +112,7 @@ impl Peptide {
 
     // The unmodified peptide of a part of a protein, such as `&protein[start..end]`. Masses are those of A to Z.
     pub fn of_part(part: &[u8], masses: &[f32], position: u8, decoy: bool) -> Made
-        ensures { λ r. ⌜ r ≡ madeOr (testedPart (now (part .entry)) (now (masses .entry)) position) (given (now (part .entry)) [] position decoy) none ⌝ }
+        ensures { λ r. ⌜ r ≡ madeOr (testedPart (now (part .entry)) (now (masses .entry)) position) (peptideFrom (now (part .entry)) [] position decoy) noPeptide ⌝ }
     {
         if let Tested::Refused(why) = peptide_mass::test_part(part, masses, position) {
             return refused(why);
@@ -124,7 +124,7 @@ impl Peptide {
 
     // The inner letters and residue ids reversed, the ends as they are, the decoy flag flipped.
     pub fn reverse(self) -> Made
-        ensures { λ r. ⌜ r ≡ madeOr (testedPeptide self) (reversed self) self ⌝ }
+        ensures { λ r. ⌜ r ≡ madeOr (testedPeptide self) (reversedPeptide self) self ⌝ }
     {
         if let Tested::Refused(why) = tests::test_peptide(self) {
             let tested = Tested::Refused(why);

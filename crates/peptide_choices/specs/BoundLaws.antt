@@ -12,12 +12,12 @@ snoc p a = p ++ (a ∷ [])
 
 -- the choices visited among those that begin with p, which is fine, and take n more of the len places from lo: a bad place
 -- costs one visit
-unfoldable pub visited : (List ℕ → Bool) → List ℕ → ℕ → ℕ → ℕ → ℕ
-visited ok p zero len lo = 1
-visited ok p (suc k) zero lo = 0
-visited ok p (suc k) (suc l) lo =
-    let on = visited ok (p ++ (lo ∷ [])) k l (suc lo) in
-    let rest = visited ok p (suc k) l (suc lo) in
+unfoldable pub visitsAmong : (List ℕ → Bool) → List ℕ → ℕ → ℕ → ℕ → ℕ
+visitsAmong ok p zero len lo = 1
+visitsAmong ok p (suc k) zero lo = 0
+visitsAmong ok p (suc k) (suc l) lo =
+    let on = visitsAmong ok (p ++ (lo ∷ [])) k l (suc lo) in
+    let rest = visitsAmong ok p (suc k) l (suc lo) in
     cond (ok (p ++ (lo ∷ []))) on (cond (leb k l) 1 0) + rest
 
 -- those of them that pass
@@ -59,25 +59,25 @@ module _ (ok : List ℕ → Bool) where
       rw e (omega arith)
 
   -- each choice of fewer places that passes pays for at most M visits
-  pub few-visits : (M : ℕ) (p : List ℕ) (k len lo : ℕ) → len ≤ M → visited ok p (suc k) len lo ≤ goods ok p (suc k) len lo + M * tot ok p k len lo + len
-  unfolding visited goods tot
+  pub few-visits : (M : ℕ) (p : List ℕ) (k len lo : ℕ) → len ≤ M → visitsAmong ok p (suc k) len lo ≤ goods ok p (suc k) len lo + M * tot ok p k len lo + len
+  unfolding visitsAmong goods tot
   few-visits M p k zero lo h = omega arith
   few-visits M p zero (suc l) lo h = go (few-visits M p zero l (suc lo) (omega arith)) (ok (snoc p lo)) refl
     where
-      go : visited ok p (suc zero) l (suc lo) ≤ goods ok p (suc zero) l (suc lo) + M * tot ok p zero l (suc lo) + l → (b : Bool) → ok (snoc p lo) ≡ b
-          → cond b 1 (cond (leb zero l) 1 0) + visited ok p (suc zero) l (suc lo) ≤ (cond b 1 0 + goods ok p (suc zero) l (suc lo)) + M * tot ok p zero (suc l) lo + suc l
+      go : visitsAmong ok p (suc zero) l (suc lo) ≤ goods ok p (suc zero) l (suc lo) + M * tot ok p zero l (suc lo) + l → (b : Bool) → ok (snoc p lo) ≡ b
+          → cond b 1 (cond (leb zero l) 1 0) + visitsAmong ok p (suc zero) l (suc lo) ≤ (cond b 1 0 + goods ok p (suc zero) l (suc lo)) + M * tot ok p zero (suc l) lo + suc l
       go ih true e = omega arith
       go ih false e = bad (leb zero l)
         where
-          bad : (t : Bool) → cond t 1 0 + visited ok p (suc zero) l (suc lo) ≤ (0 + goods ok p (suc zero) l (suc lo)) + M * tot ok p zero (suc l) lo + suc l
+          bad : (t : Bool) → cond t 1 0 + visitsAmong ok p (suc zero) l (suc lo) ≤ (0 + goods ok p (suc zero) l (suc lo)) + M * tot ok p zero (suc l) lo + suc l
           bad true = omega arith
           bad false = omega arith
   few-visits M p (suc k) (suc l) lo h = go (few-visits M (snoc p lo) k l (suc lo) (omega arith)) (few-visits M p (suc k) l (suc lo) (omega arith)) (ok (snoc p lo)) refl
     where
-      go : visited ok (snoc p lo) (suc k) l (suc lo) ≤ goods ok (snoc p lo) (suc k) l (suc lo) + M * tot ok (snoc p lo) k l (suc lo) + l
-          → visited ok p (suc (suc k)) l (suc lo) ≤ goods ok p (suc (suc k)) l (suc lo) + M * tot ok p (suc k) l (suc lo) + l
+      go : visitsAmong ok (snoc p lo) (suc k) l (suc lo) ≤ goods ok (snoc p lo) (suc k) l (suc lo) + M * tot ok (snoc p lo) k l (suc lo) + l
+          → visitsAmong ok p (suc (suc k)) l (suc lo) ≤ goods ok p (suc (suc k)) l (suc lo) + M * tot ok p (suc k) l (suc lo) + l
           → (b : Bool) → ok (snoc p lo) ≡ b
-          → cond b (visited ok (snoc p lo) (suc k) l (suc lo)) (cond (leb (suc k) l) 1 0) + visited ok p (suc (suc k)) l (suc lo) ≤ (cond b (goods ok (snoc p lo) (suc k) l (suc lo)) 0 + goods ok p (suc (suc k)) l (suc lo)) + M * tot ok p (suc k) (suc l) lo + suc l
+          → cond b (visitsAmong ok (snoc p lo) (suc k) l (suc lo)) (cond (leb (suc k) l) 1 0) + visitsAmong ok p (suc (suc k)) l (suc lo) ≤ (cond b (goods ok (snoc p lo) (suc k) l (suc lo)) 0 + goods ok p (suc (suc k)) l (suc lo)) + M * tot ok p (suc k) (suc l) lo + suc l
       go i j true e =
           let t : tot ok p (suc k) (suc l) lo ≡ (1 + tot ok (snoc p lo) k l (suc lo)) + tot ok p (suc k) l (suc lo) = tot-yes p (suc k) l lo e ∙ ap (λ (z : ℕ). z + tot ok p (suc k) l (suc lo)) (low-is (snoc p lo) k l (suc lo)) in
           let d : M * tot ok p (suc k) (suc l) lo ≡ M * 1 + M * tot ok (snoc p lo) k l (suc lo) + M * tot ok p (suc k) l (suc lo) =
@@ -87,6 +87,6 @@ module _ (ok : List ℕ → Bool) where
           let t : M * tot ok p (suc k) (suc l) lo ≡ M * tot ok p (suc k) l (suc lo) = ap (λ (z : ℕ). M * z) (tot-no p (suc k) l lo e) in
           bad t (leb (suc k) l)
         where
-          bad : M * tot ok p (suc k) (suc l) lo ≡ M * tot ok p (suc k) l (suc lo) → (b : Bool) → cond b 1 0 + visited ok p (suc (suc k)) l (suc lo) ≤ (0 + goods ok p (suc (suc k)) l (suc lo)) + M * tot ok p (suc k) (suc l) lo + suc l
+          bad : M * tot ok p (suc k) (suc l) lo ≡ M * tot ok p (suc k) l (suc lo) → (b : Bool) → cond b 1 0 + visitsAmong ok p (suc (suc k)) l (suc lo) ≤ (0 + goods ok p (suc (suc k)) l (suc lo)) + M * tot ok p (suc k) (suc l) lo + suc l
           bad t true = omega arith
           bad t false = omega arith

@@ -7,10 +7,10 @@ use mathlib.Core.Bool.{Bool, true, false, cond}
 use native.Mathlib.Omega.{arith}
 use native.Mathlib.Nat.{add-zero, add-suc, suc-add, mul-add}
 use lib.ListN.{length, length-append}
+use Rattle.lists.specs.KeepLaws.{keep-append}
 use Rattle.lists.specs.Lists.{keep}
-use Rattle.peptide_choices.specs.BoundLaws.{few-visits, goods, tot, visited}
+use Rattle.peptide_choices.specs.BoundLaws.{few-visits, goods, tot, visitsAmong}
 use Rattle.peptide_choices.specs.Choices.{bySize, choicesOf}
-use Rattle.peptide_choices.specs.KeepLaws.{keep-append}
 
 module _ (ok : List ℕ → Bool) (inherit : (p q : List ℕ) → ok p ≡ false → ok (p ++ q) ≡ false) where
   -- how many of xs pass behind p
@@ -75,9 +75,9 @@ module _ (ok : List ℕ → Bool) (inherit : (p q : List ℕ) → ok p ≡ false
       omega arith
 
   -- ---- the theorem: visits at size k + 1, of m places; 1 + those of 1 to k places is the number of forms so far
-  pub cost : (m k : ℕ) → ok [] ≡ true → visited ok [] (suc k) m 0 ≤ length (keep ok (choicesOf (suc k) m 0)) + m * (1 + length (keep ok (bySize m 1 k)))
+  pub cost : (m k : ℕ) → ok [] ≡ true → visitsAmong ok [] (suc k) m 0 ≤ length (keep ok (choicesOf (suc k) m 0)) + m * (1 + length (keep ok (bySize m 1 k)))
   cost m k h =
-      let a : visited ok [] (suc k) m 0 ≤ goods ok [] (suc k) m 0 + m * tot ok [] k m 0 + m = few-visits ok m [] k m 0 (omega arith) in
+      let a : visitsAmong ok [] (suc k) m 0 ≤ goods ok [] (suc k) m 0 + m * tot ok [] k m 0 + m = few-visits ok m [] k m 0 (omega arith) in
       let b : goods ok [] (suc k) m 0 ≡ length (keep ok (choicesOf (suc k) m 0)) = goods-pass [] (suc k) m 0 h ∙ pass-keep (choicesOf (suc k) m 0) in
       let t : m * (1 + length (keep ok (bySize m 1 k))) ≡ m * 1 + m * tot ok [] k m 0 = mul-add m 1 (length (keep ok (bySize m 1 k))) ∙ ap (λ (z : ℕ). m * 1 + m * z) (sym (tot-is m k h)) in
       omega arith

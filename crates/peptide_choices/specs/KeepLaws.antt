@@ -13,23 +13,15 @@ use Rattle.lists.specs.Lists.{keep, In}
 use Rattle.peptide_choices.specs.Choices.{choicesOf}
 use Rattle.peptide_choices.specs.OrderLaws.{AllLen, Chain, chain-first, go-on, stop}
 use Rattle.peptide_choices.specs.PruneLaws.{AllBegin, Cut, cut, past-all}
-use Rattle.peptide_choices.specs.Steps.{after, firstOf, past}
+use Rattle.peptide_choices.specs.Steps.{choiceAfter, firstOf, past}
 
 -- the counter may step over all that begin with the first kept + 1 places of c: a choice that passes has no more places,
 -- and where c does not pass, nothing that begins with those does
-pub record Sound (ok : List ℕ → Bool) (c : List ℕ) (kept : ℕ) : Type 0 where
+pub record MayStepOver (ok : List ℕ → Bool) (c : List ℕ) (kept : ℕ) : Type 0 where
   pub whole : ok c ≡ true → length c ≤ suc kept
   pub bad : ok c ≡ false → (d : List ℕ) → take (suc kept) d ≡ take (suc kept) c → ok d ≡ false
 
 module _ (ok : List ℕ → Bool) where
-  pub keep-append : (xs ys : List (List ℕ)) → keep ok (xs ++ ys) ≡ keep ok xs ++ keep ok ys
-  keep-append [] ys = refl
-  keep-append (c ∷ xs) ys = go (keep-append xs ys) (ok c)
-    where
-      go : keep ok (xs ++ ys) ≡ keep ok xs ++ keep ok ys → (b : Bool) → cond b (c ∷ keep ok (xs ++ ys)) (keep ok (xs ++ ys)) ≡ cond b (c ∷ keep ok xs) (keep ok xs) ++ keep ok ys
-      go ih true = ap (λ (z : List (List ℕ)). c ∷ z) ih
-      go ih false = ih
-
   pub keep-yes : (c : List ℕ) (cs : List (List ℕ)) → ok c ≡ true → keep ok (c ∷ cs) ≡ c ∷ keep ok cs
   keep-yes c cs h = rw h
 
@@ -37,9 +29,9 @@ module _ (ok : List ℕ → Bool) where
   keep-no c cs h = rw h
 
   -- being bad is inherited: all that begin with p are left out at once
-  pub keep-none : (e : ℕ) (p : List ℕ) (xs rest : List (List ℕ)) → ((d : List ℕ) → take e d ≡ p → ok d ≡ false) → AllBegin e p xs → keep ok (xs ++ rest) ≡ keep ok rest
-  keep-none e p [] rest h a = refl
-  keep-none e p (c ∷ xs) rest h a = keep-no c (xs ++ rest) (h c (a .0)) ∙ keep-none e p xs rest h (a .1)
+  pub keep-bad : (e : ℕ) (p : List ℕ) (xs rest : List (List ℕ)) → ((d : List ℕ) → take e d ≡ p → ok d ≡ false) → AllBegin e p xs → keep ok (xs ++ rest) ≡ keep ok rest
+  keep-bad e p [] rest h a = refl
+  keep-bad e p (c ∷ xs) rest h a = keep-no c (xs ++ rest) (h c (a .0)) ∙ keep-bad e p xs rest h (a .1)
 
 -- ---- the pruned walk: `reach c` places of c are fine
 unfoldable pub pruned : (List ℕ → Bool) → (List ℕ → ℕ) → ℕ → ℕ → Option (List ℕ) → List (List ℕ)
@@ -56,13 +48,13 @@ pub record Stepped-on (ok : List ℕ → Bool) (m e : ℕ) (c : List ℕ) (xs : 
   pub no : ok c ≡ false → (more : List (List ℕ)) → keep ok (xs ++ more) ≡ keep ok (rest ++ more)
   pub all : (n : ℕ) → AllLen n xs → AllLen n rest
 
-chain-inv : {m : ℕ} {l : List ℕ} {xs : List (List ℕ)} → Chain m (some l) xs none → (ys : List (List ℕ)) × (xs ≡ l ∷ ys) × Chain m (after m l) ys none
+chain-inv : {m : ℕ} {l : List ℕ} {xs : List (List ℕ)} → Chain m (some l) xs none → (ys : List (List ℕ)) × (xs ≡ l ∷ ys) × Chain m (choiceAfter m l) ys none
 chain-inv (go-on {cs = cs} d) = (cs, refl, d)
 
-pub step-on : (ok : List ℕ → Bool) {m : ℕ} (kept : ℕ) {c : List ℕ} (xs : List (List ℕ)) → Sound ok c kept → Chain m (some c) xs none → Stepped-on ok m (suc kept) c xs
+pub step-on : (ok : List ℕ → Bool) {m : ℕ} (kept : ℕ) {c : List ℕ} (xs : List (List ℕ)) → MayStepOver ok c kept → Chain m (some c) xs none → Stepped-on ok m (suc kept) c xs
 step-on ok {m} kept {c} xs s d = go (ok c) refl
   where
-    yes-case : ok c ≡ true → (t : (ys : List (List ℕ)) × (xs ≡ c ∷ ys) × Chain m (after m c) ys none) → Stepped-on ok m (suc kept) c xs
+    yes-case : ok c ≡ true → (t : (ys : List (List ℕ)) × (xs ≡ c ∷ ys) × Chain m (choiceAfter m c) ys none) → Stepped-on ok m (suc kept) c xs
     yes-case h t = record {
       rest = t .0;
       chain = subst (λ (o : Option (List ℕ)). Chain m o (t .0) none) (sym (past-all m (suc kept) c (s .whole h))) (t .2);
@@ -80,7 +72,7 @@ step-on ok {m} kept {c} xs s d = go (ok c) refl
       yes = λ g. absurd (true≢false (sym g ∙ h));
       no = λ g more. ap (λ (z : List (List ℕ)). keep ok (z ++ more)) (k .is)
           ∙ ap (keep ok) (append-assoc (c ∷ k .out) (k .rest) more)
-          ∙ keep-none ok (suc kept) (take (suc kept) c) (c ∷ k .out) (k .rest ++ more) (s .bad h) (k .begin);
+          ∙ keep-bad ok (suc kept) (take (suc kept) c) (c ∷ k .out) (k .rest ++ more) (s .bad h) (k .begin);
       all = λ n a. all-append (λ (d : List ℕ). length d ≡ n) (c ∷ k .out) (k .rest) (subst (AllLen n) (k .is) a) .1;
     }
 
@@ -89,14 +81,14 @@ step-on ok {m} kept {c} xs s d = go (ok c) refl
     go false h = no-case h (cut (suc kept) xs d)
 
 -- ---- what is skipped never passes: out is all that stands between c and the successor that the counter answers
-pub skipped-never : (ok : List ℕ → Bool) {m : ℕ} (kept : ℕ) {c : List ℕ} (xs : List (List ℕ)) → Sound ok c kept → ok c ≡ false → (k : Cut m (suc kept) c xs) → (d : List ℕ) → In d (c ∷ k .out) → ok d ≡ false
+pub skipped-never : (ok : List ℕ → Bool) {m : ℕ} (kept : ℕ) {c : List ℕ} (xs : List (List ℕ)) → MayStepOver ok c kept → ok c ≡ false → (k : Cut m (suc kept) c xs) → (d : List ℕ) → In d (c ∷ k .out) → ok d ≡ false
 skipped-never ok kept {c} xs s e k d i = s .bad e d (all-in (λ (x : List ℕ). take (suc kept) x ≡ take (suc kept) c) d (c ∷ k .out) (k .begin) i)
 
 -- ---- the theorem: the pruned walk yields exactly the choices that pass, in order
 pub chain-end : {m : ℕ} {xs : List (List ℕ)} → Chain m none xs none → xs ≡ []
 chain-end stop = refl
 
-module _ (ok : List ℕ → Bool) (reach : List ℕ → ℕ) (sound : (c : List ℕ) → Sound ok c (reach c)) (m : ℕ) where
+module _ (ok : List ℕ → Bool) (reach : List ℕ → ℕ) (sound : (c : List ℕ) → MayStepOver ok c (reach c)) (m : ℕ) where
   pruned-keep : (fuel : ℕ) (o : Option (List ℕ)) (xs : List (List ℕ)) → Chain m o xs none → length xs ≤ fuel → pruned ok reach m fuel o ≡ keep ok xs
   unfolding pruned
   pruned-keep zero o [] d h = refl

@@ -51,8 +51,8 @@ smaller-apart (a ∷ c) h = ⊎-elim (λ (l : a < a). omega arith) (λ (e : (a �
 pub earlier-apart : (c : List ℕ) → Earlier c c → ⊥
 earlier-apart c h = ⊎-elim (λ (l : length c < length c). omega arith) (λ (e : (length c ≡ length c) × Smaller c c). smaller-apart c (e .1)) h
 
-pub once : (c : List ℕ) (xs : List (List ℕ)) → Rising (c ∷ xs) → In c xs → ⊥
-once c xs o h = earlier-apart c (all-in (Earlier c) c xs (o .0) h)
+pub rising-once : (c : List ℕ) (xs : List (List ℕ)) → Rising (c ∷ xs) → In c xs → ⊥
+rising-once c xs o h = earlier-apart c (all-in (Earlier c) c xs (o .0) h)
 
 -- ---- lists joined
 
@@ -191,8 +191,8 @@ module _ (ok : List ℕ → Bool) where
     pub only : (c : List ℕ) → In c list → Ascending 0 m c × (1 ≤ length c) × (length c ≤ limit) × (ok c ≡ true)
     pub order : Rising list
 
-  pub complete : (m limit : ℕ) → Complete m limit (keep ok (bySize m 1 limit))
-  complete m limit = record { all = every; only = none-else; order = keep-rising (bySize m 1 limit) (sizes-rising m 1 limit) }
+  pub listing-complete : (m limit : ℕ) → Complete m limit (keep ok (bySize m 1 limit))
+  listing-complete m limit = record { all = every; only = none-else; order = keep-rising (bySize m 1 limit) (sizes-rising m 1 limit) }
     where
       every : (c : List ℕ) → Ascending 0 m c → 1 ≤ length c → length c ≤ limit → ok c ≡ true → In c (keep ok (bySize m 1 limit))
       every c h p q e = in-keep c ok (bySize m 1 limit) (sizes-all m 1 limit c h p (omega arith)) e

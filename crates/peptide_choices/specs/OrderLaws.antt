@@ -1,4 +1,4 @@
--- Stepping from the first choice by `after` goes through all choices, in lexicographic order. Assumes nothing.
+-- Stepping from the first choice by `choiceAfter` goes through all choices, in lexicographic order. Assumes nothing.
 use Prim.Native.Nat.{ℕ, zero, suc, _+_, _≤_, _<_}
 use mathlib.Core.Path.{_≡_, refl, ap}
 use mathlib.Core.List.{List, [], _∷_, _++_, map}
@@ -12,18 +12,18 @@ use borrow.Author.Tests.{lt-ltb, le-ltb, le-leb, lt-leb, leb-true, leb-false}
 use Rattle.lists.specs.KeepLaws.{all-both}
 use Rattle.lists.specs.Lists.{upFrom, All}
 use Rattle.peptide_choices.specs.Choices.{choicesOf}
-use Rattle.peptide_choices.specs.Steps.{after, firstOf, move}
+use Rattle.peptide_choices.specs.Steps.{choiceAfter, firstOf, move}
 
 -- what stepping from a choice gives, at most `fuel` of them
-unfoldable pub walk : ℕ → ℕ → Option (List ℕ) → List (List ℕ)
-walk m zero o = []
-walk m (suc fuel) none = []
-walk m (suc fuel) (some c) = c ∷ walk m fuel (after m c)
+unfoldable pub stepsFrom : ℕ → ℕ → Option (List ℕ) → List (List ℕ)
+stepsFrom m zero o = []
+stepsFrom m (suc fuel) none = []
+stepsFrom m (suc fuel) (some c) = c ∷ stepsFrom m fuel (choiceAfter m c)
 
 -- ---- each list of choices is a chain: it begins at o, each is the one after the one before, and none is after the last but o'
 pub data Chain (m : ℕ) : Option (List ℕ) → List (List ℕ) → Option (List ℕ) → Type 0 where
   stop : {o : Option (List ℕ)} → Chain m o [] o
-  go-on : {c : List ℕ} {cs : List (List ℕ)} {o : Option (List ℕ)} → Chain m (after m c) cs o → Chain m (some c) (c ∷ cs) o
+  go-on : {c : List ℕ} {cs : List (List ℕ)} {o : Option (List ℕ)} → Chain m (choiceAfter m c) cs o → Chain m (some c) (c ∷ cs) o
 
 chain-append : {m : ℕ} {o p q : Option (List ℕ)} {xs ys : List (List ℕ)} → Chain m o xs p → Chain m p ys q → Chain m o (xs ++ ys) q
 chain-append stop d = d
@@ -48,9 +48,9 @@ unfoldable pub lift : ℕ → ℕ → ℕ → Option (List ℕ) → Option (List
 lift m a n (some c) = some (a ∷ c)
 lift m a n none = cond (ltb (a + suc n) m) (some (upFrom (suc a) (suc n))) none
 
-after-lift : (m a n : ℕ) (c : List ℕ) → length c ≡ n → after m (a ∷ c) ≡ lift m a n (after m c)
-unfolding after move lift
-after-lift m a n c e = go (after m c)
+after-lift : (m a n : ℕ) (c : List ℕ) → length c ≡ n → choiceAfter m (a ∷ c) ≡ lift m a n (choiceAfter m c)
+unfolding choiceAfter move lift
+after-lift m a n c e = go (choiceAfter m c)
   where
     go : (o : Option (List ℕ)) → move m a c o ≡ lift m a n o
     go (some b) = refl
@@ -82,7 +82,7 @@ first-block n len lo = go (leb n len) refl
     go false e = rw (lt-leb (suc n) (suc len) (let h : len < n = leb-false n len e in omega arith), le-ltb (lo + suc n) (lo + suc len) (let h : len < n = leb-false n len e in omega arith))
 
 chain-choices : (n len lo : ℕ) → Chain (lo + len) (firstFrom n len lo) (choicesOf n len lo) none
-unfolding choicesOf firstFrom after
+unfolding choicesOf firstFrom choiceAfter
 chain-choices zero len lo = rw (leb·zero len) (go-on stop)
 chain-choices (suc n) zero lo = rw (leb·suc-zero n) stop
 chain-choices (suc n) (suc len) lo = block n len lo (chain-choices n len (suc lo)) (chain-choices (suc n) len (suc lo))
@@ -94,8 +94,8 @@ chain-choices (suc n) (suc len) lo = block n len lo (chain-choices n len (suc lo
         rw (← first-block n len lo)
         (chain-append (chain-under lo n (rw e at p) (all-long n len (suc lo))) (rw (next-block n len lo) (rw e at q)))
 
-pub chain-walk : {m : ℕ} {o : Option (List ℕ)} {xs : List (List ℕ)} (fuel : ℕ) → Chain m o xs none → length xs ≤ fuel → walk m fuel o ≡ xs
-unfolding walk
+pub chain-walk : {m : ℕ} {o : Option (List ℕ)} {xs : List (List ℕ)} (fuel : ℕ) → Chain m o xs none → length xs ≤ fuel → stepsFrom m fuel o ≡ xs
+unfolding stepsFrom
 chain-walk zero stop h = refl
 chain-walk (suc fuel) stop h = refl
 chain-walk zero (go-on d) h = absurd (not-suc-le-zero h)
@@ -106,5 +106,5 @@ unfolding firstOf firstFrom
 chain-first n m = rw (zero-add m) at (chain-choices n m 0)
 
 -- ---- the theorem
-pub all-in-order : (n m fuel : ℕ) → length (choicesOf n m 0) ≤ fuel → walk m fuel (firstOf n m) ≡ choicesOf n m 0
+pub all-in-order : (n m fuel : ℕ) → length (choicesOf n m 0) ≤ fuel → stepsFrom m fuel (firstOf n m) ≡ choicesOf n m 0
 all-in-order n m fuel h = chain-walk fuel (chain-first n m) h

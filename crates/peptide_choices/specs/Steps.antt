@@ -20,10 +20,10 @@ move m a rest (some bs) = some (a ∷ bs)
 move m a rest none = cond (ltb (a + suc (length rest)) m) (some (upFrom (suc a) (suc (length rest)))) none
 
 -- the choice after a choice of places below m
-unfoldable pub after : ℕ → List ℕ → Option (List ℕ)
+unfoldable pub choiceAfter : ℕ → List ℕ → Option (List ℕ)
 unfolding move
-after m [] = none
-after m (a ∷ rest) = move m a rest (after m rest)
+choiceAfter m [] = none
+choiceAfter m (a ∷ rest) = move m a rest (choiceAfter m rest)
 
 -- the first choice after c that differs from c among its first e places: all that begin with those are left out
 unfoldable pub past : ℕ → ℕ → List ℕ → Option (List ℕ)
@@ -42,14 +42,14 @@ steppedTo c none = record { more = false; choice = c }
 steppedTo c (some l) = record { more = true; choice = record { at = l ++ drop (c .n) (c .at); n = c .n; m = c .m } }
 
 -- the first of a list
-abbrev pub head : List (List ℕ) → Option (List ℕ)
-head [] = none
-head (c ∷ cs) = some c
+abbrev pub firstIn : List (List ℕ) → Option (List ℕ)
+firstIn [] = none
+firstIn (c ∷ cs) = some c
 
 -- what stands right behind c in a list, or none
 unfoldable pub follower : List ℕ → List (List ℕ) → Option (List ℕ)
 follower c [] = none
-follower c (d ∷ ds) = let rest = follower c ds in cond (same c d) (head ds) rest
+follower c (d ∷ ds) = let rest = follower c ds in cond (same c d) (firstIn ds) rest
 
 -- the successor of c among all choices of n of m sites, which stand in lexicographic order, or that none is left; what is no
 -- such choice has none
@@ -62,6 +62,6 @@ unfoldable pub stepped : Choice → ℕ → Stepped
 unfolding steppedTo
 stepped c kept = steppedTo c (past (c .m) (suc kept) (word c))
 
-unfoldable pub begun : ℕ → ℕ → Stepped
+unfoldable pub begunChoice : ℕ → ℕ → Stepped
 unfolding steppedTo
-begun n m = steppedTo (record { at = replicate 8 0; n = n; m = m }) (firstOf n m)
+begunChoice n m = steppedTo (record { at = replicate 8 0; n = n; m = m }) (firstOf n m)

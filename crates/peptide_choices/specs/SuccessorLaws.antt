@@ -19,8 +19,8 @@ use Rattle.lists.specs.SameLaws.{same-refl, same-eq}
 use Rattle.peptide_choices.specs.Choices.{choicesOf}
 use Rattle.peptide_choices.specs.ListingLaws.{Ascending, Earlier, Rising, all-in, choices-all, choices-only, choices-rising}
 use Rattle.peptide_choices.specs.OrderLaws.{Chain, chain-first, go-on, stop}
-use Rattle.peptide_choices.specs.PruneLaws.{found, past-all}
-use Rattle.peptide_choices.specs.Steps.{after, follower, head, stepped, steppedTo, successor, word}
+use Rattle.peptide_choices.specs.PruneLaws.{isFound, past-all}
+use Rattle.peptide_choices.specs.Steps.{choiceAfter, follower, firstIn, stepped, steppedTo, successor, word}
 use Rattle.peptide_choices.specs.declared.choice.Choice.{Choice}
 
 -- ---- the choices are the lists that ascend
@@ -43,8 +43,8 @@ pub record Rest (n m : ℕ) (xs : List ℕ) (low i : ℕ) : Type 0 where
   pub to : Ascending low m (drop i (take n xs)) → Ascending 0 m (take n xs)
   pub from : Ascending 0 m (take n xs) → Ascending low m (drop i (take n xs))
 
-pub rest-all : (n m : ℕ) (xs : List ℕ) → Rest n m xs 0 0
-rest-all n m xs = record { to = λ h. h; from = λ h. h }
+pub rest-whole : (n m : ℕ) (xs : List ℕ) → Rest n m xs 0 0
+rest-whole n m xs = record { to = λ h. h; from = λ h. h }
 
 module _ (n m : ℕ) (xs : List ℕ) (l : n ≤ length xs) (low i : ℕ) (r : Rest n m xs low i) where
   wide : length (take n xs) ≡ n
@@ -75,17 +75,17 @@ module _ (n m : ℕ) (xs : List ℕ) (l : n ≤ length xs) (low i : ℕ) (r : Re
 
 -- ---- what stands behind a choice in the list of all is the choice after it
 
-chain-head : {m : ℕ} {o : Option (List ℕ)} {xs : List (List ℕ)} → Chain m o xs none → o ≡ head xs
+chain-head : {m : ℕ} {o : Option (List ℕ)} {xs : List (List ℕ)} → Chain m o xs none → o ≡ firstIn xs
 chain-head stop = refl
 chain-head (go-on d) = refl
 
-pub follower-in : {m : ℕ} {o : Option (List ℕ)} {xs : List (List ℕ)} (c : List ℕ) → Chain m o xs none → In c xs → follower c xs ≡ after m c
+pub follower-in : {m : ℕ} {o : Option (List ℕ)} {xs : List (List ℕ)} (c : List ℕ) → Chain m o xs none → In c xs → follower c xs ≡ choiceAfter m c
 unfolding follower
 follower-in c stop i = absurd i
 follower-in {m} c (go-on {c = d} {cs = ds} h) i = go (λ (j : In c ds). follower-in c h j) (same c d) refl
   where
-    go : (In c ds → follower c ds ≡ after m c) → (b : Bool) → same c d ≡ b → cond b (head ds) (follower c ds) ≡ after m c
-    go ih true e = sym (ap (after m) (same-eq c d e) ∙ chain-head h)
+    go : (In c ds → follower c ds ≡ choiceAfter m c) → (b : Bool) → same c d ≡ b → cond b (firstIn ds) (follower c ds) ≡ choiceAfter m c
+    go ih true e = sym (ap (choiceAfter m) (same-eq c d e) ∙ chain-head h)
     go ih false e = ⊎-elim (λ (q : c ≡ d). absurd (true≢false (sym (same-refl c) ∙ ap (same c) q ∙ e))) ih i
 
 pub follower-out : (c : List ℕ) (xs : List (List ℕ)) → (In c xs → ⊥) → follower c xs ≡ none
@@ -93,7 +93,7 @@ unfolding follower
 follower-out c [] h = refl
 follower-out c (d ∷ ds) h = go (follower-out c ds (λ i. h (inr i))) (same c d) refl
   where
-    go : follower c ds ≡ none → (b : Bool) → same c d ≡ b → cond b (head ds) (follower c ds) ≡ none
+    go : follower c ds ≡ none → (b : Bool) → same c d ≡ b → cond b (firstIn ds) (follower c ds) ≡ none
     go ih true e = absurd (h (inl (same-eq c d e)))
     go ih false e = ih
 
@@ -104,9 +104,9 @@ past-whole c i =
     let l : length (word c) ≡ c .n = choices-only (c .n) (c .m) 0 (word c) i .1 in
     ap (steppedTo c) (past-all (c .m) (suc (c .n)) (word c) (omega arith) ∙ sym (follower-in (word c) (chain-first (c .n) (c .m)) i))
 
-pub none-left : (c : Choice) → (IsOne c → ⊥) → successor c ≡ record { more = false; choice = c }
+pub no-successor : (c : Choice) → (IsOne c → ⊥) → successor c ≡ record { more = false; choice = c }
 unfolding successor steppedTo
-none-left c h = ap (steppedTo c) (follower-out (word c) (choicesOf (c .n) (c .m) 0) h)
+no-successor c h = ap (steppedTo c) (follower-out (word c) (choicesOf (c .n) (c .m) 0) h)
 
 -- ---- nothing stands between: of a list in order each stands up to c, or from what follows c on
 
@@ -114,35 +114,35 @@ none-left c h = ap (steppedTo c) (follower-out (word c) (choicesOf (c .n) (c .m)
 abbrev pub UpTo : List ℕ → List ℕ → Type 0
 UpTo c d = (c ≡ d) ⊎ Earlier c d
 
-pub record Next (c d : List ℕ) (xs : List (List ℕ)) : Type 0 where
+pub record Follows (c d : List ℕ) (xs : List (List ℕ)) : Type 0 where
   pub here : In c xs
   pub behind : Earlier c d
   pub between : (x : List ℕ) → In x xs → UpTo x c ⊎ UpTo d x
 
-next-first : (c d : List ℕ) (ys : List (List ℕ)) → Rising (c ∷ ys) → head ys ≡ some d → Next c d (c ∷ ys)
-unfolding found
-next-first c d [] o e = absurd (true≢false (sym (ap found e)))
+next-first : (c d : List ℕ) (ys : List (List ℕ)) → Rising (c ∷ ys) → firstIn ys ≡ some d → Follows c d (c ∷ ys)
+unfolding isFound
+next-first c d [] o e = absurd (true≢false (sym (ap isFound e)))
 next-first c d (y ∷ ys) o e =
     let w : y ≡ d = cc in
     let rest : (x : List ℕ) → In x (y ∷ ys) → UpTo y x = λ x. ⊎-elim (λ (q : x ≡ y). inl (sym q)) (λ (i : In x ys). inr (all-in (Earlier y) x ys (o .1 .0) i)) in
-    subst (λ (z : List ℕ). Next c z (c ∷ y ∷ ys)) w
+    subst (λ (z : List ℕ). Follows c z (c ∷ y ∷ ys)) w
     (record { here = inl refl; behind = o .0 .0; between = λ x. ⊎-elim (λ (q : x ≡ c). inl (inl q)) (λ (i : In x (y ∷ ys)). inr (rest x i)) })
 
-pub follower-next : (c d : List ℕ) (xs : List (List ℕ)) → Rising xs → follower c xs ≡ some d → Next c d xs
-unfolding follower found
-follower-next c d [] o e = absurd (true≢false (sym (ap found e)))
+pub follower-next : (c d : List ℕ) (xs : List (List ℕ)) → Rising xs → follower c xs ≡ some d → Follows c d xs
+unfolding follower isFound
+follower-next c d [] o e = absurd (true≢false (sym (ap isFound e)))
 follower-next c d (y ∷ ys) o e = go (λ (q : follower c ys ≡ some d). follower-next c d ys (o .1) q) (same c y) refl e
   where
-    later : Next c d ys → Next c d (y ∷ ys)
+    later : Follows c d ys → Follows c d (y ∷ ys)
     later n = record {
       here = inr (n .here);
       behind = n .behind;
       between = λ x. ⊎-elim (λ (q : x ≡ y). inl (inr (subst (λ (z : List ℕ). Earlier z c) (sym q) (all-in (Earlier y) c ys (o .0) (n .here))))) (n .between x);
     }
 
-    go : (follower c ys ≡ some d → Next c d ys) → (b : Bool) → same c y ≡ b → cond b (head ys) (follower c ys) ≡ some d → Next c d (y ∷ ys)
-    go ih true s q = let w : y ≡ c = sym (same-eq c y s) in subst (λ (z : List ℕ). Next c d (z ∷ ys)) (sym w) (next-first c d ys (subst (λ (z : List ℕ). Rising (z ∷ ys)) w o) q)
+    go : (follower c ys ≡ some d → Follows c d ys) → (b : Bool) → same c y ≡ b → cond b (firstIn ys) (follower c ys) ≡ some d → Follows c d (y ∷ ys)
+    go ih true s q = let w : y ≡ c = sym (same-eq c y s) in subst (λ (z : List ℕ). Follows c d (z ∷ ys)) (sym w) (next-first c d ys (subst (λ (z : List ℕ). Rising (z ∷ ys)) w o) q)
     go ih false s q = later (ih q)
 
-pub next-in-order : (n m : ℕ) (c d : List ℕ) → follower c (choicesOf n m 0) ≡ some d → Next c d (choicesOf n m 0)
+pub next-in-order : (n m : ℕ) (c d : List ℕ) → follower c (choicesOf n m 0) ≡ some d → Follows c d (choicesOf n m 0)
 next-in-order n m c d = follower-next c d (choicesOf n m 0) (choices-rising n m 0)

@@ -6,7 +6,7 @@ ghost use mathlib.Core.Logic.{_⊎_};
 ghost use Prim.Native.Nat.{ℕ, suc, _+_, _-_, _≤_, _<_, min};
 ghost use lib.ListN.{take, drop, getD};
 ghost use Rattle.lists.specs.Lists.{upFrom};
-ghost use Rattle.peptide_choices.specs.Steps.{begun, stepped, successor};
+ghost use Rattle.peptide_choices.specs.Steps.{begunChoice, stepped, successor};
 ghost use Rattle.peptide_choices.specs.SuccessorLaws.{IsOne};
 
 // A choice of n of m sites: at[0] < .. < at[n - 1] < m.
@@ -67,7 +67,7 @@ impl Choice {
     // The first choice of n of m sites.
     pub fn first(n: usize, m: usize) -> Stepped
         requires { ⌜ n ≤ 8 ⌝ }
-        ensures { λ r. ⌜ r ≡ begun n m ⌝ }
+        ensures { λ r. ⌜ r ≡ begunChoice n m ⌝ }
     {
         let mut at = [0usize; 8];
         let mut i = 0;

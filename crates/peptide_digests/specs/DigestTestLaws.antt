@@ -10,14 +10,14 @@ use lib.Dec.{leb, ltb, eqb}
 use lib.Ieee.{Float}
 use borrow.Author.Tests.{le-leb, leb-true, lt-ltb, le-ltb, ltb-true, ltb-false, eqb-true, not-false}
 use Rattle.peptide_mass.specs.Masses.{noMass}
-use Rattle.peptide_digests.specs.DigestTests.{startOf, endOf, positionIn, tooLong, notWhole, unfit, firstUnfit, testedDigest}
+use Rattle.peptide_digests.specs.DigestTests.{tooLong, notWhole, unfit, firstUnfit, testedDigest}
 use Rattle.lists.specs.Tests.{both, neither}
 use Rattle.records.specs.declared.refusal.Refusal.the-variants.{Size, Letter, Length, Field}
 use Rattle.records.specs.declared.refusal.Tested.{Tested}
 use Rattle.records.specs.SearchLaws.{seek-before}
 use Rattle.records.specs.TestedLaws.{passed-first, passed-second}
 use Rattle.letters.specs.Letters.{isLetter}
-use Rattle.enzyme_keep.specs.Digests.{goodRecord}
+use Rattle.enzyme_keep.specs.Digests.{goodRecord, startOf, endOf, positionIn}
 
 -- ---- the tests, one after the other
 
@@ -37,28 +37,28 @@ pub whole-masses : (r : List ℕ) (masses : List Float) → notWhole r masses �
 whole-masses r masses e = eqb-true (length masses) 26 (both (eqb (length r) 16) (eqb (length masses) 26) (not-false (eqb (length r) 16 && eqb (length masses) 26) e) .1)
 
 module _ (s r : List ℕ) (masses : List Float) where
-  pub digest-size : tooLong s r ≡ true → Tested.Refused Size ≡ testedDigest s r masses
+  pub tested-digest-size : tooLong s r ≡ true → Tested.Refused Size ≡ testedDigest s r masses
   unfolding testedDigest
-  digest-size e = rw e
+  tested-digest-size e = rw e
 
   module _ (sized : tooLong s r ≡ false) where
-    pub digest-length : notWhole r masses ≡ true → Tested.Refused Length ≡ testedDigest s r masses
+    pub tested-digest-length : notWhole r masses ≡ true → Tested.Refused Length ≡ testedDigest s r masses
     unfolding testedDigest
-    digest-length e = rw (sized, e)
+    tested-digest-length e = rw (sized, e)
 
     module _ (whole : notWhole r masses ≡ false) (bad : ℕ) (first : bad ≡ firstUnfit masses (startOf r) (endOf r) s) where
-      pub digest-letter : bad < length s → Tested.Refused (Letter bad) ≡ testedDigest s r masses
+      pub tested-digest-letter : bad < length s → Tested.Refused (Letter bad) ≡ testedDigest s r masses
       unfolding testedDigest
-      digest-letter h = rw (sized, whole, first, lt-ltb (firstUnfit masses (startOf r) (endOf r) s) (length s) (subst (λ (x : ℕ). x < length s) first h))
+      tested-digest-letter h = rw (sized, whole, first, lt-ltb (firstUnfit masses (startOf r) (endOf r) s) (length s) (subst (λ (x : ℕ). x < length s) first h))
 
       module _ (fit : length s ≤ bad) where
-        pub digest-passed : (goodRecord r && leb (endOf r) (length s)) ≡ true → Tested.Passed ≡ testedDigest s r masses
+        pub tested-digest-passed : (goodRecord r && leb (endOf r) (length s)) ≡ true → Tested.Passed ≡ testedDigest s r masses
         unfolding testedDigest
-        digest-passed e = rw (sized, whole, le-ltb (firstUnfit masses (startOf r) (endOf r) s) (length s) (subst (λ (x : ℕ). length s ≤ x) first fit), e)
+        tested-digest-passed e = rw (sized, whole, le-ltb (firstUnfit masses (startOf r) (endOf r) s) (length s) (subst (λ (x : ℕ). length s ≤ x) first fit), e)
 
-        pub digest-field : (goodRecord r && leb (endOf r) (length s)) ≡ false → Tested.Refused (Field 0) ≡ testedDigest s r masses
+        pub tested-digest-field : (goodRecord r && leb (endOf r) (length s)) ≡ false → Tested.Refused (Field 0) ≡ testedDigest s r masses
         unfolding testedDigest
-        digest-field e = rw (sized, whole, le-ltb (firstUnfit masses (startOf r) (endOf r) s) (length s) (subst (λ (x : ℕ). length s ≤ x) first fit), e)
+        tested-digest-field e = rw (sized, whole, le-ltb (firstUnfit masses (startOf r) (endOf r) s) (length s) (subst (λ (x : ℕ). length s ≤ x) first fit), e)
 
 -- ---- what is known once they passed
 

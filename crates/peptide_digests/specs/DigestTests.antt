@@ -1,4 +1,4 @@
--- Of a digest's record the fields that make a peptide, and what a protein's letters, the record and the masses must be: 1, 8, 2, 9.
+-- What a protein's letters, a digest's record and the masses must be to make a peptide: 1, 8, 2, 9.
 use Prim.Native.Nat.{ℕ, _+_, _-_}
 use mathlib.Core.Bool.{Bool, cond, not, _&&_, _||_}
 use mathlib.Core.List.{List}
@@ -8,26 +8,9 @@ use lib.Ieee.{Float}
 use Rattle.peptide_mass.specs.Masses.{noMass}
 use Rattle.records.specs.declared.refusal.Refusal.the-variants.{Size, Letter, Length, Field}
 use Rattle.records.specs.declared.refusal.Tested.{Tested}
-use Rattle.records.specs.Le.{numberAt}
 use Rattle.records.specs.Search.{seek}
 use Rattle.letters.specs.Letters.{isLetter}
-use Rattle.enzyme_keep.specs.Digests.{goodRecord}
-
--- ---- the fields of a record that make a peptide
-
-abbrev pub startOf : List ℕ → ℕ
-startOf r = numberAt 4 r 0
-
-abbrev pub endOf : List ℕ → ℕ
-endOf r = numberAt 4 r 4
-
-abbrev pub positionIn : List ℕ → ℕ
-positionIn r = getD r 10 0
-
-abbrev pub isDecoy : List ℕ → Bool
-isDecoy r = eqb (getD r 11 0) 1
-
--- ---- the tests, of a protein's letters and a record
+use Rattle.enzyme_keep.specs.Digests.{startOf, endOf, goodRecord}
 
 -- 1: more letters than a protein has; of 16 bytes, a range of more than 64
 abbrev pub tooLong : List ℕ → List ℕ → Bool

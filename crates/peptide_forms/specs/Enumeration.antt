@@ -13,10 +13,10 @@ abbrev pub noCap : ℕ
 noCap = 4294967295
 
 -- the number of forms has reached the cap
-abbrev pub reached : ℕ → ℕ → Bool
-reached cap k = not (eqb cap noCap) && leb cap k
+abbrev pub capReached : ℕ → ℕ → Bool
+capReached cap k = not (eqb cap noCap) && leb cap k
 
 -- k forms are there: of the choices that pass, those that are taken until the cap is reached
-unfoldable pub accepted : ℕ → ℕ → List (List ℕ) → List (List ℕ)
-accepted cap k [] = []
-accepted cap k (c ∷ cs) = let on = c ∷ accepted cap (suc k) cs in cond (reached cap k) [] on
+unfoldable pub upToCap : ℕ → ℕ → List (List ℕ) → List (List ℕ)
+upToCap cap k [] = []
+upToCap cap k (c ∷ cs) = let on = c ∷ upToCap cap (suc k) cs in cond (capReached cap k) [] on

@@ -6,20 +6,20 @@ use lib.ListN.{length, getD}
 use Rattle.lists.specs.Lists.{keep}
 use Rattle.peptide_choices.specs.Choices.{bySize}
 use Rattle.peptide_slots.specs.Filling.{apply}
-use Rattle.peptide_forms.specs.Passing.{passes}
-use Rattle.peptide_forms.specs.Enumeration.{accepted}
+use Rattle.peptide_forms.specs.Passing.{packedPasses}
+use Rattle.peptide_forms.specs.Enumeration.{upToCap}
 
 -- the choices that make forms, the empty one first
-unfoldable pub choices : List ℕ → List ℕ → ℕ → ℕ → List (List ℕ)
-unfolding accepted bySize passes
-choices sites rules limit cap = [] ∷ accepted cap 1 (keep (passes sites rules) (bySize (length sites) 1 limit))
+unfoldable pub packedChoices : List ℕ → List ℕ → ℕ → ℕ → List (List ℕ)
+unfolding upToCap bySize packedPasses
+packedChoices sites rules limit cap = [] ∷ upToCap cap 1 (keep (packedPasses sites rules) (bySize (length sites) 1 limit))
 
 -- the sites at the chosen places
-unfoldable pub chosen : List ℕ → List ℕ → List ℕ
-chosen sites [] = []
-chosen sites (k ∷ ks) = getD sites k 0 ∷ chosen sites ks
+unfoldable pub packedChosen : List ℕ → List ℕ → List ℕ
+packedChosen sites [] = []
+packedChosen sites (k ∷ ks) = getD sites k 0 ∷ packedChosen sites ks
 
 -- a form: the chosen variable sites, then the sites of all fixed rules
-unfoldable pub formOf : List ℕ → List ℕ → List ℕ → List ℕ → List ℕ → List ℕ → List ℕ
-unfolding apply chosen
-formOf bare sites variable fixedSites fixed c = apply fixed (apply variable bare (chosen sites c)) fixedSites
+unfoldable pub packedForm : List ℕ → List ℕ → List ℕ → List ℕ → List ℕ → List ℕ → List ℕ
+unfolding apply packedChosen
+packedForm bare sites variable fixedSites fixed c = apply fixed (apply variable bare (packedChosen sites c)) fixedSites

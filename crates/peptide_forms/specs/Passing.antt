@@ -37,6 +37,6 @@ inLimits sites rules choice [] = true
 inLimits sites rules choice (k ∷ ks) = leb (uses sites (siteRule sites k) choice) (limitAt rules (siteRule sites k)) && inLimits sites rules choice ks
 
 -- a choice passes unless it uses a slot twice or a rule more often than its own limit
-unfoldable pub passes : List ℕ → List ℕ → List ℕ → Bool
+unfoldable pub packedPasses : List ℕ → List ℕ → List ℕ → Bool
 unfolding slotsOnce inLimits
-passes sites rules c = slotsOnce sites c && inLimits sites rules c c
+packedPasses sites rules c = slotsOnce sites c && inLimits sites rules c c

@@ -11,7 +11,7 @@ use lib.Dec.{leb, ltb, eqb}
 use borrow.Author.Tests.{le-leb, lt-leb, ltb-true, ltb-false, eqb-true, eq-eqb}
 use Rattle.lists.specs.Tests.{eqb-sym}
 use Rattle.lists.specs.Lists.{bit}
-use Rattle.peptide_forms.specs.Passing.{free, inLimits, passes, siteRule, siteSlot, slotsOnce, uses}
+use Rattle.peptide_forms.specs.Passing.{free, inLimits, packedPasses, siteRule, siteSlot, slotsOnce, uses}
 use Rattle.peptide_slots.specs.Sites.{limitAt}
 
 -- place k may join places that pass: its slot is free among them, and its rule has a use left
@@ -93,26 +93,26 @@ module _ (sites rules : List ℕ) where
           ap (λ (t : Bool). inLimits sites rules (p ++ (k ∷ [])) p && t) g ∙ and-false (inLimits sites rules (p ++ (k ∷ [])) p) ∙ sym (and-false (inLimits sites rules p p))
 
   -- ---- the laws
-  pub passes-none : passes sites rules [] ≡ true
-  unfolding passes slotsOnce inLimits
+  pub passes-none : packedPasses sites rules [] ≡ true
+  unfolding packedPasses slotsOnce inLimits
   passes-none = refl
 
-  pub passes-snoc : (p : List ℕ) (k : ℕ) → passes sites rules (p ++ (k ∷ [])) ≡ passes sites rules p && mayJoin sites rules p k
-  unfolding passes mayJoin room
+  pub passes-snoc : (p : List ℕ) (k : ℕ) → packedPasses sites rules (p ++ (k ∷ [])) ≡ packedPasses sites rules p && mayJoin sites rules p k
+  unfolding packedPasses mayJoin room
   passes-snoc p k =
       ap (λ (t : Bool). t && inLimits sites rules (p ++ (k ∷ [])) (p ++ (k ∷ []))) (once-snoc p k)
       ∙ ap (λ (t : Bool). (slotsOnce sites p && free sites (siteSlot sites k) p) && t) (within-snoc p k)
       ∙ swap (slotsOnce sites p) (free sites (siteSlot sites k) p) (inLimits sites rules p p) (room p k)
 
   -- being bad is inherited
-  pub bad-append : (p q : List ℕ) → passes sites rules p ≡ false → passes sites rules (p ++ q) ≡ false
-  bad-append p [] h = ap (passes sites rules) (append-nil p) ∙ h
+  pub bad-append : (p q : List ℕ) → packedPasses sites rules p ≡ false → packedPasses sites rules (p ++ q) ≡ false
+  bad-append p [] h = ap (packedPasses sites rules) (append-nil p) ∙ h
   bad-append p (k ∷ q) h =
-      ap (passes sites rules) (sym (append-assoc p (k ∷ []) q))
+      ap (packedPasses sites rules) (sym (append-assoc p (k ∷ []) q))
       ∙ bad-append (p ++ (k ∷ [])) q (passes-snoc p k ∙ ap (λ (t : Bool). t && mayJoin sites rules p k) h)
 
-  pub bad-begin : (e : ℕ) (c d : List ℕ) → passes sites rules (take e c) ≡ false → take e d ≡ take e c → passes sites rules d ≡ false
-  bad-begin e c d h g = ap (passes sites rules) (sym (take-append-drop e d)) ∙ bad-append (take e d) (drop e d) (ap (passes sites rules) g ∙ h)
+  pub bad-begin : (e : ℕ) (c d : List ℕ) → packedPasses sites rules (take e c) ≡ false → take e d ≡ take e c → packedPasses sites rules d ≡ false
+  bad-begin e c d h g = ap (packedPasses sites rules) (sym (take-append-drop e d)) ∙ bad-append (take e d) (drop e d) (ap (packedPasses sites rules) g ∙ h)
 
-  pub join-more : (c : List ℕ) (j : ℕ) → j < length c → passes sites rules (take j c) ≡ true → passes sites rules (take (suc j) c) ≡ mayJoin sites rules (take j c) (getD c j 0)
-  join-more c j h g = ap (passes sites rules) (take-suc c j 0 h) ∙ passes-snoc (take j c) (getD c j 0) ∙ ap (λ (t : Bool). t && mayJoin sites rules (take j c) (getD c j 0)) g
+  pub join-more : (c : List ℕ) (j : ℕ) → j < length c → packedPasses sites rules (take j c) ≡ true → packedPasses sites rules (take (suc j) c) ≡ mayJoin sites rules (take j c) (getD c j 0)
+  join-more c j h g = ap (packedPasses sites rules) (take-suc c j 0 h) ∙ passes-snoc (take j c) (getD c j 0) ∙ ap (λ (t : Bool). t && mayJoin sites rules (take j c) (getD c j 0)) g

@@ -7,13 +7,14 @@ use mathlib.Core.Logic.{inl, inr, ⊎-elim}
 use native.Mathlib.Omega.{arith}
 use lib.ListN.{length, take, drop, take-append-drop}
 use lib.Seq.{length-take-le}
+use Rattle.lists.specs.KeepLaws.{keep-append}
 use Rattle.lists.specs.Lists.{keep, In}
 use Rattle.peptide_choices.specs.Choices.{choicesOf, bySize}
-use Rattle.peptide_choices.specs.KeepLaws.{keep-append, keep-no}
+use Rattle.peptide_choices.specs.KeepLaws.{keep-no}
 use Rattle.peptide_choices.specs.ListingLaws.{Ascending, choices-all, choices-only}
-use Rattle.peptide_forms.specs.Enumeration.{accepted}
-use Rattle.peptide_forms.specs.Packed.{choices}
-use Rattle.peptide_forms.specs.Passing.{passes}
+use Rattle.peptide_forms.specs.Enumeration.{upToCap}
+use Rattle.peptide_forms.specs.Packed.{packedChoices}
+use Rattle.peptide_forms.specs.Passing.{packedPasses}
 use Rattle.peptide_forms.specs.PassingLaws.{bad-append}
 
 -- ---- the sizes from n on, k of them, until one has no choice that passes
@@ -81,9 +82,9 @@ module _ (ok : List ℕ → Bool) where
 -- ---- the choices that pass
 
 module _ (sites rules : List ℕ) where
-  pub none-larger : (m n : ℕ) → keep (passes sites rules) (choicesOf n m 0) ≡ [] → keep (passes sites rules) (choicesOf (suc n) m 0) ≡ []
-  none-larger m n e = larger-none (passes sites rules) (bad-append sites rules) m n e
+  pub none-larger : (m n : ℕ) → keep (packedPasses sites rules) (choicesOf n m 0) ≡ [] → keep (packedPasses sites rules) (choicesOf (suc n) m 0) ≡ []
+  none-larger m n e = larger-none (packedPasses sites rules) (bad-append sites rules) m n e
 
-  pub choices-until : (limit cap : ℕ) → choices sites rules limit cap ≡ [] ∷ accepted cap 1 (untilNone (passes sites rules) (length sites) 1 limit)
-  unfolding choices
-  choices-until limit cap = ap (λ (z : List (List ℕ)). [] ∷ accepted cap 1 z) (sym (until-none (passes sites rules) (bad-append sites rules) (length sites) 1 limit))
+  pub choices-until : (limit cap : ℕ) → packedChoices sites rules limit cap ≡ [] ∷ upToCap cap 1 (untilNone (packedPasses sites rules) (length sites) 1 limit)
+  unfolding packedChoices
+  choices-until limit cap = ap (λ (z : List (List ℕ)). [] ∷ upToCap cap 1 z) (sym (until-none (packedPasses sites rules) (bad-append sites rules) (length sites) 1 limit))

@@ -8,16 +8,16 @@ use native.Mathlib.Omega.{arith}
 use lib.ListN.{length, getD, drop}
 use lib.Dec.{leb, eqb}
 use borrow.Author.Tests.{lt-leb, eqb-true, eq-eqb}
-use Rattle.lists.specs.KeepLaws.{keep-map}
+use Rattle.lists.specs.KeepLaws.{keep-map, keep-append}
 use Rattle.lists.specs.InLaws.{keep-alike}
 use Rattle.lists.specs.Lists.{keep, bit}
 use Rattle.peptide_choices.specs.Choices.{choicesOf, bySize}
-use Rattle.peptide_choices.specs.KeepLaws.{keep-append, keep-no}
+use Rattle.peptide_choices.specs.KeepLaws.{keep-no}
 use Rattle.peptide_slots.specs.Sites.{ifHit, limitAt, ruleOf, slotOf}
 use Rattle.peptide_slots.specs.Used.{idle, used}
-use Rattle.peptide_forms.specs.Enumeration.{accepted, reached}
-use Rattle.peptide_forms.specs.Packed.{choices, chosen}
-use Rattle.peptide_forms.specs.Passing.{free, inLimits, passes, slotsOnce, uses}
+use Rattle.peptide_forms.specs.Enumeration.{upToCap, capReached}
+use Rattle.peptide_forms.specs.Packed.{packedChoices, packedChosen}
+use Rattle.peptide_forms.specs.Passing.{free, inLimits, packedPasses, slotsOnce, uses}
 
 -- ---- the tests of a choice, on the list of its sites
 
@@ -44,36 +44,36 @@ unfolding onceIn limitsIn
 fine rules xs = onceIn xs && limitsIn rules xs xs
 
 module _ (sites rules : List ℕ) where
-  free-chosen : (slot : ℕ) (c : List ℕ) → free sites slot c ≡ freeIn slot (chosen sites c)
-  unfolding free freeIn chosen
+  free-chosen : (slot : ℕ) (c : List ℕ) → free sites slot c ≡ freeIn slot (packedChosen sites c)
+  unfolding free freeIn packedChosen
   free-chosen slot [] = refl
   free-chosen slot (k ∷ c) = ap (λ (t : Bool). not (eqb (slotOf (getD sites k 0)) slot) && t) (free-chosen slot c)
 
-  uses-chosen : (rule : ℕ) (c : List ℕ) → uses sites rule c ≡ usesIn rule (chosen sites c)
-  unfolding uses usesIn chosen
+  uses-chosen : (rule : ℕ) (c : List ℕ) → uses sites rule c ≡ usesIn rule (packedChosen sites c)
+  unfolding uses usesIn packedChosen
   uses-chosen rule [] = refl
   uses-chosen rule (k ∷ c) = ap (λ (t : ℕ). bit (eqb (ruleOf (getD sites k 0)) rule) + t) (uses-chosen rule c)
 
-  once-chosen : (c : List ℕ) → slotsOnce sites c ≡ onceIn (chosen sites c)
-  unfolding slotsOnce onceIn chosen
+  once-chosen : (c : List ℕ) → slotsOnce sites c ≡ onceIn (packedChosen sites c)
+  unfolding slotsOnce onceIn packedChosen
   once-chosen [] = refl
   once-chosen (k ∷ c) =
       ap (λ (t : Bool). t && slotsOnce sites c) (free-chosen (slotOf (getD sites k 0)) c)
-      ∙ ap (λ (t : Bool). freeIn (slotOf (getD sites k 0)) (chosen sites c) && t) (once-chosen c)
+      ∙ ap (λ (t : Bool). freeIn (slotOf (getD sites k 0)) (packedChosen sites c) && t) (once-chosen c)
 
-  limits-chosen : (whole c : List ℕ) → inLimits sites rules whole c ≡ limitsIn rules (chosen sites whole) (chosen sites c)
-  unfolding inLimits limitsIn chosen
+  limits-chosen : (whole c : List ℕ) → inLimits sites rules whole c ≡ limitsIn rules (packedChosen sites whole) (packedChosen sites c)
+  unfolding inLimits limitsIn packedChosen
   limits-chosen whole [] = refl
   limits-chosen whole (k ∷ c) =
       ap (λ (t : ℕ). leb t (limitAt rules (ruleOf (getD sites k 0))) && inLimits sites rules whole c) (uses-chosen (ruleOf (getD sites k 0)) whole)
-      ∙ ap (λ (t : Bool). leb (usesIn (ruleOf (getD sites k 0)) (chosen sites whole)) (limitAt rules (ruleOf (getD sites k 0))) && t) (limits-chosen whole c)
+      ∙ ap (λ (t : Bool). leb (usesIn (ruleOf (getD sites k 0)) (packedChosen sites whole)) (limitAt rules (ruleOf (getD sites k 0))) && t) (limits-chosen whole c)
 
   -- whether a choice passes is seen by its sites
-  pub passes-chosen : (c : List ℕ) → passes sites rules c ≡ fine rules (chosen sites c)
-  unfolding passes fine
+  pub passes-chosen : (c : List ℕ) → packedPasses sites rules c ≡ fine rules (packedChosen sites c)
+  unfolding packedPasses fine
   passes-chosen c =
       ap (λ (t : Bool). t && inLimits sites rules c c) (once-chosen c)
-      ∙ ap (λ (t : Bool). onceIn (chosen sites c) && t) (limits-chosen c c)
+      ∙ ap (λ (t : Bool). onceIn (packedChosen sites c) && t) (limits-chosen c c)
 
 -- ---- a choice with a site of a rule whose limit is 0 does not pass
 
@@ -107,12 +107,12 @@ fine-bad rules c h = ap (λ (t : Bool). onceIn c && t) (limits-bad rules [] c h)
 
 -- ---- lists
 
-accepted-map : (f : List ℕ → List ℕ) (cap k : ℕ) (xs : List (List ℕ)) → map f (accepted cap k xs) ≡ accepted cap k (map f xs)
-unfolding accepted
+accepted-map : (f : List ℕ → List ℕ) (cap k : ℕ) (xs : List (List ℕ)) → map f (upToCap cap k xs) ≡ upToCap cap k (map f xs)
+unfolding upToCap
 accepted-map f cap k [] = refl
-accepted-map f cap k (x ∷ xs) = go (reached cap k) (accepted-map f cap (suc k) xs)
+accepted-map f cap k (x ∷ xs) = go (capReached cap k) (accepted-map f cap (suc k) xs)
   where
-    go : (b : Bool) → map f (accepted cap (suc k) xs) ≡ accepted cap (suc k) (map f xs) → map f (cond b [] (x ∷ accepted cap (suc k) xs)) ≡ cond b [] (f x ∷ accepted cap (suc k) (map f xs))
+    go : (b : Bool) → map f (upToCap cap (suc k) xs) ≡ upToCap cap (suc k) (map f xs) → map f (cond b [] (x ∷ upToCap cap (suc k) xs)) ≡ cond b [] (f x ∷ upToCap cap (suc k) (map f xs))
     go true r = refl
     go false r = ap (λ (z : List (List ℕ)). f x ∷ z) r
 
@@ -134,37 +134,37 @@ drop-first [] (suc lo) x t e = absurd (omega (arith, ap length e))
 drop-first (y ∷ s) zero x t e = (cc, cc)
 drop-first (y ∷ s) (suc lo) x t e = drop-first s lo x t e
 
-under : (s : List ℕ) (lo x : ℕ) → getD s lo 0 ≡ x → (cs : List (List ℕ)) → map (chosen s) (map (λ (c : List ℕ). lo ∷ c) cs) ≡ map (λ (c : List ℕ). x ∷ c) (map (chosen s) cs)
-unfolding chosen
+under : (s : List ℕ) (lo x : ℕ) → getD s lo 0 ≡ x → (cs : List (List ℕ)) → map (packedChosen s) (map (λ (c : List ℕ). lo ∷ c) cs) ≡ map (λ (c : List ℕ). x ∷ c) (map (packedChosen s) cs)
+unfolding packedChosen
 under s lo x e [] = refl
 under s lo x e (c ∷ cs) =
-    ap (λ (y : ℕ). (y ∷ chosen s c) ∷ map (chosen s) (map (λ (d : List ℕ). lo ∷ d) cs)) e
-    ∙ ap (λ (z : List (List ℕ)). (x ∷ chosen s c) ∷ z) (under s lo x e cs)
+    ap (λ (y : ℕ). (y ∷ packedChosen s c) ∷ map (packedChosen s) (map (λ (d : List ℕ). lo ∷ d) cs)) e
+    ∙ ap (λ (z : List (List ℕ)). (x ∷ packedChosen s c) ∷ z) (under s lo x e cs)
 
-chosen-picks : (s : List ℕ) (n : ℕ) (t : List ℕ) (lo : ℕ) → drop lo s ≡ t → map (chosen s) (choicesOf n (length t) lo) ≡ picks n t
-unfolding choicesOf picks chosen
+chosen-picks : (s : List ℕ) (n : ℕ) (t : List ℕ) (lo : ℕ) → drop lo s ≡ t → map (packedChosen s) (choicesOf n (length t) lo) ≡ picks n t
+unfolding choicesOf picks packedChosen
 chosen-picks s zero t lo e = refl
 chosen-picks s (suc n) [] lo e = refl
 chosen-picks s (suc n) (x ∷ t) lo e =
     let d = drop-first s lo x t e in
-    map-append (chosen s) (map (λ (c : List ℕ). lo ∷ c) (choicesOf n (length t) (suc lo))) (choicesOf (suc n) (length t) (suc lo))
-    ∙ ap (λ (z : List (List ℕ)). z ++ map (chosen s) (choicesOf (suc n) (length t) (suc lo))) (under s lo x (d .0) (choicesOf n (length t) (suc lo)))
-    ∙ ap (λ (z : List (List ℕ)). map (λ (c : List ℕ). x ∷ c) z ++ map (chosen s) (choicesOf (suc n) (length t) (suc lo))) (chosen-picks s n t (suc lo) (d .1))
+    map-append (packedChosen s) (map (λ (c : List ℕ). lo ∷ c) (choicesOf n (length t) (suc lo))) (choicesOf (suc n) (length t) (suc lo))
+    ∙ ap (λ (z : List (List ℕ)). z ++ map (packedChosen s) (choicesOf (suc n) (length t) (suc lo))) (under s lo x (d .0) (choicesOf n (length t) (suc lo)))
+    ∙ ap (λ (z : List (List ℕ)). map (λ (c : List ℕ). x ∷ c) z ++ map (packedChosen s) (choicesOf (suc n) (length t) (suc lo))) (chosen-picks s n t (suc lo) (d .1))
     ∙ ap (λ (z : List (List ℕ)). map (λ (c : List ℕ). x ∷ c) (picks n t) ++ z) (chosen-picks s (suc n) t (suc lo) (d .1))
 
-chosen-sizes : (s : List ℕ) (n k : ℕ) → map (chosen s) (bySize (length s) n k) ≡ picksBy s n k
+chosen-sizes : (s : List ℕ) (n k : ℕ) → map (packedChosen s) (bySize (length s) n k) ≡ picksBy s n k
 unfolding bySize picksBy
 chosen-sizes s n zero = refl
 chosen-sizes s n (suc k) =
-    map-append (chosen s) (choicesOf n (length s) 0) (bySize (length s) (suc n) k)
-    ∙ ap (λ (z : List (List ℕ)). z ++ map (chosen s) (bySize (length s) (suc n) k)) (chosen-picks s n s 0 refl)
+    map-append (packedChosen s) (choicesOf n (length s) 0) (bySize (length s) (suc n) k)
+    ∙ ap (λ (z : List (List ℕ)). z ++ map (packedChosen s) (bySize (length s) (suc n) k)) (chosen-picks s n s 0 refl)
     ∙ ap (λ (z : List (List ℕ)). picks n s ++ z) (chosen-sizes s (suc n) k)
 
 -- the sites of the choices that pass are the lists of sites that are fine
-passed-picks : (sites rules : List ℕ) (n k : ℕ) → map (chosen sites) (keep (passes sites rules) (bySize (length sites) n k)) ≡ keep (fine rules) (picksBy sites n k)
+passed-picks : (sites rules : List ℕ) (n k : ℕ) → map (packedChosen sites) (keep (packedPasses sites rules) (bySize (length sites) n k)) ≡ keep (fine rules) (picksBy sites n k)
 passed-picks sites rules n k =
-    ap (map (chosen sites)) (keep-alike (passes sites rules) (λ (c : List ℕ). fine rules (chosen sites c)) (bySize (length sites) n k) (λ c i. passes-chosen sites rules c))
-    ∙ sym (keep-map (chosen sites) (fine rules) (bySize (length sites) n k))
+    ap (map (packedChosen sites)) (keep-alike (packedPasses sites rules) (λ (c : List ℕ). fine rules (packedChosen sites c)) (bySize (length sites) n k) (λ c i. passes-chosen sites rules c))
+    ∙ sym (keep-map (packedChosen sites) (fine rules) (bySize (length sites) n k))
     ∙ ap (keep (fine rules)) (chosen-sizes sites n k)
 
 -- ---- those sites left out
@@ -211,14 +211,14 @@ sizes-out rules s n (suc k) =
 
 module _ (sites rules : List ℕ) where
   -- the choices that pass have the same sites, in the same order, where the sites of rules of limit 0 are left out
-  pub no-zero : (n k : ℕ) → map (chosen sites) (keep (passes sites rules) (bySize (length sites) n k)) ≡ map (chosen (used rules sites)) (keep (passes (used rules sites) rules) (bySize (length (used rules sites)) n k))
+  pub no-zero : (n k : ℕ) → map (packedChosen sites) (keep (packedPasses sites rules) (bySize (length sites) n k)) ≡ map (packedChosen (used rules sites)) (keep (packedPasses (used rules sites) rules) (bySize (length (used rules sites)) n k))
   no-zero n k = passed-picks sites rules n k ∙ sizes-out rules sites n k ∙ sym (passed-picks (used rules sites) rules n k)
 
   -- and so have those that make forms
-  pub choices-used : (limit cap : ℕ) → map (chosen sites) (choices sites rules limit cap) ≡ map (chosen (used rules sites)) (choices (used rules sites) rules limit cap)
-  unfolding choices chosen
+  pub choices-used : (limit cap : ℕ) → map (packedChosen sites) (packedChoices sites rules limit cap) ≡ map (packedChosen (used rules sites)) (packedChoices (used rules sites) rules limit cap)
+  unfolding packedChoices packedChosen
   choices-used limit cap =
       ap (λ (z : List (List ℕ)). [] ∷ z)
-      (accepted-map (chosen sites) cap 1 (keep (passes sites rules) (bySize (length sites) 1 limit))
-      ∙ ap (accepted cap 1) (no-zero 1 limit)
-      ∙ sym (accepted-map (chosen (used rules sites)) cap 1 (keep (passes (used rules sites) rules) (bySize (length (used rules sites)) 1 limit))))
+      (accepted-map (packedChosen sites) cap 1 (keep (packedPasses sites rules) (bySize (length sites) 1 limit))
+      ∙ ap (upToCap cap 1) (no-zero 1 limit)
+      ∙ sym (accepted-map (packedChosen (used rules sites)) cap 1 (keep (packedPasses (used rules sites) rules) (bySize (length (used rules sites)) 1 limit))))

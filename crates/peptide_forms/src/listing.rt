@@ -9,9 +9,9 @@ ghost use lib.ListN.{length, take};
 ghost use Rattle.records.specs.Room.{roomOf};
 ghost use Rattle.peptide_choices.specs.Choices.{bySize};
 ghost use Rattle.peptide_slots.specs.Filling.{apply};
-ghost use Rattle.peptide_forms.specs.Passing.{passes};
+ghost use Rattle.peptide_forms.specs.Passing.{packedPasses};
 ghost use Rattle.peptide_forms.specs.Enumeration.{mostForms};
-ghost use Rattle.peptide_forms.specs.Packed.{chosen};
+ghost use Rattle.peptide_forms.specs.Packed.{packedChosen};
 ghost use Rattle.peptide_forms.specs.RunLaws.{todo, quick, Finished};
 
 // Whether all forms have room, and how many stand there.
@@ -23,7 +23,7 @@ pub struct Listed {
 // The chosen sites, one after another.
 fn with_choice(form: Form, c: Choice, sites: &[u16], rules: &[u8]) -> Form
     requires { ⌜ c .n ≤ 8 ⌝ }
-    ensures { λ r. ⌜ r .slots ≡ apply (now (rules .entry)) (form .slots) (chosen (now (sites .entry)) (take (c .n) (c .at))) ⌝ }
+    ensures { λ r. ⌜ r .slots ≡ apply (now (rules .entry)) (form .slots) (packedChosen (now (sites .entry)) (take (c .n) (c .at))) ⌝ }
 {
     let n = c.n;
     let at = c.at;
@@ -60,7 +60,7 @@ pub fn list_forms(
     out: &mut [u8],
 ) -> Listed
     requires { ⌜ (limit ≤ 8) × (1 ≤ room) × (room ≡ roomOf 66 mostForms (now out)) ⌝ }
-    ensures { λ r. ⌜ Finished room (map (quick (bare .slots) (table .slots) (now (sites .entry)) (now (rules .entry))) (todo (passes (now (sites .entry)) (now (rules .entry))) cap 1 (bySize (length (now (sites .entry))) 1 limit))) (now (out .entry)) (now (out .exit)) r ⌝ }
+    ensures { λ r. ⌜ Finished room (map (quick (bare .slots) (table .slots) (now (sites .entry)) (now (rules .entry))) (todo (packedPasses (now (sites .entry)) (now (rules .entry))) cap 1 (bySize (length (now (sites .entry))) 1 limit))) (now (out .entry)) (now (out .exit)) r ⌝ }
 {
     let m = sites.len();
     let mut count = 1;

@@ -5,7 +5,7 @@ ghost use Prim.Native.Nat.{_≤_, _<_};
 ghost use lib.ListN.{take, getD};
 ghost use Rattle.lists.specs.Lists.{bit};
 ghost use Rattle.peptide_forms.specs.PassingLaws.{mayJoin};
-ghost use Rattle.peptide_forms.specs.TurnLaws.{Tallied, Reached};
+ghost use Rattle.peptide_forms.specs.TurnLaws.{UsesTallied, FineUpTo};
 
 // Whether a slot is free among some places, and how often they use a rule.
 struct Taken {
@@ -22,7 +22,7 @@ fn one_if(b: bool) -> u32
 // What the first j places take of a slot and a rule.
 fn tally(at: [usize; 8], j: usize, slot: u16, rule: u16, sites: &[u16]) -> Taken
     requires { ⌜ j ≤ 8 ⌝ }
-    ensures { λ r. ⌜ Tallied (now (sites .entry)) slot rule (take j at) j (r .free) (r .uses) ⌝ }
+    ensures { λ r. ⌜ UsesTallied (now (sites .entry)) slot rule (take j at) j (r .free) (r .uses) ⌝ }
 {
     let mut free = true;
     let mut uses = 0;
@@ -54,7 +54,7 @@ fn joins(at: [usize; 8], j: usize, sites: &[u16], rules: &[u8]) -> bool
 // How many places of a choice go well together: all, if the choice passes.
 pub(crate) fn reach(c: Choice, sites: &[u16], rules: &[u8]) -> usize
     requires { ⌜ c .n ≤ 8 ⌝ }
-    ensures { λ r. ⌜ Reached (now (sites .entry)) (now (rules .entry)) (take (c .n) (c .at)) r ⌝ }
+    ensures { λ r. ⌜ FineUpTo (now (sites .entry)) (now (rules .entry)) (take (c .n) (c .at)) r ⌝ }
 {
     let n = c.n;
     let at = c.at;

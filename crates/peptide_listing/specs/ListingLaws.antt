@@ -17,9 +17,9 @@ use Rattle.peptide_choices.specs.Choices.{bySize}
 use Rattle.peptide_slots.specs.Filling.{apply}
 use Rattle.peptide_slots.specs.Overlays.{overlay}
 use Rattle.peptide_forms.specs.declared.listing.Listed.{Listed}
-use Rattle.peptide_forms.specs.Passing.{passes as packedPasses}
+use Rattle.peptide_forms.specs.Passing.{packedPasses}
 use Rattle.peptide_forms.specs.Enumeration.{mostForms}
-use Rattle.peptide_forms.specs.Packed.{choices as packedChoices, chosen as packedChosen}
+use Rattle.peptide_forms.specs.Packed.{packedChoices, packedChosen}
 use Rattle.peptide_forms.specs.RunLaws.{todo, quick, length-quick, Finished}
 use Rattle.records.specs.declared.refusal.Counted.{Counted}
 

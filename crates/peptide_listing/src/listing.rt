@@ -9,7 +9,7 @@ ghost use lib.ListN.{length, replicate};
 ghost use Rattle.records.specs.Outcome.{outcome};
 ghost use Rattle.peptide_slots.specs.Sites.{allSites};
 ghost use Rattle.peptide_slots.specs.Filling.{apply};
-ghost use Rattle.peptide_forms.specs.Packed.{choices};
+ghost use Rattle.peptide_forms.specs.Packed.{packedChoices};
 ghost use Rattle.peptide_forms.specs.RunLaws.{quick};
 ghost use Rattle.records.specs.Room.{counted};
 ghost use Rattle.peptide_forms.specs.Enumeration.{mostForms};
@@ -36,7 +36,7 @@ pub fn list_all(
     out: &mut [u8],
 ) -> Counted
     requires { ⌜ limit ≤ 8 ⌝ }
-    ensures { λ r. ⌜ outcome r (now (out .exit) ∷ []) ≡ counted 66 mostForms (now (out .entry)) (map (quick (bare .slots) (table .slots) (now (sites .entry)) (now (rules .entry))) (choices (now (sites .entry)) (now (rules .entry)) limit cap)) ⌝ }
+    ensures { λ r. ⌜ outcome r (now (out .exit) ∷ []) ≡ counted 66 mostForms (now (out .entry)) (map (quick (bare .slots) (table .slots) (now (sites .entry)) (now (rules .entry))) (packedChoices (now (sites .entry)) (now (rules .entry)) limit cap)) ⌝ }
 {
     let most = cap as usize;
     let room = records::room_for(out.len(), 66, 1048576);

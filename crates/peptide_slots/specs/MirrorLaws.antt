@@ -10,16 +10,17 @@ use lib.ListN.{length, getD, take, drop, length-append, length-drop, List·getD-
 use native.Mathlib.Numerals.{add-one}
 use lib.Seq.{drop-cons, getD-append-add, getD-take, getD-drop, ext-getD, length-take-le}
 use lib.Dec.{eqb}
+use Rattle.lists.specs.FrameLaws.{Framed}
 use Rattle.lists.specs.Tests.{below?}
 use Rattle.letters.specs.Reversal.{reversed}
 use Rattle.letters.specs.ReversalLaws.{length-reversed, reversed-first, reversed-last, reversed-inner}
 use Rattle.peptide_slots.specs.Mirror.{mirror, allZero}
 
 -- out is xs with the places from 1 up to i turned round within the first n
-pub record Turned (n i : ℕ) (xs out : List ℕ) : Type 0 where
+pub record MirroredTo (n i : ℕ) (xs out : List ℕ) : Type 0 where
   pub len : length out ≡ length xs
   pub inner : (k : ℕ) → 1 ≤ k → k < i → getD out k 0 ≡ getD xs (n - 1 - k) 0
-  pub outer : (k : ℕ) → (k < 1) ⊎ (i ≤ k) → getD out k 0 ≡ getD xs k 0
+  pub outer : Framed 1 i xs out
 
 -- where turning ends
 abbrev pub until : ℕ → ℕ
@@ -65,12 +66,12 @@ module _ (n : ℕ) (xs : List ℕ) (fits : n ≤ length xs) where
       end h (inl a) = let e : k ≡ 0 = omega arith in rw e (reversed-first (take n xs))
       end h (inr a) = reversed-last (take n xs) k (omega (arith, front))
 
-  pub mirror-turned : Turned n (until n) xs (mirror n xs)
+  pub mirror-turned : MirroredTo n (until n) xs (mirror n xs)
   mirror-turned = record { len = mirror-length; inner = mirror-inner; outer = mirror-outer }
 
 -- ---- one list only
-pub turned-one : (n i : ℕ) (xs a b : List ℕ) → Turned n i xs a → Turned n i xs b → a ≡ b
-turned-one n i xs a b p q = ext-getD 0 a b (p .len ∙ sym (q .len)) (λ k h. go k (decLt k 1) (decLt k i))
+pub mirrored-one : (n i : ℕ) (xs a b : List ℕ) → MirroredTo n i xs a → MirroredTo n i xs b → a ≡ b
+mirrored-one n i xs a b p q = ext-getD 0 a b (p .len ∙ sym (q .len)) (λ k h. go k (decLt k 1) (decLt k i))
   where
     go : (k : ℕ) → Dec (k < 1) → Dec (k < i) → getD a k 0 ≡ getD b k 0
     go k (yes u) v = p .outer k (inl u) ∙ sym (q .outer k (inl u))
@@ -81,10 +82,10 @@ turned-one n i xs a b p q = ext-getD 0 a b (p .len ∙ sym (q .len)) (λ k h. go
 pub mirror-mirror : (n : ℕ) (xs : List ℕ) → n ≤ length xs → mirror n (mirror n xs) ≡ xs
 mirror-mirror n xs h = ext-getD 0 (mirror n (mirror n xs)) xs (q .len ∙ p .len) (λ k g. go k (decLt k 1) (decLt k (until n)))
   where
-    p : Turned n (until n) xs (mirror n xs)
+    p : MirroredTo n (until n) xs (mirror n xs)
     p = mirror-turned n xs h
 
-    q : Turned n (until n) (mirror n xs) (mirror n (mirror n xs))
+    q : MirroredTo n (until n) (mirror n xs) (mirror n (mirror n xs))
     q = mirror-turned n (mirror n xs) (rw (p .len) h)
 
     go : (k : ℕ) → Dec (k < 1) → Dec (k < until n) → getD (mirror n (mirror n xs)) k 0 ≡ getD xs k 0

@@ -9,6 +9,7 @@ use native.Mathlib.Nat.{le-of-suc-le-suc, not-suc-le-zero, add-suc, suc-add, add
 use lib.Dec.{eqb, eqb·suc-zero}
 use lib.ListN.{length, getD, set, replicate, length-set, length-replicate, getD-replicate}
 use lib.Seq.{ext-getD, getD-set-same, getD-set-other}
+use Rattle.lists.specs.FrameLaws.{Framed, framed-none, framed-then, framed-within, framed-set}
 use Rattle.peptide_slots.specs.Hits.{fill, fillAt}
 use Rattle.peptide_slots.specs.Sites.{idAt, slotOf, ruleOf}
 use Rattle.peptide_slots.specs.Filling.{fillSite, apply}
@@ -37,13 +38,17 @@ mapAt-ext f xs out e h =
 pub record Upto (f : ℕ → ℕ → ℕ) (xs : List ℕ) (k : ℕ) (out : List ℕ) : Type 0 where
   pub len : length out ≡ length xs
   pub done : (j : ℕ) → j < k → getD out j 0 ≡ f j (getD xs j 0)
-  pub rest : (j : ℕ) → k ≤ j → getD out j 0 ≡ getD xs j 0
+  pub rest : Framed 0 k xs out
 
 pub upto-none : (f : ℕ → ℕ → ℕ) (xs : List ℕ) → Upto f xs 0 xs
-upto-none f xs = record { len = refl; done = λ j h. absurd (not-suc-le-zero h); rest = λ j h. refl }
+upto-none f xs = record { len = refl; done = λ j h. absurd (not-suc-le-zero h); rest = framed-none 0 0 xs }
 
 pub upto-more : (f : ℕ → ℕ → ℕ) (xs : List ℕ) (k : ℕ) (out : List ℕ) (v : ℕ) → k < length xs → v ≡ f k (getD xs k 0) → Upto f xs k out → Upto f xs (k + 1) (set out k v)
-upto-more f xs k out v h e u = record { len = length-set out k v ∙ u .len; done = below; rest = above }
+upto-more f xs k out v h e u = record {
+  len = length-set out k v ∙ u .len;
+  done = below;
+  rest = framed-then 0 (k + 1) xs out (set out k v) (framed-within 0 0 k (k + 1) xs out (omega arith) (omega arith) (u .rest)) (framed-set 0 (k + 1) k v out (omega arith) (omega arith));
+}
   where
     below : (j : ℕ) → j < k + 1 → getD (set out k v) j 0 ≡ f j (getD xs j 0)
     below j g = go (decLt j k)
@@ -54,9 +59,6 @@ upto-more f xs k out v h e u = record { len = length-set out k v ∙ u .len; don
             let w : j < k → ⊥ = p in
             let q : j ≡ k = omega arith in
             rw q (getD-set-same out k v 0 (rw (u .len) h) ∙ e)
-
-    above : (j : ℕ) → k + 1 ≤ j → getD (set out k v) j 0 ≡ getD xs j 0
-    above j g = getD-set-other out k j v 0 (λ (q : j ≡ k). omega arith) ∙ u .rest j (omega arith)
 
 -- ---- overlays
 pub length-overlay : (t form : List ℕ) → length (overlay t form) ≡ length form

@@ -9,7 +9,7 @@ use native.Mathlib.Numerals.{add-one}
 use lib.Dec.{eqb}
 use lib.ListN.{length, getD, length-append}
 use Rattle.peptide_slots.specs.Hits.{atFirst, atLast, hitsAt}
-use Rattle.peptide_slots.specs.Sites.{slotOf, ruleOf, ifHit, hitFrom, placesOf, slotsOf, kindAt, letterAt, sitesFrom, allSites}
+use Rattle.peptide_slots.specs.Sites.{slotOf, ruleOf, ifHit, hitFrom, placesOf, slotNumbers, kindAt, letterAt, sitesFrom, allSites}
 use Rattle.peptide_slots.specs.WroteLaws.{Wrote, wrote-none, wrote-then}
 
 -- ---- a site's rule and slot are read back
@@ -35,8 +35,8 @@ unfolding hitFrom
 from-few f base j zero = omega arith
 from-few f base j (suc c) = let h : length (hitFrom f base (suc j) c) ≤ c = from-few f base (suc j) c in omega (arith, length-append (ifHit (f j) (base + (j + 2))) (hitFrom f base (suc j) c), if-few (f j) (base + (j + 2)))
 
-slots-few : (letters : List ℕ) (n kind pos letter base : ℕ) → length (slotsOf letters n kind pos letter base) ≤ n + 2
-unfolding slotsOf placesOf
+slots-few : (letters : List ℕ) (n kind pos letter base : ℕ) → length (slotNumbers letters n kind pos letter base) ≤ n + 2
+unfolding slotNumbers placesOf
 slots-few letters n kind pos letter base =
     let f : ℕ → Bool = λ (k : ℕ). hitsAt kind pos letter n k (getD letters k 0) in
     let p : Bool = eqb letter 0 && atFirst kind pos in
@@ -47,7 +47,7 @@ pub sites-few : (letters : List ℕ) (n pos : ℕ) (rules : List ℕ) (r k : ℕ
 unfolding sitesFrom
 sites-few letters n pos rules r zero h = omega arith
 sites-few letters n pos rules r (suc k) h =
-    let v : List ℕ = slotsOf letters n (kindAt rules r) pos (letterAt rules r) (r * 128) in
+    let v : List ℕ = slotNumbers letters n (kindAt rules r) pos (letterAt rules r) (r * 128) in
     omega (arith, length-append v (sitesFrom letters n pos rules (suc r) k), slots-few letters n (kindAt rules r) pos (letterAt rules r) (r * 128), sites-few letters n pos rules (suc r) k h)
 
 pub all-few : (letters : List ℕ) (n pos : ℕ) (rules : List ℕ) → n ≤ 64 → length rules ≤ 256 → length (allSites letters n pos rules) ≤ 2112
@@ -56,20 +56,20 @@ all-few letters n pos rules h l = omega (arith, sites-few letters n pos rules 0 
 
 -- ---- the places of one rule
 
-pub record Picked (f : ℕ → Bool) (base n : ℕ) (old : List ℕ) (from : ℕ) (out : List ℕ) (next k : ℕ) : Type 0 where
+pub record HitsWritten (f : ℕ → Bool) (base n : ℕ) (old : List ℕ) (from : ℕ) (out : List ℕ) (next k : ℕ) : Type 0 where
   pub vs : List ℕ
   pub wrote : Wrote old from vs out next
   pub left : vs ++ hitFrom f base k (n - k) ≡ hitFrom f base 0 n
   pub few : length vs ≤ k
   pub len : length out ≡ length old
 
-pub picked-none : (f : ℕ → Bool) (base n : ℕ) (old : List ℕ) (from : ℕ) → Picked f base n old from old from 0
-picked-none f base n old from = record { vs = []; wrote = wrote-none old from; left = ap (hitFrom f base 0) (sub-zero n); few = omega arith; len = refl }
+pub hits-written-none : (f : ℕ → Bool) (base n : ℕ) (old : List ℕ) (from : ℕ) → HitsWritten f base n old from old from 0
+hits-written-none f base n old from = record { vs = []; wrote = wrote-none old from; left = ap (hitFrom f base 0) (sub-zero n); few = omega arith; len = refl }
 
-pub picked-more : (f : ℕ → Bool) (base n : ℕ) (old : List ℕ) (from : ℕ) (out : List ℕ) (next k : ℕ) (hit : Bool) (newer : List ℕ) (after : ℕ) → k < n → hit ≡ f k
-    → Wrote out next (ifHit hit (base + (k + 2))) newer after → length newer ≡ length out → Picked f base n old from out next k → Picked f base n old from newer after (k + 1)
+pub hits-written-more : (f : ℕ → Bool) (base n : ℕ) (old : List ℕ) (from : ℕ) (out : List ℕ) (next k : ℕ) (hit : Bool) (newer : List ℕ) (after : ℕ) → k < n → hit ≡ f k
+    → Wrote out next (ifHit hit (base + (k + 2))) newer after → length newer ≡ length out → HitsWritten f base n old from out next k → HitsWritten f base n old from newer after (k + 1)
 unfolding hitFrom
-picked-more f base n old from out next k hit newer after h e w l p =
+hits-written-more f base n old from out next k hit newer after h e w l p =
     let s : n - k ≡ suc (n - (k + 1)) = omega arith in
     let v : List ℕ = ifHit hit (base + (k + 2)) in
     record {
@@ -85,9 +85,9 @@ picked-more f base n old from out next k hit newer after h e w l p =
       len = l ∙ p .len;
     }
 
-pub picked-all : (f : ℕ → Bool) (base n : ℕ) (old : List ℕ) (from : ℕ) (out : List ℕ) (next k : ℕ) → n ≤ k → Picked f base n old from out next k → Wrote old from (hitFrom f base 0 n) out next
+pub hits-written-all : (f : ℕ → Bool) (base n : ℕ) (old : List ℕ) (from : ℕ) (out : List ℕ) (next k : ℕ) → n ≤ k → HitsWritten f base n old from out next k → Wrote old from (hitFrom f base 0 n) out next
 unfolding hitFrom
-picked-all f base n old from out next k h p =
+hits-written-all f base n old from out next k h p =
     let z : n - k ≡ 0 = omega arith in
     let e : p .vs ≡ hitFrom f base 0 n = sym (append-nil (p .vs)) ∙ ap (λ (q : ℕ). p .vs ++ hitFrom f base k q) (sym z) ∙ p .left in
     rw e at (p .wrote)
@@ -96,8 +96,8 @@ picked-all f base n old from out next k h p =
 
 pub slots-wrote : (letters : List ℕ) (n kind pos letter base : ℕ) (b c : Bool) (old : List ℕ) (at : ℕ) (one : List ℕ) (r : ℕ) (two : List ℕ) (s : ℕ) (three : List ℕ) (t : ℕ)
     → b ≡ atFirst kind pos → c ≡ atLast kind pos → Wrote old at (ifHit (eqb letter 0 && b) base) one r → Wrote one r (ifHit (eqb letter 0 && c) (base + 1)) two s
-    → Wrote two s (placesOf letters n kind pos letter base) three t → Wrote old at (slotsOf letters n kind pos letter base) three t
-unfolding slotsOf
+    → Wrote two s (placesOf letters n kind pos letter base) three t → Wrote old at (slotNumbers letters n kind pos letter base) three t
+unfolding slotNumbers
 slots-wrote letters n kind pos letter base b c old at one r two s three t e f p q w =
     let vs : List ℕ = placesOf letters n kind pos letter base in
     let first : Wrote old at (ifHit (eqb letter 0 && atFirst kind pos) base) one r = subst (λ (z : Bool). Wrote old at (ifHit (eqb letter 0 && z) base) one r) e p in
@@ -107,7 +107,7 @@ slots-wrote letters n kind pos letter base b c old at one r two s three t e f p 
 
 -- ---- rule after rule
 
-pub record Gathered (letters : List ℕ) (n pos : ℕ) (rules : List ℕ) (count : ℕ) (old out : List ℕ) (at r : ℕ) : Type 0 where
+pub record SitesWritten (letters : List ℕ) (n pos : ℕ) (rules : List ℕ) (count : ℕ) (old out : List ℕ) (at r : ℕ) : Type 0 where
   pub vs : List ℕ
   pub wrote : Wrote old 0 vs out at
   pub left : vs ++ sitesFrom letters n pos rules r (count - r) ≡ sitesFrom letters n pos rules 0 count
@@ -115,16 +115,16 @@ pub record Gathered (letters : List ℕ) (n pos : ℕ) (rules : List ℕ) (count
   pub len : length out ≡ length old
 
 module _ (letters : List ℕ) (n pos : ℕ) (rules : List ℕ) (count : ℕ) (old : List ℕ) where
-  pub gathered-none : Gathered letters n pos rules count old old 0 0
-  gathered-none = record { vs = []; wrote = wrote-none old 0; left = ap (sitesFrom letters n pos rules 0) (sub-zero count); few = omega arith; len = refl }
+  pub sites-written-none : SitesWritten letters n pos rules count old old 0 0
+  sites-written-none = record { vs = []; wrote = wrote-none old 0; left = ap (sitesFrom letters n pos rules 0) (sub-zero count); few = omega arith; len = refl }
 
-  pub gathered-more : (out : List ℕ) (at r : ℕ) (newer : List ℕ) (next : ℕ) → n ≤ 64 → r < count
-      → Wrote out at (slotsOf letters n (kindAt rules r) pos (letterAt rules r) (r * 128)) newer next → length newer ≡ length out
-      → Gathered letters n pos rules count old out at r → Gathered letters n pos rules count old newer next (r + 1)
+  pub sites-written-more : (out : List ℕ) (at r : ℕ) (newer : List ℕ) (next : ℕ) → n ≤ 64 → r < count
+      → Wrote out at (slotNumbers letters n (kindAt rules r) pos (letterAt rules r) (r * 128)) newer next → length newer ≡ length out
+      → SitesWritten letters n pos rules count old out at r → SitesWritten letters n pos rules count old newer next (r + 1)
   unfolding sitesFrom
-  gathered-more out at r newer next u h w l g =
+  sites-written-more out at r newer next u h w l g =
       let s : count - r ≡ suc (count - (r + 1)) = omega arith in
-      let v : List ℕ = slotsOf letters n (kindAt rules r) pos (letterAt rules r) (r * 128) in
+      let v : List ℕ = slotNumbers letters n (kindAt rules r) pos (letterAt rules r) (r * 128) in
       record {
         vs = g .vs ++ v;
         wrote = wrote-then old 0 (g .vs) out at v newer next (g .wrote) w;
@@ -137,9 +137,9 @@ module _ (letters : List ℕ) (n pos : ℕ) (rules : List ℕ) (count : ℕ) (ol
         len = l ∙ g .len;
       }
 
-  pub gathered-all : (out : List ℕ) (at r : ℕ) → count ≡ length rules / 8 → count ≤ r → Gathered letters n pos rules count old out at r → Wrote old 0 (allSites letters n pos rules) out at
+  pub sites-written-all : (out : List ℕ) (at r : ℕ) → count ≡ length rules / 8 → count ≤ r → SitesWritten letters n pos rules count old out at r → Wrote old 0 (allSites letters n pos rules) out at
   unfolding sitesFrom allSites
-  gathered-all out at r q h g =
+  sites-written-all out at r q h g =
       let z : count - r ≡ 0 = omega arith in
       let e : g .vs ≡ sitesFrom letters n pos rules 0 (length rules / 8) = sym (append-nil (g .vs)) ∙ ap (λ (y : ℕ). g .vs ++ sitesFrom letters n pos rules r y) (sym z) ∙ g .left ∙ ap (sitesFrom letters n pos rules 0) q in
       rw e at (g .wrote)

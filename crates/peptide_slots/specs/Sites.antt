@@ -46,17 +46,17 @@ unfolding hitFrom
 placesOf letters n kind pos letter base = hitFrom (λ (k : ℕ). hitsAt kind pos letter n k (getD letters k 0)) base 0 n
 
 -- the sites of one rule: a terminal slot where it has no letter, else residues
-unfoldable pub slotsOf : List ℕ → ℕ → ℕ → ℕ → ℕ → ℕ → List ℕ
+unfoldable pub slotNumbers : List ℕ → ℕ → ℕ → ℕ → ℕ → ℕ → List ℕ
 unfolding placesOf
-slotsOf letters n kind pos letter base =
+slotNumbers letters n kind pos letter base =
     ifHit (eqb letter 0 && atFirst kind pos) base
     ++ (ifHit (eqb letter 0 && atLast kind pos) (base + 1) ++ placesOf letters n kind pos letter base)
 
 -- the sites of the k rules from rule r on
 unfoldable pub sitesFrom : List ℕ → ℕ → ℕ → List ℕ → ℕ → ℕ → List ℕ
-unfolding slotsOf
+unfolding slotNumbers
 sitesFrom letters n pos rules r zero = []
-sitesFrom letters n pos rules r (suc k) = slotsOf letters n (kindAt rules r) pos (letterAt rules r) (r * 128) ++ sitesFrom letters n pos rules (suc r) k
+sitesFrom letters n pos rules r (suc k) = slotNumbers letters n (kindAt rules r) pos (letterAt rules r) (r * 128) ++ sitesFrom letters n pos rules (suc r) k
 
 -- the sites of all rules on the first n letters
 unfoldable pub allSites : List ℕ → ℕ → ℕ → List ℕ → List ℕ

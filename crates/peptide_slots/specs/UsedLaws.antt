@@ -13,7 +13,7 @@ use Rattle.peptide_slots.specs.Used.{idle, used}
 use Rattle.peptide_slots.specs.WroteLaws.{Wrote, wrote-length, wrote-taken}
 
 -- of the first i sites of old those that may be used stand at the front of new, next of them; past i stands what stood there
-pub record Sifted (rules old new : List ℕ) (i next : ℕ) : Type 0 where
+pub record UsedFirst (rules old new : List ℕ) (i next : ℕ) : Type 0 where
   pub kept : take next new ≡ used rules (take i old)
   pub rest : drop i new ≡ drop i old
   pub few : next ≤ i
@@ -28,14 +28,14 @@ used-one : (rules : List ℕ) (x : ℕ) → used rules (x ∷ []) ≡ ifHit (not
 unfolding used
 used-one rules x = append-nil (ifHit (not (idle rules x)) x)
 
-pub sifted-none : (rules old : List ℕ) → Sifted rules old old 0 0
+pub used-first-none : (rules old : List ℕ) → UsedFirst rules old old 0 0
 unfolding used
-sifted-none rules old = record { kept = refl; rest = refl; few = omega arith; len = refl }
+used-first-none rules old = record { kept = refl; rest = refl; few = omega arith; len = refl }
 
-pub sifted-more : (rules old out : List ℕ) (i next : ℕ) (hit : Bool) (site : ℕ) (newer : List ℕ) (after : ℕ) → i < length old → site ≡ getD out i 0 → hit ≡ not (idle rules site)
-    → Wrote out next (ifHit hit site) newer after → Sifted rules old out i next → Sifted rules old newer (i + 1) after
+pub used-first-more : (rules old out : List ℕ) (i next : ℕ) (hit : Bool) (site : ℕ) (newer : List ℕ) (after : ℕ) → i < length old → site ≡ getD out i 0 → hit ≡ not (idle rules site)
+    → Wrote out next (ifHit hit site) newer after → UsedFirst rules old out i next → UsedFirst rules old newer (i + 1) after
 unfolding ifHit
-sifted-more rules old out i next hit site newer after h e f w s =
+used-first-more rules old out i next hit site newer after h e f w s =
     let l : length out ≡ length old = s .len in
     let few : next ≤ i = s .few in
     let here : drop i out ≡ getD out i 0 ∷ drop (suc i) out = drop-cons out i 0 (omega arith) in
@@ -78,9 +78,9 @@ sifted-more rules old out i next hit site newer after h e f w s =
           omega arith,
         )
 
-pub sifted-all : (rules old new : List ℕ) (m i next : ℕ) → i ≤ m → m ≤ i → Sifted rules old new i next → Sifted rules old new m next
-sifted-all rules old new m i next a b s = subst (λ (z : ℕ). Sifted rules old new z next) (let e : i ≡ m = omega arith in e) s
+pub used-first-all : (rules old new : List ℕ) (m i next : ℕ) → i ≤ m → m ≤ i → UsedFirst rules old new i next → UsedFirst rules old new m next
+used-first-all rules old new m i next a b s = subst (λ (z : ℕ). UsedFirst rules old new z next) (let e : i ≡ m = omega arith in e) s
 
 -- sites written at the front, then sifted
-pub sifted-taken : (rules vs old mid new : List ℕ) (m next : ℕ) → length vs ≤ length old → Wrote old 0 vs mid m → Sifted rules mid new m next → (next ≤ length vs) × (take next new ≡ used rules vs)
-sifted-taken rules vs old mid new m next h w s = (omega (arith, s .few, w .next), s .kept ∙ ap (used rules) (wrote-taken old vs mid m h w))
+pub used-first-taken : (rules vs old mid new : List ℕ) (m next : ℕ) → length vs ≤ length old → Wrote old 0 vs mid m → UsedFirst rules mid new m next → (next ≤ length vs) × (take next new ≡ used rules vs)
+used-first-taken rules vs old mid new m next h w s = (omega (arith, s .few, w .next), s .kept ∙ ap (used rules) (wrote-taken old vs mid m h w))

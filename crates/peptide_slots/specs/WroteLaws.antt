@@ -39,14 +39,14 @@ wrote-taken old vs new at h p =
 
 -- ---- a list copied place by place
 
-pub copy-more : (old : List ℕ) (from : ℕ) (xs new : List ℕ) (j : ℕ) → j < length xs → Wrote old from (take j xs) new (from + j) → Wrote old from (take (j + 1) xs) (set new (from + j) (getD xs j 0)) (from + (j + 1))
-copy-more old from xs new j h w =
+pub copy-into-more : (old : List ℕ) (from : ℕ) (xs new : List ℕ) (j : ℕ) → j < length xs → Wrote old from (take j xs) new (from + j) → Wrote old from (take (j + 1) xs) (set new (from + j) (getD xs j 0)) (from + (j + 1))
+copy-into-more old from xs new j h w =
     let e : take (j + 1) xs ≡ take j xs ++ (getD xs j 0 ∷ []) = ap (λ (z : ℕ). take z xs) (add-one j) ∙ take-suc xs j 0 h in
     let g : from + (j + 1) ≡ from + j + 1 = omega arith in
     rw (e, g) (wrote-then old from (take j xs) new (from + j) (getD xs j 0 ∷ []) (set new (from + j) (getD xs j 0)) (from + j + 1) w (wrote-one new (from + j) (getD xs j 0)))
 
-pub copy-none : (old : List ℕ) (from : ℕ) (xs : List ℕ) → Wrote old from (take 0 xs) old (from + 0)
-copy-none old from xs = subst (Wrote old from [] old) (sym (add-zero from)) (wrote-none old from)
+pub copy-into-none : (old : List ℕ) (from : ℕ) (xs : List ℕ) → Wrote old from (take 0 xs) old (from + 0)
+copy-into-none old from xs = subst (Wrote old from [] old) (sym (add-zero from)) (wrote-none old from)
 
-pub copy-all : (old : List ℕ) (from : ℕ) (xs new : List ℕ) (j : ℕ) → length xs ≤ j → Wrote old from (take j xs) new (from + j) → new ≡ sets old from xs
-copy-all old from xs new j h w = w .is ∙ ap (sets old from) (take-all j xs h)
+pub copy-into-all : (old : List ℕ) (from : ℕ) (xs new : List ℕ) (j : ℕ) → length xs ≤ j → Wrote old from (take j xs) new (from + j) → new ≡ sets old from xs
+copy-into-all old from xs new j h w = w .is ∙ ap (sets old from) (take-all j xs h)

@@ -3,10 +3,10 @@ use crate::hits;
 ghost use mathlib.Core.Path.{_≡_};
 ghost use Prim.Native.Nat.{_+_, _≤_, _<_};
 ghost use lib.ListN.{length, getD, take};
-ghost use Rattle.peptide_slots.specs.Sites.{ifHit, placesOf, slotsOf, allSites};
+ghost use Rattle.peptide_slots.specs.Sites.{ifHit, placesOf, slotNumbers, allSites};
 ghost use Rattle.peptide_slots.specs.WroteLaws.{Wrote};
 ghost use Rattle.peptide_slots.specs.Used.{used};
-ghost use Rattle.peptide_slots.specs.UsedLaws.{Sifted};
+ghost use Rattle.peptide_slots.specs.UsedLaws.{UsedFirst};
 
 // The site at a place of a list; 0 past its end.
 pub fn site_at(sites: &[u16], k: usize) -> u16
@@ -64,7 +64,7 @@ fn push_slots(
     at: usize,
 ) -> usize
     requires { ⌜ (n ≤ 64) × (base ≤ 4096) × (at + 66 ≤ length (now out)) ⌝ }
-    ensures { λ r. ⌜ Wrote (now (out .entry)) at (slotsOf letters n kind position letter base) (now (out .exit)) r ⌝ }
+    ensures { λ r. ⌜ Wrote (now (out .entry)) at (slotNumbers letters n kind position letter base) (now (out .exit)) r ⌝ }
 {
     let bare = letter == 0;
     let first = put_if(out, at, bare & hits::at_first(kind, position), base);
@@ -94,7 +94,7 @@ pub fn collect(letters: [u8; 64], n: usize, position: u8, rules: &[u8], out: &mu
 // never passes.
 fn keep_used(rules: &[u8], m: usize, out: &mut [u16]) -> usize
     requires { ⌜ m ≤ length (now out) ⌝ }
-    ensures { λ r. ⌜ Sifted (now (rules .entry)) (now (out .entry)) (now (out .exit)) m r ⌝ }
+    ensures { λ r. ⌜ UsedFirst (now (rules .entry)) (now (out .entry)) (now (out .exit)) m r ⌝ }
 {
     let mut next = 0;
     let mut i = 0;

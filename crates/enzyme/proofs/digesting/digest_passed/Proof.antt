@@ -4,7 +4,7 @@ use mathlib.Core.Path.{ap, _∙_}
 use denote.Ref.{now}
 use Rattle.enzyme_keep.specs.StepLaws.{offers-capped}
 use Rattle.enzyme_ways.specs.Ways.{way}
-use Rattle.enzyme.specs.RunLaws.{ended, run-all}
+use Rattle.enzyme.specs.RunLaws.{runAnswer, run-all}
 use borrow.Author.Needs.{needs}
 use Rattle.enzyme.proofs.digesting.digest_passed.Statement.{statement}
 use Rattle.enzyme.proofs.digesting.digest_passed.Tie as tie
@@ -12,7 +12,7 @@ use Rattle.enzyme.proofs.digesting.digest_passed.Tie as tie
 returns : tie.Need-returns
 returns c = let s = c .before .before .before .before .before .before .before .before in
     let a = s .args in
-    ap ended (rw (c .enum-told .given .1) at (c .before .before .before .before .offer-all .ensures)) ∙ run-all (a .enzyme) (a .missed) (a .terms) (now (a .letters)) (now (a .out)) (s .pre .0)
+    ap runAnswer (rw (c .enum-told .given .1) at (c .before .before .before .before .offer-all .ensures)) ∙ run-all (a .enzyme) (a .missed) (a .terms) (now (a .letters)) (now (a .out)) (s .pre .0)
 
 cast-count : tie.Need-cast-count
 cast-count c = let a = c .before .before .before .before .before .before .before .before .before .args in
@@ -21,7 +21,7 @@ cast-count c = let a = c .before .before .before .before .before .before .before
 returns-2 : tie.Need-returns-2
 returns-2 c = let s = c .before .before .before .before .before .before .before .before .before in
     let a = s .args in
-    ap ended (rw (c .before .k .given .1) at (c .before .before .before .before .before .offer-all .ensures)) ∙ run-all (a .enzyme) (a .missed) (a .terms) (now (a .letters)) (now (a .out)) (s .pre .0)
+    ap runAnswer (rw (c .before .k .given .1) at (c .before .before .before .before .before .offer-all .ensures)) ∙ run-all (a .enzyme) (a .missed) (a .terms) (now (a .letters)) (now (a .out)) (s .pre .0)
 
 pub digest-passed-spec : {M : Type 1} → statement M
 digest-passed-spec =

@@ -21,9 +21,6 @@ abbrev μ-loop : tie.MeasureT-loop
 loop-holds : tie.Need-loop-holds Inv-loop μ-loop
 loop-holds c = refl
 
-loop-less : tie.Need-loop-less Inv-loop μ-loop
-loop-less c = omega arith
-
 loop-again : tie.Need-loop-again Inv-loop μ-loop
 loop-again c = let a = c .before .before .before .before .before .before .before .before .before .args in
     let l = c .before .before .before .before .before .before .before .loop in
@@ -37,9 +34,6 @@ returns c = let a = c .before .before .before .before .before .before .before .b
     let s : c .before .spares .result ≡ startsIn (a .knife .skip) (drop (c .before .before .cut-of .result) (now (a .letters))) = c .before .spares .ensures in
     let e : asked (a .knife) (now (a .letters)) (l .i) ≡ true = rw (← c .before .before .before .before .cleaves .ensures, ← c .before .before .cut-of .ensures, ← s, c .before .before .before .if1 .taken, c .if2 .left) in
     rw (c .before .before .cut-of .ensures) (sym (findCut-stop (a .knife) (now (a .letters)) (l .i) (omega arith) e) ∙ l .inv)
-
-loop-less-2 : tie.Need-loop-less-2 Inv-loop μ-loop
-loop-less-2 c = omega arith
 
 loop-again-2 : tie.Need-loop-again-2 Inv-loop μ-loop
 loop-again-2 c = let a = c .before .before .before .before .before .before .args in
@@ -55,4 +49,5 @@ returns-2 c = let a = c .before .before .before .args in
 pub next-cut-spec : {M : Type 1} → statement M
 next-cut-spec =
     tie.close (tie.spec Inv-loop μ-loop loop-holds (λ c. search needs) (λ c. search needs) (λ c κs. search needs)
-    (λ c κs. search needs) (λ c κs. search needs) loop-less loop-again returns loop-less-2 loop-again-2 returns-2)
+    (λ c κs. search needs) (λ c κs. search needs) (λ c. omega arith) loop-again returns (λ c. omega arith)
+    loop-again-2 returns-2)

@@ -4,7 +4,7 @@ use mathlib.Core.Path.{_≡_}
 use mathlib.Core.Bool.{true, false}
 use denote.Ref.{now}
 use borrow.Author.Tests.{not-true, not-false, lt-ltb, le-ltb}
-use Rattle.enzyme_keep.specs.Steps.{room}
+use Rattle.enzyme_keep.specs.Steps.{digestRoom}
 use borrow.Author.Needs.{needs}
 use Rattle.enzyme_keep.proofs.offering.write_range.Statement.{statement}
 use Rattle.enzyme_keep.proofs.offering.write_range.Tie as tie
@@ -15,12 +15,12 @@ returns c = let f : c .before .before .args .wanted ≡ false = not-true _ (c .i
 returns-2 : tie.Need-returns-2
 returns-2 c = let s = c .before .before .before .before in
     let f : s .args .wanted ≡ true = not-false _ (c .before .before .if1 .left) in
-    rw (f, le-ltb (s .args .count) (room (now (s .args .out))) (omega arith))
+    rw (f, le-ltb (s .args .count) (digestRoom (now (s .args .out))) (omega arith))
 
 returns-3 : tie.Need-returns-3
 returns-3 c = let s = c .before .before .before .before .before .before .before .before in
     let f : s .args .wanted ≡ true = not-false _ (c .before .before .before .before .before .before .if1 .left) in
-    rw (c .before .before .put-record .ensures, f, lt-ltb (s .args .count) (room (now (s .args .out))) (omega arith))
+    rw (c .before .before .put-record .ensures, f, lt-ltb (s .args .count) (digestRoom (now (s .args .out))) (omega arith))
 
 pub write-range-spec : {M : Type 1} → statement M
 write-range-spec =

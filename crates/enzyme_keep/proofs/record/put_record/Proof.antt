@@ -7,7 +7,7 @@ use lib.Seq.{sets}
 use denote.Ref.{now}
 use Rattle.records.specs.Le.{le}
 use Rattle.enzyme_keep.specs.Digests.{positionOf, recordOf}
-use Rattle.enzyme_keep.specs.BufferLaws.{sets-append}
+use Rattle.enzyme_keep.specs.BufferLaws.{sets-behind}
 use borrow.Author.Needs.{needs}
 use Rattle.enzyme_keep.proofs.record.put_record.Statement.{statement}
 use Rattle.enzyme_keep.proofs.record.put_record.Tie as tie
@@ -22,9 +22,9 @@ returns c = let a = c .before .before .before .before .before .before .before .b
     let marks = a .missed ∷ a .semi ∷ positionOf (a .n) (a .a) (a .e) ∷ 0 ∷ [] in
     c .before .before .put-u323 .ensures
     ∙ rw (c .before .before .before .before .before .before .put-marks .ensures, c .before .before .before .before .before .before .before .before .before .before .before .before .before .before .before .before .position .ensures, c .before .before .before .before .before .before .before .before .before .before .put-u322 .ensures, c .before .before .before .before .before .before .before .before .before .before .before .before .before .before .put-u32 .ensures)
-    (sets-append marks (le 4 (a .last)) (sets (sets out at start) (at + 4) end) (at + 8) (at + 12) (omega arith)
-    ∙ sets-append end (marks ++ le 4 (a .last)) (sets out at start) (at + 4) (at + 8) (omega arith)
-    ∙ sets-append start (end ++ (marks ++ le 4 (a .last))) out at (at + 4) (omega arith))
+    (sets-behind marks (le 4 (a .last)) (sets (sets out at start) (at + 4) end) (at + 8) (at + 12) (omega arith)
+    ∙ sets-behind end (marks ++ le 4 (a .last)) (sets out at start) (at + 4) (at + 8) (omega arith)
+    ∙ sets-behind start (end ++ (marks ++ le 4 (a .last))) out at (at + 4) (omega arith))
 
 pub put-record-spec : {M : Type 1} → statement M
 put-record-spec =

@@ -7,7 +7,7 @@ use lib.ListN.{length}
 use Rattle.enzyme_cuts.specs.Cutting.{starting}
 use Rattle.enzyme_lengths.specs.Listing.{chosenOf}
 use Rattle.enzyme_blocks.specs.BlockLaws.{block-above}
-use Rattle.enzyme_lengths.specs.StartLaws.{walk-kept, walk-full, starts-end}
+use Rattle.enzyme_lengths.specs.StartLaws.{walk-kept, walk-full, starting-end}
 use borrow.Author.Needs.{needs}
 use Rattle.enzyme_lengths.proofs.listing.list_blocks.Statement.{statement}
 use Rattle.enzyme_lengths.proofs.listing.list_blocks.Tie as tie
@@ -30,7 +30,7 @@ list-block-requires c κs = let s = c .before .before .before .before .before .b
     let l = c .before .before .before .before .before .loop in
     let e = c .before .before .before .block-end .ensures in
     let x = c .before .wide in
-    (s .pre .0, s .pre .1, omega arith, block-above 64 0 (length (now (s .args .letters))) (now (s .args .longest)) (now (s .args .least)) (s .pre .3 .small) (l .a) (l .a / 64) (l .a / 64) (c .before .before .before .block-end .result) (x .result) (omega arith) (omega arith) (omega arith) (x .ensures))
+    (s .pre .0, s .pre .1, omega arith, block-above 64 0 (length (now (s .args .letters))) (now (s .args .longest)) (now (s .args .least)) (s .pre .3 .small) (l .a) (l .a / 64) (l .a / 64) (c .before .before .before .block-end .result) (x .result) (omega arith) (omega arith) (omega arith) (x .ensures .0))
 
 returns : tie.Need-returns Inv-loop μ-loop
 returns c = let a = c .before .before .before .before .before .before .before .before .before .before .before .before .before .before .before .args in
@@ -48,7 +48,7 @@ loop-again c = let a = c .before .before .before .before .before .before .before
     (omega arith, omega arith, walk-kept (now (a .letters)) (a .protein) (a .len) 64 (l .a) (b .result) (a .to) (l .k) (l .out) (x .last .1 .1 .1 .1 .1 .1 .1 .0) (b .ensures) (omega arith) (y .0 .0) (rw (y .1) at (x .ensures)) ∙ l .inv .2)
 
 returns-2 : tie.Need-returns-2 Inv-loop μ-loop
-returns-2 c = let a = c .before .before .before .before .before .before .args in rw (starts-end (a .len) (c .before .loop .a) (a .to) (omega arith)) at (c .before .loop .inv .2)
+returns-2 c = let a = c .before .before .before .before .before .before .args in rw (starting-end (a .len) (c .before .loop .a) (a .to) (omega arith)) at (c .before .loop .inv .2)
 
 pub list-blocks-spec : {M : Type 1} → statement M
 list-blocks-spec =

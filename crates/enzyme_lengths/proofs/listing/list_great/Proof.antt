@@ -18,7 +18,7 @@ returns c = let s = c .before .before .before .before .before .before .before in
     let a = s .args in
     let x = c .before .wide in
     let b = a .from / 4096 in
-    let low = block-above 4096 1025 (length (now (a .letters))) (now (a .longest)) (now (a .least)) (s .pre .3 .great) (a .from) b (1025 + b) (a .to) (x .result) (omega arith) refl (s .pre .6) (x .ensures) in
+    let low = block-above 4096 1025 (length (now (a .letters))) (now (a .longest)) (now (a .least)) (s .pre .3 .great) (a .from) b (1025 + b) (a .to) (x .result) (omega arith) refl (s .pre .6) (x .ensures .0) in
     block-passed (now (a .letters)) (a .protein) (a .len) (a .count) (now (a .out)) (now (a .longest)) (a .from) (a .to) (x .result) (s .pre .1) (s .pre .2) low (c .if1 .taken)
 
 list-blocks-requires : tie.Need-list-blocks-requires

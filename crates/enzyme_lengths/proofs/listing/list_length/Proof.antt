@@ -6,7 +6,7 @@ use denote.Ref.{now}
 use lib.ListN.{length}
 use Rattle.enzyme_cuts.specs.Cutting.{starting, ofLength}
 use Rattle.enzyme_lengths.specs.Listing.{chosenOf}
-use Rattle.enzyme_lengths.specs.StartLaws.{walk-kept, walk-full, starts-end}
+use Rattle.enzyme_lengths.specs.StartLaws.{walk-kept, walk-full, starting-end}
 use borrow.Author.Needs.{needs}
 use Rattle.enzyme_lengths.proofs.listing.list_length.Statement.{statement}
 use Rattle.enzyme_lengths.proofs.listing.list_length.Tie as tie
@@ -44,7 +44,7 @@ loop-again c = let a = c .before .before .before .before .before .before .before
     (omega arith, omega arith, walk-kept (now (a .letters)) (a .protein) (a .len) 4096 (l .a) (b .result) (length (now (a .letters)) + 1 - a .len) (l .k) (l .out) (x .last .1 .1 .1 .1 .1 .1 .1 .0) (b .ensures) (omega arith) (y .0 .0) (rw (y .1) at (x .ensures)) ∙ l .inv .2)
 
 returns-2 : tie.Need-returns-2 Inv-loop μ-loop
-returns-2 c = let a = c .before .before .before .before .before .before .args in rw (starts-end (a .len) (c .before .loop .a) (length (now (a .letters)) + 1 - a .len) (omega arith)) at (c .before .loop .inv .2)
+returns-2 c = let a = c .before .before .before .before .before .before .args in rw (starting-end (a .len) (c .before .loop .a) (length (now (a .letters)) + 1 - a .len) (omega arith)) at (c .before .loop .inv .2)
 
 pub list-length-spec : {M : Type 1} → statement M
 list-length-spec =

@@ -30,7 +30,7 @@ rest c = ofLengths (length (now (c .before .before .before .before .before .befo
 
 ahead : (c : tie.After-wide Inv-loop μ-loop) → chosenOf (now (c .before .before .before .before .before .before .before .before .args .letters)) (c .before .before .before .before .before .before .before .before .args .terms .protein) (these c ++ rest c) (c .before .before .loop .k) (c .before .before .loop .out) ≡ chosenOf (now (c .before .before .before .before .before .before .before .before .args .letters)) (c .before .before .before .before .before .before .before .before .args .terms .protein) (noneSites (length (now (c .before .before .before .before .before .before .before .before .args .letters))) (c .before .before .before .before .before .before .before .before .args .terms .minimum) (c .before .before .before .before .before .before .before .before .args .terms .maximum)) 0 (now (c .before .before .before .before .before .before .before .before .args .out))
 ahead c = let t = c .before .before .loop .inv .1 in
-    rw (c .wide .ensures) (rw (lengths-on (length (now (c .before .before .before .before .before .before .before .before .args .letters))) (c .before .before .loop .len) (c .before .before .before .before .before .before .before .before .args .terms .maximum) (omega arith)) at (c .before .before .loop .inv .2))
+    rw (c .wide .ensures .0) (rw (lengths-on (length (now (c .before .before .before .before .before .before .before .before .args .letters))) (c .before .before .loop .len) (c .before .before .before .before .before .before .before .before .args .terms .maximum) (omega arith)) at (c .before .before .loop .inv .2))
 
 loop-holds : tie.Need-loop-holds Inv-loop μ-loop
 loop-holds c = (refl, c .lesser .ensures, refl)
@@ -38,7 +38,7 @@ loop-holds c = (refl, c .lesser .ensures, refl)
 list-length-requires : tie.Need-list-length-requires Inv-loop μ-loop
 list-length-requires c κs = let s = c .before .before .before .before .before .before .before .before .before in
     let t = c .before .before .before .loop .inv .1 in
-    (s .pre .0, omega (arith, c .before .wide .ensures), s .pre .2, s .pre .3)
+    (s .pre .0, omega (arith, c .before .wide .ensures .0), s .pre .2, s .pre .3)
 
 returns : tie.Need-returns Inv-loop μ-loop
 returns c = let s = c .before .before .before .before .before .before .before .before .before .before .before .before .before .before in

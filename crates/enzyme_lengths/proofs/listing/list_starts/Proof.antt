@@ -7,8 +7,8 @@ use denote.Ref.{now}
 use lib.ListN.{length}
 use Rattle.enzyme_cuts.specs.Cutting.{Range, site, starting}
 use Rattle.enzyme_lengths.specs.Listing.{chosenOf}
-use Rattle.enzyme_lengths.specs.ListingLaws.{one-kept, one-full}
-use Rattle.enzyme_lengths.specs.StartLaws.{starts-on, starts-end}
+use Rattle.enzyme_lengths.specs.ListingLaws.{chosen-one-kept, chosen-one-full}
+use Rattle.enzyme_lengths.specs.StartLaws.{starts-on, starting-end}
 use borrow.Author.Needs.{needs}
 use Rattle.enzyme_lengths.proofs.listing.list_starts.Statement.{statement}
 use Rattle.enzyme_lengths.proofs.listing.list_starts.Tie as tie
@@ -37,7 +37,7 @@ returns : tie.Need-returns Inv-loop μ-loop
 returns c = let s = c .before .before .before .before .before .before .before .before .before .before .before .before .before in
     let l = c .before .before .before .before .before .before .before .before .before .loop in
     let w = c .before .before .before .before .before .before .wide in
-    sym (one-full (now (s .args .letters)) (s .args .protein) (s .args .len) (l .a) (l .a + s .args .len) (w .result) (rest (c .before .before .before .before .before .before .before .before)) (l .k) (l .out) (c .before .before .before .before .write-range .last .1 .1 .1 .1 .1 .1 .1 .0) refl (omega arith) (λ h. w .ensures ∙ s .pre .1 .each (l .a) h)
+    sym (chosen-one-full (now (s .args .letters)) (s .args .protein) (s .args .len) (l .a) (l .a + s .args .len) (w .result) (rest (c .before .before .before .before .before .before .before .before)) (l .k) (l .out) (c .before .before .before .before .write-range .last .1 .1 .1 .1 .1 .1 .1 .0) refl (omega arith) (λ h. w .ensures .0 ∙ s .pre .1 .each (l .a) h)
     (rw (c .enum-told .given .1) at (c .before .before .before .before .write-range .ensures))) ∙ ahead (c .before .before .before .before .before .before .before .before)
 
 loop-again : tie.Need-loop-again Inv-loop μ-loop
@@ -45,12 +45,12 @@ loop-again c = let s = c .before .before .before .before .before .before .before
     let l = c .before .before .before .before .before .before .before .before .before .before .loop in
     let w = c .before .before .before .before .before .before .before .wide in (
       omega arith,
-      sym (one-kept (now (s .args .letters)) (s .args .protein) (s .args .len) (l .a) (l .a + s .args .len) (w .result) (rest (c .before .before .before .before .before .before .before .before .before)) (l .k) (l .out) (c .before .before .before .before .before .write-range .last .1 .1 .1 .1 .1 .1 .1 .0) refl (omega arith) (λ h. w .ensures ∙ s .pre .1 .each (l .a) h)
+      sym (chosen-one-kept (now (s .args .letters)) (s .args .protein) (s .args .len) (l .a) (l .a + s .args .len) (w .result) (rest (c .before .before .before .before .before .before .before .before .before)) (l .k) (l .out) (c .before .before .before .before .before .write-range .last .1 .1 .1 .1 .1 .1 .1 .0) refl (omega arith) (λ h. w .ensures .0 ∙ s .pre .1 .each (l .a) h)
           (c .before .x .given .0 .0) (rw (c .before .x .given .1) at (c .before .before .before .before .before .write-range .ensures))) ∙ ahead (c .before .before .before .before .before .before .before .before .before),
     )
 
 returns-2 : tie.Need-returns-2 Inv-loop μ-loop
-returns-2 c = rw (starts-end (c .before .before .before .before .before .args .len) (c .before .loop .a) (c .before .before .before .before .before .args .to) (omega arith)) at (c .before .loop .inv .1)
+returns-2 c = rw (starting-end (c .before .before .before .before .before .args .len) (c .before .loop .a) (c .before .before .before .before .before .args .to) (omega arith)) at (c .before .loop .inv .1)
 
 pub list-starts-spec : {M : Type 1} → statement M
 list-starts-spec =

@@ -1,6 +1,6 @@
 -- `first_names` meets its contract. Assumes nothing.
 use Rattle.enzyme_keys.specs.Keys.{lettersAt}
-use Rattle.enzyme_runs.specs.StepLaws.{stepped, one-name}
+use Rattle.enzyme_runs.specs.StepLaws.{level-stepped, one-name}
 use Rattle.enzyme_levels.specs.ReadyLaws.{for-naming, for-keeping}
 use borrow.Author.Needs.{needs}
 use Rattle.enzyme_levels.proofs.windows.first_names.Statement.{statement}
@@ -27,7 +27,7 @@ returns c = let a = c .before .before .before .before .before .before .before .b
     let e = c .before .before .keep in
     let x = u .last .1 .1 .1 .1 .1 .0 in
     let r = u .last .1 .1 .1 .1 .1 .1 .0 in (
-      stepped (lettersAt (a .letters .now) (a .starts .now)) (a .order .now) x r (e .last .0) (a .rank .now) (u .last .1 .1 .1 .1 .0) (a .share .now) (u .last .1 .1 .1 .1 .1 .1 .1 .0) (a .g) (e .result) (a .m) 1 (u .ensures) (e .ensures),
+      level-stepped (lettersAt (a .letters .now) (a .starts .now)) (a .order .now) x r (e .last .0) (a .rank .now) (u .last .1 .1 .1 .1 .0) (a .share .now) (u .last .1 .1 .1 .1 .1 .1 .1 .0) (a .g) (e .result) (a .m) 1 (u .ensures) (e .ensures),
       one-name (lettersAt (a .letters .now) (a .starts .now)) (a .order .now) x r (a .name .now) (v .last .1 .1 .0) (a .g) (u .ensures .arranged) (u .ensures .runs) (v .ensures),
     )
 

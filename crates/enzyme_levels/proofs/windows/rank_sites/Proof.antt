@@ -1,6 +1,6 @@
 -- `rank_sites` meets its contract. Assumes nothing.
 use native.Mathlib.Omega.{arith}
-use Rattle.enzyme_keys.specs.Keys.{keyOf}
+use Rattle.enzyme_keys.specs.Keys.{sortKey}
 use Rattle.enzyme_levels.specs.ReadyLaws.{ready-sited, for-writing}
 use borrow.Author.Needs.{needs}
 use Rattle.enzyme_levels.proofs.windows.rank_sites.Statement.{statement}
@@ -16,14 +16,14 @@ bring-requires : tie.Need-bring-requires
 bring-requires c κs = let a = c .before .before .before .before .before .before .before .before .before .before .before .before .before .before .before .before .before .before .args in
     let p = c .before .before .before .before .before .before .before .before .before .before .before .before .before .before .before .before .before .before .pre in
     let u = c .before .before .before .before .before .before .before .line-up in
-    for-writing (keyOf (a .key) (a .letters .now) (a .starts .now) (a .name .now) (a .rank .now)) (a .letters .now) (a .starts .now) (a .order .now) (u .last .1 .1 .1 .1 .1 .0) (a .other .now) (u .last .1 .1 .1 .1 .1 .1 .0) (a .g) (a .m)
+    for-writing (sortKey (a .key) (a .letters .now) (a .starts .now) (a .name .now) (a .rank .now)) (a .letters .now) (a .starts .now) (a .order .now) (u .last .1 .1 .1 .1 .1 .0) (a .other .now) (u .last .1 .1 .1 .1 .1 .1 .0) (a .g) (a .m)
     (p .0) (u .ensures .0) (u .kept .1 .1 .1 .1 .1 .0) (p .2) (u .kept .1 .1 .1 .1 .1 .1 .0) (p .3) (a .rank .now) (p .1)
 
 mark-requires : tie.Need-mark-requires
 mark-requires c κs = let a = c .before .before .before .before .before .before .before .before .before .before .before .before .before .before .before .before .before .before .before .before .before .before .before .before .args in
     let p = c .before .before .before .before .before .before .before .before .before .before .before .before .before .before .before .before .before .before .before .before .before .before .before .before .pre in
     let u = c .before .before .before .before .before .before .before .before .before .before .before .before .before .line-up in
-    for-writing (keyOf (a .key) (a .letters .now) (a .starts .now) (a .name .now) (a .rank .now)) (a .letters .now) (a .starts .now) (a .order .now) (u .last .1 .1 .1 .1 .1 .0) (a .other .now) (u .last .1 .1 .1 .1 .1 .1 .0) (a .g) (a .m)
+    for-writing (sortKey (a .key) (a .letters .now) (a .starts .now) (a .name .now) (a .rank .now)) (a .letters .now) (a .starts .now) (a .order .now) (u .last .1 .1 .1 .1 .1 .0) (a .other .now) (u .last .1 .1 .1 .1 .1 .1 .0) (a .g) (a .m)
     (p .0) (u .ensures .0) (u .kept .1 .1 .1 .1 .1 .0) (p .2) (u .kept .1 .1 .1 .1 .1 .1 .0) (p .3) (a .share .now) (p .4)
 
 pub rank-sites-spec : {M : Type 1} → statement M

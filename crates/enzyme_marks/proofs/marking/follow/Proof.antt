@@ -13,9 +13,6 @@ Inv-loop out count head t n at₀ i₀ at i = Has0 count head out at
 abbrev μ-loop : tie.MeasureT-loop
 μ-loop out count head t n at₀ i₀ at i = n - i
 
-loop-holds : tie.Need-loop-holds Inv-loop μ-loop
-loop-holds c = c .before .pre .1
-
 returns : tie.Need-returns Inv-loop μ-loop
 returns c = λ p. absurd (omega arith)
 
@@ -28,10 +25,7 @@ loop-again c = let a = c .before .before .before .before .before .args in
     let l = c .before .before .before .loop in
     rw (c .behind .ensures) (next-has (a .count) (a .head) (now (a .out)) (l .at) (l .inv) (λ z. omega arith))
 
-returns-2 : tie.Need-returns-2 Inv-loop μ-loop
-returns-2 c = c .before .loop .inv
-
 pub follow-spec : {M : Type 1} → statement M
 follow-spec =
-    tie.close (tie.spec Inv-loop μ-loop loop-holds returns behind-requires (λ c. omega arith) (λ c. omega arith)
-    loop-again returns-2)
+    tie.close (tie.spec Inv-loop μ-loop (λ c. c .before .pre .1) returns behind-requires (λ c. omega arith)
+    (λ c. omega arith) loop-again (λ c. c .before .loop .inv))

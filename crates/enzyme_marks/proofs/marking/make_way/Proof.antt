@@ -23,9 +23,6 @@ loop-again c = let s = c .before .before .before in
     let l = c .before .before .loop in
     (omega arith, omega arith, moved-on (now (a .marks)) (l .marks) (l .i) (a .high) (omega arith) (omega arith) (s .pre .0) (l .inv .2))
 
-same-length : tie.Need-same-length Inv-loop μ-loop
-same-length c = c .before .loop .inv .2 .long
-
 returns : tie.Need-returns Inv-loop μ-loop
 returns c = let e : c .before .loop .i ≡ c .before .before .args .low = omega arith in
     rw (← e) (c .before .loop .inv .2)
@@ -33,4 +30,5 @@ returns c = let e : c .before .loop .i ≡ c .before .before .args .low = omega 
 pub make-way-spec : {M : Type 1} → statement M
 make-way-spec =
     tie.close (tie.spec Inv-loop μ-loop loop-holds (λ c. omega arith) (λ c. omega arith) (λ c. omega arith)
-    (λ c. omega arith) (λ c. omega arith) (λ c. omega arith) (λ c. omega arith) loop-again same-length returns)
+    (λ c. omega arith) (λ c. omega arith) (λ c. omega arith) (λ c. omega arith) loop-again
+    (λ c. c .before .loop .inv .2 .long) returns)

@@ -2,7 +2,7 @@
 use native.Mathlib.Omega.{arith}
 use lib.ListN.{length-set}
 use denote.Ref.{now}
-use Rattle.enzyme_search.specs.MarkLaws.{put-more}
+use Rattle.enzyme_search.specs.MarkLaws.{put-in-more}
 use borrow.Author.Needs.{needs}
 use Rattle.enzyme_marks.proofs.marking.put_in.Statement.{statement}
 use Rattle.enzyme_marks.proofs.marking.put_in.Tie as tie
@@ -19,7 +19,7 @@ slice-write-marks-4 c = simp length-set (omega (arith, c .before .before .make-w
 returns : tie.Need-returns
 returns c = let s = c .before .before .before .before .before in
     let a = s .args in
-    put-more (now (a .marks)) (c .before .before .make-way .last .0) (a .samples) (a .j) (a .t) (a .head) (a .left) (a .right) (s .pre .0) (s .pre .1) (s .pre .2) (c .before .before .make-way .ensures)
+    put-in-more (now (a .marks)) (c .before .before .make-way .last .0) (a .samples) (a .j) (a .t) (a .head) (a .left) (a .right) (s .pre .0) (s .pre .1) (s .pre .2) (c .before .before .make-way .ensures)
 
 pub put-in-spec : {M : Type 1} → statement M
 put-in-spec =

@@ -32,16 +32,11 @@ loop-again c = let s = c .before .before .before .before .before .before .before
     let l = c .before .before .before .before .before .loop in
     (omega arith, thinning-on (now (a .marks)) (l .marks) (l .i) (a .samples) (c .both .result) (getD (l .marks) (3 * (2 * l .i) + 2) 0) (omega arith) (s .pre) (l .inv .1))
 
-same-length : tie.Need-same-length Inv-loop μ-loop
-same-length c = c .before .loop .inv .1 .done .long
-
-returns : tie.Need-returns Inv-loop μ-loop
-returns c = c .before .loop .inv .1 .done
-
 pub thin-spec : {M : Type 1} → statement M
 thin-spec =
     tie.close (tie.spec Inv-loop μ-loop loop-holds (λ c. omega arith) (λ c. omega arith) (λ c. omega arith)
     (λ c. omega arith) (λ c. omega arith) (λ c. omega arith) (λ c. omega arith) (λ c. omega arith)
     (λ c. omega arith) both-requires (λ c. omega arith) (λ c. omega arith) (λ c. omega arith) (λ c. omega arith)
     (λ c. omega arith) (λ c. omega arith) slice-write-marks-2 (λ c. omega arith) (λ c. omega arith)
-    (λ c. omega arith) slice-write-marks-3 (λ c. omega arith) (λ c. omega arith) loop-again same-length returns)
+    (λ c. omega arith) slice-write-marks-3 (λ c. omega arith) (λ c. omega arith) loop-again
+    (λ c. c .before .loop .inv .1 .done .long) (λ c. c .before .loop .inv .1 .done))

@@ -5,13 +5,13 @@ use Prim.Native.Nat.{_-_}
 use mathlib.Core.Path.{_≡_, sym, _∙_}
 use lib.ListN.{length}
 use denote.Ref.{now}
-use Rattle.enzyme_cuts.specs.SameLaws.{Alike, alike-on}
+use Rattle.enzyme_cuts.specs.SameLaws.{AgreeTo, agree-four}
 use Rattle.enzyme_order.specs.OrderLaws.{order-short, order-long, order-alike, order-all}
 use Rattle.enzyme_order.proofs.ordering.order.Statement.{statement}
 use Rattle.enzyme_order.proofs.ordering.order.Tie as tie
 
 abbrev Inv-loop : tie.InvT-loop
-Inv-loop a b i₀ i = (length a ≡ length b) × Alike a b i
+Inv-loop a b i₀ i = (length a ≡ length b) × AgreeTo a b i
 
 abbrev μ-loop : tie.MeasureT-loop
 μ-loop a b i₀ i = length a - i
@@ -25,24 +25,15 @@ returns-2 c = sym (order-long (now (c .before .before .before .before .args .a))
 loop-holds : tie.Need-loop-holds Inv-loop μ-loop
 loop-holds c = (omega arith, λ j h. absurd (omega arith))
 
-order-from-requires : tie.Need-order-from-requires Inv-loop μ-loop
-order-from-requires c κs = c .before .before .before .before .loop .inv .0
-
 returns-3 : tie.Need-returns-3 Inv-loop μ-loop
 returns-3 c = let a = c .before .before .before .before .before .before .before .before .before .before .args in
     let l = c .before .before .before .before .before .loop in
     c .order-from .ensures ∙ order-alike (now (a .a)) (now (a .b)) (l .i) (l .inv .0) (omega arith) (l .inv .1)
 
-add-i : tie.Need-add-i Inv-loop μ-loop
-add-i c = omega arith
-
-loop-less : tie.Need-loop-less Inv-loop μ-loop
-loop-less c = omega arith
-
 loop-again : tie.Need-loop-again Inv-loop μ-loop
 loop-again c = let a = c .before .before .before .before .before .before .before .before .before .args in
     let l = c .before .before .before .before .loop in
-    (l .inv .0, alike-on (now (a .a)) (now (a .b)) (l .i) (λ j. omega (arith, c .before .before .before .before .before .before .before .before .shared-slice-known .given j)) (λ j. omega (arith, c .before .before .before .before .before .before .before .shared-slice-known2 .given j)) (sym (c .before .before .u32-at .ensures) ∙ c .if3 .left ∙ c .before .u32-at2 .ensures) (l .inv .1))
+    (l .inv .0, agree-four (now (a .a)) (now (a .b)) (l .i) (λ j. omega (arith, c .before .before .before .before .before .before .before .before .shared-slice-known .given j)) (λ j. omega (arith, c .before .before .before .before .before .before .before .shared-slice-known2 .given j)) (sym (c .before .before .u32-at .ensures) ∙ c .if3 .left ∙ c .before .u32-at2 .ensures) (l .inv .1))
 
 returns-4 : tie.Need-returns-4 Inv-loop μ-loop
 returns-4 c = let a = c .before .before .before .before .before .before .args in
@@ -52,4 +43,5 @@ returns-4 c = let a = c .before .before .before .before .before .before .args in
 pub order-spec : {M : Type 1} → statement M
 order-spec =
     tie.close (tie.spec Inv-loop μ-loop returns returns-2 loop-holds (λ c κs. search needs) (λ c κs. search needs)
-    order-from-requires returns-3 add-i loop-less loop-again returns-4)
+    (λ c κs. c .before .before .before .before .loop .inv .0) returns-3 (λ c. omega arith) (λ c. omega arith)
+    loop-again returns-4)

@@ -4,15 +4,15 @@ use native.Mathlib.Omega.{arith}
 use native.Mathlib.Numerals.{add-one}
 use borrow.Author.Needs.{needs}
 use Rattle.enzyme_once.specs.Once.{endings}
-use Rattle.enzyme_parts.specs.Going.{Going}
-use Rattle.enzyme_parts.specs.GoingLaws.{going-start, going-end, one-first, one-on, one-full}
+use Rattle.enzyme_parts.specs.Going.{Underway}
+use Rattle.enzyme_parts.specs.GoingLaws.{underway-start, underway-end, range-first, range-on, range-full}
 use Rattle.enzyme_parts.specs.PassLaws.{endings-pass}
 use Rattle.enzyme_parts.specs.WalkLaws.{endings-on, endings-end}
 use Rattle.enzyme_parts.proofs.parts.offer_endings.Statement.{statement}
 use Rattle.enzyme_parts.proofs.parts.offer_endings.Tie as tie
 
 abbrev Inv-loop : tie.InvT-loop
-Inv-loop letters far a z e missed terms out₀ marks₀ c₀ at₀ out marks c at = Going letters far terms (endings missed e (suc a) (z - suc a)) at₀ out₀ marks₀ (endings missed e c (z - c)) at out marks
+Inv-loop letters far a z e missed terms out₀ marks₀ c₀ at₀ out marks c at = Underway letters far terms (endings missed e (suc a) (z - suc a)) at₀ out₀ marks₀ (endings missed e c (z - c)) at out marks
 
 abbrev μ-loop : tie.MeasureT-loop
 μ-loop letters far a z e missed terms out₀ marks₀ c₀ at₀ out marks c at = z - c
@@ -28,10 +28,10 @@ loop-holds c =
     let s = c .before .before .before .before .before in
     let a = s .args in
     let q = c .first-cut .ensures in
-    endings-pass (a .missed) (a .e) (a .z) (a .a + 1) _ (q .0) (q .1) (rw (add-one (a .a)) (going-start (s .pre .1)))
+    endings-pass (a .missed) (a .e) (a .z) (a .a + 1) _ (q .0) (q .1) (rw (add-one (a .a)) (underway-start (s .pre .1)))
 
 offer-range-requires : tie.Need-offer-range-requires Inv-loop μ-loop
-offer-range-requires c κs = let a = c .before .before .before .before .before .before .before .before .before .args in let l = c .before .before .before .loop in one-first (endings-on (a .missed) (a .e) (l .c) (a .z) (omega (arith, c .before .before .loop-test .taken))) (l .inv)
+offer-range-requires c κs = let a = c .before .before .before .before .before .before .before .before .before .args in let l = c .before .before .before .loop in range-first (endings-on (a .missed) (a .e) (l .c) (a .z) (omega (arith, c .before .before .loop-test .taken))) (l .inv)
 
 same-length : tie.Need-same-length Inv-loop μ-loop
 same-length c = omega (arith, c .before .before .before .before .before .before .before .before .before .before .loop .inv .long-out)
@@ -43,7 +43,7 @@ returns : tie.Need-returns Inv-loop μ-loop
 returns c =
     let a = c .before .before .before .before .before .before .before .before .before .before .before .before .before .before .before .before .args in
     let l = c .before .before .before .before .before .before .before .before .before .before .loop in
-    one-full (endings-on (a .missed) (a .e) (l .c) (a .z) (omega (arith, c .before .before .before .before .before .before .before .before .before .loop-test .taken))) (l .inv) (rw (c .enum-told .given .1) at (c .before .before .before .before .before .before .offer-range .ensures))
+    range-full (endings-on (a .missed) (a .e) (l .c) (a .z) (omega (arith, c .before .before .before .before .before .before .before .before .before .loop-test .taken))) (l .inv) (rw (c .enum-told .given .1) at (c .before .before .before .before .before .before .offer-range .ensures))
 
 add-c : tie.Need-add-c Inv-loop μ-loop
 add-c c = omega (arith, c .before .before .before .before .before .before .before .before .before .before .loop-test .taken)
@@ -55,22 +55,16 @@ loop-again : tie.Need-loop-again Inv-loop μ-loop
 loop-again c =
     let a = c .before .before .before .before .before .before .before .before .before .before .before .before .before .before .before .before .before .args in
     let l = c .before .before .before .before .before .before .before .before .before .before .before .loop in
-    one-on (endings-on (a .missed) (a .e) (l .c) (a .z) (omega (arith, c .before .before .before .before .before .before .before .before .before .before .loop-test .taken))) (l .inv) (rw (c .before .x .given .1) at (c .before .before .before .before .before .before .before .offer-range .ensures)) (omega arith) (omega arith)
-
-same-length-3 : tie.Need-same-length-3 Inv-loop μ-loop
-same-length-3 c = c .before .loop .inv .long-out
-
-same-length-4 : tie.Need-same-length-4 Inv-loop μ-loop
-same-length-4 c = c .before .loop .inv .long-marks
+    range-on (endings-on (a .missed) (a .e) (l .c) (a .z) (omega (arith, c .before .before .before .before .before .before .before .before .before .before .loop-test .taken))) (l .inv) (rw (c .before .x .given .1) at (c .before .before .before .before .before .before .before .offer-range .ensures)) (omega arith) (omega arith)
 
 returns-2 : tie.Need-returns-2 Inv-loop μ-loop
 returns-2 c =
     let a = c .before .before .before .before .before .before .before .args in
     let l = c .before .loop in
-    going-end (endings-end (a .missed) (a .e) (l .c) (a .z) (omega arith)) (l .inv)
+    underway-end (endings-end (a .missed) (a .e) (l .c) (a .z) (omega arith)) (l .inv)
 
 pub offer-endings-spec : {M : Type 1} → statement M
 offer-endings-spec =
-    tie.close (tie.spec Inv-loop μ-loop add-first-cut first-cut-requires loop-holds offer-range-requires (λ c. search needs)
-    (λ c. search needs) same-length same-length-2 returns add-c loop-less loop-again same-length-3 same-length-4
-    returns-2)
+    tie.close (tie.spec Inv-loop μ-loop add-first-cut first-cut-requires loop-holds offer-range-requires
+    (λ c. search needs) (λ c. search needs) same-length same-length-2 returns add-c loop-less loop-again
+    (λ c. c .before .loop .inv .long-out) (λ c. c .before .loop .inv .long-marks) returns-2)

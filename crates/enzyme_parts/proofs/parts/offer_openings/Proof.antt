@@ -5,15 +5,15 @@ use native.Mathlib.Omega.{arith}
 use native.Mathlib.Numerals.{add-one}
 use borrow.Author.Needs.{needs}
 use Rattle.enzyme_once.specs.Once.{openings}
-use Rattle.enzyme_parts.specs.Going.{Going}
-use Rattle.enzyme_parts.specs.GoingLaws.{going-start, going-end, one-first, one-on, one-full}
+use Rattle.enzyme_parts.specs.Going.{Underway}
+use Rattle.enzyme_parts.specs.GoingLaws.{underway-start, underway-end, range-first, range-on, range-full}
 use Rattle.enzyme_parts.specs.PassLaws.{openings-pass}
 use Rattle.enzyme_parts.specs.WalkLaws.{openings-on}
 use Rattle.enzyme_parts.proofs.parts.offer_openings.Statement.{statement}
 use Rattle.enzyme_parts.proofs.parts.offer_openings.Tie as tie
 
 abbrev Inv-loop : tie.InvT-loop
-Inv-loop letters far a b e missed terms out₀ marks₀ stop c₀ at₀ out marks c at = Going letters far terms (openings missed a (suc b) (e - suc b)) at₀ out₀ marks₀ (openings missed a c (e - c)) at out marks
+Inv-loop letters far a b e missed terms out₀ marks₀ stop c₀ at₀ out marks c at = Underway letters far terms (openings missed a (suc b) (e - suc b)) at₀ out₀ marks₀ (openings missed a c (e - c)) at out marks
 
 abbrev μ-loop : tie.MeasureT-loop
 μ-loop letters far a b e missed terms out₀ marks₀ stop c₀ at₀ out marks c at = stop - c
@@ -22,10 +22,10 @@ add-c : tie.Need-add-c Inv-loop μ-loop
 add-c c = omega (arith, c .before .before .before .before .before .pre .1)
 
 loop-holds : tie.Need-loop-holds Inv-loop μ-loop
-loop-holds c = let s = c .before .before .before .before .before in rw (add-one (s .args .b)) (going-start (s .pre .2))
+loop-holds c = let s = c .before .before .before .before .before in rw (add-one (s .args .b)) (underway-start (s .pre .2))
 
 offer-range-requires : tie.Need-offer-range-requires Inv-loop μ-loop
-offer-range-requires c κs = let a = c .before .before .before .before .before .before .before .before .before .args in let l = c .before .before .before .loop in one-first (openings-on (a .missed) (a .a) (l .c) (a .e) (omega (arith, c .before .before .loop-test .taken, c .before .before .before .before .last-cut .ensures .0))) (l .inv)
+offer-range-requires c κs = let a = c .before .before .before .before .before .before .before .before .before .args in let l = c .before .before .before .loop in range-first (openings-on (a .missed) (a .a) (l .c) (a .e) (omega (arith, c .before .before .loop-test .taken, c .before .before .before .before .last-cut .ensures .0))) (l .inv)
 
 same-length : tie.Need-same-length Inv-loop μ-loop
 same-length c = omega (arith, c .before .before .before .before .before .before .before .before .before .before .loop .inv .long-out)
@@ -37,7 +37,7 @@ returns : tie.Need-returns Inv-loop μ-loop
 returns c =
     let a = c .before .before .before .before .before .before .before .before .before .before .before .before .before .before .before .before .args in
     let l = c .before .before .before .before .before .before .before .before .before .before .loop in
-    one-full (openings-on (a .missed) (a .a) (l .c) (a .e) (omega (arith, c .before .before .before .before .before .before .before .before .before .loop-test .taken, c .before .before .before .before .before .before .before .before .before .before .before .last-cut .ensures .0))) (l .inv) (rw (c .enum-told .given .1) at (c .before .before .before .before .before .before .offer-range .ensures))
+    range-full (openings-on (a .missed) (a .a) (l .c) (a .e) (omega (arith, c .before .before .before .before .before .before .before .before .before .loop-test .taken, c .before .before .before .before .before .before .before .before .before .before .before .last-cut .ensures .0))) (l .inv) (rw (c .enum-told .given .1) at (c .before .before .before .before .before .before .offer-range .ensures))
 
 add-c-2 : tie.Need-add-c-2 Inv-loop μ-loop
 add-c-2 c = omega (arith, c .before .before .before .before .before .before .before .before .before .before .loop-test .taken)
@@ -49,23 +49,17 @@ loop-again : tie.Need-loop-again Inv-loop μ-loop
 loop-again c =
     let a = c .before .before .before .before .before .before .before .before .before .before .before .before .before .before .before .before .before .args in
     let l = c .before .before .before .before .before .before .before .before .before .before .before .loop in
-    one-on (openings-on (a .missed) (a .a) (l .c) (a .e) (omega (arith, c .before .before .before .before .before .before .before .before .before .before .loop-test .taken, c .before .before .before .before .before .before .before .before .before .before .before .before .last-cut .ensures .0))) (l .inv) (rw (c .before .x .given .1) at (c .before .before .before .before .before .before .before .offer-range .ensures)) (omega arith) (omega arith)
-
-same-length-3 : tie.Need-same-length-3 Inv-loop μ-loop
-same-length-3 c = c .before .loop .inv .long-out
-
-same-length-4 : tie.Need-same-length-4 Inv-loop μ-loop
-same-length-4 c = c .before .loop .inv .long-marks
+    range-on (openings-on (a .missed) (a .a) (l .c) (a .e) (omega (arith, c .before .before .before .before .before .before .before .before .before .before .loop-test .taken, c .before .before .before .before .before .before .before .before .before .before .before .before .last-cut .ensures .0))) (l .inv) (rw (c .before .x .given .1) at (c .before .before .before .before .before .before .before .offer-range .ensures)) (omega arith) (omega arith)
 
 returns-2 : tie.Need-returns-2 Inv-loop μ-loop
 returns-2 c =
     let a = c .before .before .before .before .before .before .before .args in
     let l = c .before .loop in
     let q = c .before .before .last-cut .ensures in
-    going-end refl (openings-pass (a .missed) (a .a) (l .c) (a .e) (λ x i j. q .1 x (omega arith) j) (l .inv))
+    underway-end refl (openings-pass (a .missed) (a .a) (l .c) (a .e) (λ x i j. q .1 x (omega arith) j) (l .inv))
 
 pub offer-openings-spec : {M : Type 1} → statement M
 offer-openings-spec =
-    tie.close (tie.spec Inv-loop μ-loop (λ c κs. search needs) add-c loop-holds offer-range-requires (λ c. search needs)
-    (λ c. search needs) same-length same-length-2 returns add-c-2 loop-less loop-again same-length-3 same-length-4
-    returns-2)
+    tie.close (tie.spec Inv-loop μ-loop (λ c κs. search needs) add-c loop-holds offer-range-requires
+    (λ c. search needs) (λ c. search needs) same-length same-length-2 returns add-c-2 loop-less loop-again
+    (λ c. c .before .loop .inv .long-out) (λ c. c .before .loop .inv .long-marks) returns-2)

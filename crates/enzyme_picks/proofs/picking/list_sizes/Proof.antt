@@ -6,7 +6,7 @@ use denote.Ref.{now}
 use lib.ListN.{length}
 use borrow.Author.Needs.{needs}
 use Rattle.enzyme_picks.specs.Picks.{newOf, puts}
-use Rattle.enzyme_picks.specs.PickLaws.{sizes-kept, sizes-full, sizes-end}
+use Rattle.enzyme_picks.specs.PickLaws.{sizes-kept, sizes-full, pick-sizes-end}
 use Rattle.enzyme_picks.proofs.picking.list_sizes.Statement.{statement}
 use Rattle.enzyme_picks.proofs.picking.list_sizes.Tie as tie
 
@@ -44,7 +44,7 @@ returns-2 : tie.Need-returns-2 Inv-loop μ-loop
 returns-2 c =
     let a = c .before .before .before .before .before .args in
     let l = c .before .loop in
-    sizes-end (a .n) (a .terms .protein) (now (a .starts)) (now (a .share)) (a .terms .minimum) (a .terms .maximum) (a .m) (l .over) (a .missed) (l .k) (l .out) (l .inv .1) (omega arith)
+    pick-sizes-end (a .n) (a .terms .protein) (now (a .starts)) (now (a .share)) (a .terms .minimum) (a .terms .maximum) (a .m) (l .over) (a .missed) (l .k) (l .out) (l .inv .1) (omega arith)
 
 pub list-sizes-spec : {M : Type 1} → statement M
 list-sizes-spec =

@@ -19,9 +19,6 @@ loop-holds c = flipped-start (now (c .args .letters)) (c .pre)
 add-loop : tie.Need-add-loop Inv-loop μ-loop
 add-loop c = let f = c .loop .inv in omega (arith, f .sum)
 
-sub-k : tie.Need-sub-k Inv-loop μ-loop
-sub-k c = omega arith
-
 slice-read-low : tie.Need-slice-read-low Inv-loop μ-loop
 slice-read-low c = let f = c .before .before .loop .inv in omega (arith, f .sum, f .same-length)
 
@@ -34,22 +31,14 @@ slice-write-letters c = let f = c .before .before .before .loop .inv in omega (a
 slice-write-letters-2 : tie.Need-slice-write-letters-2 Inv-loop μ-loop
 slice-write-letters-2 c = let f = c .before .before .before .loop .inv in simp length-set (omega (arith, f .sum, f .same-length))
 
-add-i : tie.Need-add-i Inv-loop μ-loop
-add-i c = omega arith
-
-loop-less : tie.Need-loop-less Inv-loop μ-loop
-loop-less c = omega arith
-
 loop-again : tie.Need-loop-again Inv-loop μ-loop
 loop-again c = let l = c .before .before .before .loop in flipped-turn (now (c .before .before .before .before .args .letters)) (l .i) (l .j) (l .letters) (l .inv) (omega arith)
-
-same-length : tie.Need-same-length Inv-loop μ-loop
-same-length c = c .before .loop .inv .same-length
 
 returns : tie.Need-returns Inv-loop μ-loop
 returns c = let l = c .before .loop in flipped-end (now (c .before .before .args .letters)) (l .i) (l .j) (l .letters) (l .inv) (omega arith)
 
 pub flip-spec : {M : Type 1} → statement M
 flip-spec =
-    tie.close (tie.spec Inv-loop μ-loop (λ c. search needs) loop-holds add-loop sub-k slice-read-low
-    slice-read-high slice-write-letters slice-write-letters-2 add-i loop-less loop-again same-length returns)
+    tie.close (tie.spec Inv-loop μ-loop (λ c. search needs) loop-holds add-loop (λ c. omega arith) slice-read-low
+    slice-read-high slice-write-letters slice-write-letters-2 (λ c. omega arith) (λ c. omega arith) loop-again
+    (λ c. c .before .loop .inv .same-length) returns)

@@ -22,9 +22,6 @@ abbrev μ-loop : tie.MeasureT-loop
 loop-holds : tie.Need-loop-holds Inv-loop μ-loop
 loop-holds c = (c .room-for .ensures, refl, spelling-start (now (c .before .before .before .args .out)) (lettersOf (c .before .before .before .args .decoy) (now (c .before .before .before .args .part))))
 
-same-length : tie.Need-same-length Inv-loop μ-loop
-same-length c = omega arith
-
 returns : tie.Need-returns Inv-loop μ-loop
 returns c = let a = c .before .before .before .before .before .before .args in
     let l = c .before .before .loop in
@@ -33,12 +30,6 @@ returns c = let a = c .before .before .before .before .before .before .args in
 
 slice-write-out : tie.Need-slice-write-out Inv-loop μ-loop
 slice-write-out c = let l = c .before .before .before .loop in omega (arith, l .inv .0, min-le-left (length (now (c .before .before .before .before .before .before .before .args .out)) / 1) 65536)
-
-add-i : tie.Need-add-i Inv-loop μ-loop
-add-i c = omega arith
-
-loop-less : tie.Need-loop-less Inv-loop μ-loop
-loop-less c = omega arith
 
 loop-again : tie.Need-loop-again Inv-loop μ-loop
 loop-again c = let a = c .before .before .before .before .before .before .before .args in
@@ -50,9 +41,6 @@ loop-again c = let a = c .before .before .before .before .before .before .before
 cast-count : tie.Need-cast-count Inv-loop μ-loop
 cast-count c = omega (arith, c .before .loop .inv .0)
 
-same-length-2 : tie.Need-same-length-2 Inv-loop μ-loop
-same-length-2 c = omega arith
-
 returns-2 : tie.Need-returns-2 Inv-loop μ-loop
 returns-2 c = let a = c .before .before .before .before .before .args in
     let l = c .before .loop in
@@ -60,5 +48,6 @@ returns-2 c = let a = c .before .before .before .before .before .args in
 
 pub spell-spec : {M : Type 1} → statement M
 spell-spec =
-    tie.close (tie.spec Inv-loop μ-loop (λ c κs. search needs) loop-holds same-length returns
-    (λ c κs. search needs) slice-write-out add-i loop-less loop-again cast-count same-length-2 returns-2)
+    tie.close (tie.spec Inv-loop μ-loop (λ c κs. search needs) loop-holds (λ c. omega arith) returns
+    (λ c κs. search needs) slice-write-out (λ c. omega arith) (λ c. omega arith) loop-again cast-count
+    (λ c. omega arith) returns-2)

@@ -3,7 +3,7 @@ use Prim.Native.Nat.{ℕ, _≤_, _<_, _-_}
 use mathlib.Core.Path.{_≡_, refl, _∙_}
 use native.Mathlib.Omega.{arith}
 use lib.ListN.{length, getD, length-set}
-use Rattle.enzyme_rows.specs.TurnLaws.{filled-more}
+use Rattle.lists.specs.FrameLaws.{set-more}
 use Rattle.enzyme_rows.proofs.rows.count_up.Statement.{statement}
 use Rattle.enzyme_rows.proofs.rows.count_up.Tie as tie
 
@@ -16,51 +16,15 @@ abbrev μ-loop : tie.MeasureT-loop
 loop-holds : tie.Need-loop-holds Inv-loop μ-loop
 loop-holds c = (omega arith, refl, refl, λ p h. absurd (omega arith))
 
-cast-site : tie.Need-cast-site Inv-loop μ-loop
-cast-site c = omega arith
-
-mul-order : tie.Need-mul-order Inv-loop μ-loop
-mul-order c = omega arith
-
-slice-write-order : tie.Need-slice-write-order Inv-loop μ-loop
-slice-write-order c = omega arith
-
-slice-write-share : tie.Need-slice-write-share Inv-loop μ-loop
-slice-write-share c = omega arith
-
-add-i : tie.Need-add-i Inv-loop μ-loop
-add-i c = omega arith
-
-loop-less : tie.Need-loop-less Inv-loop μ-loop
-loop-less c = omega arith
-
 loop-again : tie.Need-loop-again Inv-loop μ-loop
 loop-again c = let l = c .before .loop in
-    (omega arith, length-set (l .order) (l .i) (l .i) ∙ l .inv .1, length-set (l .share) (l .i) 0 ∙ l .inv .2, λ p h. (filled-more (λ (q : ℕ). q) (l .order) (l .i) (l .i) (omega arith) refl (λ q k. l .inv .3 q k .0) p h, filled-more (λ (q : ℕ). 0) (l .share) (l .i) 0 (omega arith) refl (λ q k. l .inv .3 q k .1) p h))
-
-same-length : tie.Need-same-length Inv-loop μ-loop
-same-length c = c .before .loop .inv .1
-
-same-length-2 : tie.Need-same-length-2 Inv-loop μ-loop
-same-length-2 c = c .before .loop .inv .2
+    (omega arith, length-set (l .order) (l .i) (l .i) ∙ l .inv .1, length-set (l .share) (l .i) 0 ∙ l .inv .2, λ p h. (set-more (λ (q : ℕ). q) (l .order) (l .i) (l .i) (omega arith) refl (λ q k. l .inv .3 q k .0) p h, set-more (λ (q : ℕ). 0) (l .share) (l .i) 0 (omega arith) refl (λ q k. l .inv .3 q k .1) p h))
 
 returns : tie.Need-returns Inv-loop μ-loop
 returns c = let e : c .before .loop .i ≡ c .before .before .args .m = omega arith in rw e at (c .before .loop .inv .3)
 
 pub count-up-spec : {M : Type 1} → statement M
 count-up-spec =
-    tie.close
-    (tie.spec
-    Inv-loop
-    μ-loop
-    loop-holds
-    cast-site
-    mul-order
-    slice-write-order
-    slice-write-share
-    add-i
-    loop-less
-    loop-again
-    same-length
-    same-length-2
-    returns)
+    tie.close (tie.spec Inv-loop μ-loop loop-holds (λ c. omega arith) (λ c. omega arith) (λ c. omega arith)
+    (λ c. omega arith) (λ c. omega arith) (λ c. omega arith) loop-again (λ c. c .before .loop .inv .1)
+    (λ c. c .before .loop .inv .2) returns)

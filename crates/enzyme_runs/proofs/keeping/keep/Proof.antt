@@ -1,5 +1,6 @@
 -- `keep` meets its contract. Assumes nothing.
 use mathlib.Core.Path.{_≡_}
+use mathlib.Core.Logic.{inr}
 use lib.ListN.{getD}
 use Prim.Native.Nat.{_≤_, _<_, _-_}
 use native.Mathlib.Omega.{arith}
@@ -18,14 +19,8 @@ abbrev μ-loop : tie.MeasureT-loop
 loop-holds : tie.Need-loop-holds Inv-loop μ-loop
 loop-holds c = let a = c .before .before .args in (omega arith, kept-none (goesOn (a .order .now) (a .runs .now) (a .g) (a .m) (a .n)) (a .order .now))
 
-mul-x : tie.Need-mul-x Inv-loop μ-loop
-mul-x c = omega arith
-
 slice-read-x : tie.Need-slice-read-x Inv-loop μ-loop
 slice-read-x c = omega (arith, c .before .before .loop .inv .1 .long)
-
-mul-order : tie.Need-mul-order Inv-loop μ-loop
-mul-order c = omega arith
 
 slice-write-order : tie.Need-slice-write-order Inv-loop μ-loop
 slice-write-order c = let l = c .before .before .before .loop in omega (arith, l .inv .1 .long, l .inv .1 .few)
@@ -33,26 +28,18 @@ slice-write-order c = let l = c .before .before .before .loop in omega (arith, l
 after-requires : tie.Need-after-requires Inv-loop μ-loop
 after-requires c κs = let l = c .before .before .before .loop in omega (arith, l .inv .1 .few)
 
-add-i : tie.Need-add-i Inv-loop μ-loop
-add-i c = omega arith
-
-loop-less : tie.Need-loop-less Inv-loop μ-loop
-loop-less c = omega arith
-
 loop-again : tie.Need-loop-again Inv-loop μ-loop
 loop-again c = let a = c .before .before .before .before .before .before .before .args in
     let l = c .before .before .before .before .loop in
     let h : l .i < a .g = omega arith in
-    let e : getD (l .order) (l .i) 0 ≡ getD (a .order .now) (l .i) 0 = l .inv .1 .later (l .i) (omega arith) in
+    let e : getD (l .order) (l .i) 0 ≡ getD (a .order .now) (l .i) 0 = l .inv .1 .rest (l .i) (inr (omega arith)) in
     (omega arith, rw (c .after .ensures) (kept-turn (goesOn (a .order .now) (a .runs .now) (a .g) (a .m) (a .n)) (a .order .now) (l .order) (a .g) (l .i) (l .k) (getD (l .order) (l .i) 0) (c .before .goes-on .result) (c .before .before .before .before .before .before .before .pre .3) h (c .before .before .before .before .before .before .before .pre .0) (l .inv .1) e (rw e at (c .before .goes-on .ensures))))
-
-same-length : tie.Need-same-length Inv-loop μ-loop
-same-length c = c .before .loop .inv .1 .long
 
 returns : tie.Need-returns Inv-loop μ-loop
 returns c = let e : c .before .loop .i ≡ c .before .before .before .before .args .g = omega arith in rw e at (c .before .loop .inv .1)
 
 pub keep-spec : {M : Type 1} → statement M
 keep-spec =
-    tie.close (tie.spec Inv-loop μ-loop loop-holds mul-x slice-read-x (λ c κs. search needs) mul-order
-    slice-write-order after-requires add-i loop-less loop-again same-length returns)
+    tie.close (tie.spec Inv-loop μ-loop loop-holds (λ c. omega arith) slice-read-x (λ c κs. search needs)
+    (λ c. omega arith) slice-write-order after-requires (λ c. omega arith) (λ c. omega arith) loop-again
+    (λ c. c .before .loop .inv .1 .long) returns)

@@ -1,6 +1,6 @@
 -- `line_up` meets its contract. Assumes nothing.
 use native.Mathlib.Omega.{arith}
-use Rattle.enzyme_keys.specs.Keys.{keyOf}
+use Rattle.enzyme_keys.specs.Keys.{sortKey}
 use Rattle.enzyme_runs.specs.SortedLaws.{sited-sites, sort-arranged, sited-arranged}
 use borrow.Author.Needs.{needs}
 use Rattle.enzyme_runs.proofs.runs.line_up.Statement.{statement}
@@ -20,7 +20,7 @@ number-runs-requires c κs = let a = c .before .before .before .before .before .
       omega (arith, t .kept .1 .1 .1 .1 .1 .0, p .0),
       omega (arith, t .kept .1 .1 .1 .1 .1 .1 .0, p .1),
       p .2,
-      sited-arranged (keyOf (a .key) (a .letters .now) (a .starts .now) (a .name .now) (a .rank .now)) (a .letters .now) (a .starts .now) (a .order .now) x (a .g) ar (p .4),
+      sited-arranged (sortKey (a .key) (a .letters .now) (a .starts .now) (a .name .now) (a .rank .now)) (a .letters .now) (a .starts .now) (a .order .now) x (a .g) ar (p .4),
     )
 
 returns : tie.Need-returns

@@ -1,7 +1,7 @@
 -- `note` meets its contract. Assumes nothing.
 use native.Mathlib.Omega.{arith}
 use denote.Ref.{now}
-use Rattle.enzyme_search.specs.MarkLaws.{has-few, chained-first, first-marked, alike-marked}
+use Rattle.enzyme_search.specs.MarkLaws.{has-few, chained-first, first-marked, same-samples-listed}
 use borrow.Author.Needs.{needs}
 use Rattle.enzyme_samples.proofs.noting.note.Statement.{statement}
 use Rattle.enzyme_samples.proofs.noting.note.Tie as tie
@@ -19,7 +19,7 @@ settle-requires c κs = let s = c .before .before .before .before .before .befor
     let f = c .before .before .before .before .before .before .before .before .mark-first in
     let h = chained-first (a .run .count) (a .run .head) (now (a .out)) (s .pre .2) (omega (arith, c .before .before .before .before .before .before .before .before .before .before .if2 .left)) in
     let m = first-marked (a .run .count) (a .run .head) (now (a .out)) (now (a .marks)) (a .run .samples) (s .pre .3) (a .run .head) (a .k) (f .last .0) (f .result) h (f .ensures) in
-    (s .pre .0, s .pre .1, alike-marked (a .run .count) (a .run .head) (now (a .out)) (f .last .0) (f .result) m (c .before .before .before .count-one .last .0) (c .before .before .before .count-one .ensures), rw (c .before .before .before .before .before .one-less .ensures) (f .ensures .there))
+    (s .pre .0, s .pre .1, same-samples-listed (a .run .count) (a .run .head) (now (a .out)) (f .last .0) (f .result) m (c .before .before .before .count-one .last .0) (c .before .before .before .count-one .ensures), rw (c .before .before .before .before .before .one-less .ensures) (f .ensures .there))
 
 pub note-spec : {M : Type 1} → statement M
 note-spec =

@@ -1,7 +1,7 @@
 -- `seek_range` meets its contract. Assumes nothing.
 use denote.Ref.{now}
 use Rattle.enzyme_cuts.specs.Cutting.{range, site, part}
-use Rattle.enzyme_search.specs.MarkLaws.{marked-numbered, below-begun}
+use Rattle.enzyme_search.specs.MarkLaws.{listed-numbered, below-begun}
 use Rattle.enzyme_samples.specs.RangeLaws.{sought-left, sought-noted, sought-full, sought-marked}
 use borrow.Author.Needs.{needs}
 use Rattle.enzyme_samples.proofs.offering.seek_range.Statement.{statement}
@@ -11,7 +11,7 @@ last-below-requires : tie.Need-last-below-requires
 last-below-requires c κs = let s = c .before .before .before .before .before .before .before .before in
     let a = s .args in
     let h = s .pre .0 in
-    (h .keeps .fits, h .keeps .inside, h .inside .0, h .inside .1, marked-numbered (a .run .count) (a .run .head) (now (a .out)) (now (a .marks)) (a .run .samples) (h .marked))
+    (h .keeps .fits, h .keeps .inside, h .inside .0, h .inside .1, listed-numbered (a .run .count) (a .run .head) (now (a .out)) (now (a .marks)) (a .run .samples) (h .marked))
 
 offer-requires : tie.Need-offer-requires
 offer-requires c κs = let s = c .before .before .before .before .before .before .before .before .before .before .before .before in

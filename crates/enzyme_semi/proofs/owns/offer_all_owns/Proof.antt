@@ -4,16 +4,16 @@ use mathlib.Core.Path.{_≡_}
 use native.Mathlib.Omega.{arith}
 use native.Mathlib.Numerals.{add-one}
 use borrow.Author.Needs.{needs}
-use Rattle.enzyme_fresh.specs.Fresh.{freshOwns, freshFrom}
+use Rattle.enzyme_fresh.specs.Fresh.{freshFrom}
 use Rattle.enzyme_parts.specs.Walk.{sitesIn, sharedIn}
 use Rattle.enzyme_parts.specs.WalkLaws.{fresh-sizes-on, fresh-sizes-end}
-use Rattle.enzyme_parts.specs.Going.{Going}
-use Rattle.enzyme_parts.specs.GoingLaws.{going-start, going-end, going-first, going-on, going-full}
+use Rattle.enzyme_parts.specs.Going.{Underway}
+use Rattle.enzyme_parts.specs.GoingLaws.{underway-start, underway-end, underway-first, underway-on, underway-full}
 use Rattle.enzyme_semi.proofs.owns.offer_all_owns.Statement.{statement}
 use Rattle.enzyme_semi.proofs.owns.offer_all_owns.Tie as tie
 
 abbrev Inv-loop : tie.InvT-loop
-Inv-loop letters far starts share m missed terms out₀ marks₀ k₀ left₀ at₀ out marks k left at = (k + left ≡ missed + 1) × Going letters far terms (freshFrom (sharedIn share) 0 (suc missed) (sitesIn starts m)) at₀ out₀ marks₀ (freshFrom (sharedIn share) k left (sitesIn starts m)) at out marks
+Inv-loop letters far starts share m missed terms out₀ marks₀ k₀ left₀ at₀ out marks k left at = (k + left ≡ missed + 1) × Underway letters far terms (freshFrom (sharedIn share) 0 (suc missed) (sitesIn starts m)) at₀ out₀ marks₀ (freshFrom (sharedIn share) k left (sitesIn starts m)) at out marks
 
 abbrev μ-loop : tie.MeasureT-loop
 μ-loop letters far starts share m missed terms out₀ marks₀ k₀ left₀ at₀ out marks k left at = left
@@ -22,13 +22,13 @@ add-left : tie.Need-add-left Inv-loop μ-loop
 add-left c = omega (arith, c .before .before .before .before .before .before .pre .1)
 
 loop-holds : tie.Need-loop-holds Inv-loop μ-loop
-loop-holds c = (omega arith, rw (add-one (c .before .before .before .before .before .before .args .missed)) (going-start (c .before .before .before .before .before .before .pre .2)))
+loop-holds c = (omega arith, rw (add-one (c .before .before .before .before .before .before .args .missed)) (underway-start (c .before .before .before .before .before .before .pre .2)))
 
 offer-owns-requires : tie.Need-offer-owns-requires Inv-loop μ-loop
 offer-owns-requires c κs =
     let a = c .before .before .before .before .before .before .before .before .before .before .args in
     let l = c .before .before .before .loop in
-    (c .before .before .before .before .before .before .before .before .before .before .pre .0, going-first (freshOwns (sharedIn (a .share .now)) (l .k) (sitesIn (a .starts .now) (a .m))) (freshFrom (sharedIn (a .share .now)) (l .k + 1) (l .left - 1) (sitesIn (a .starts .now) (a .m))) (fresh-sizes-on (sitesIn (a .starts .now) (a .m)) (l .k) (l .left) (sharedIn (a .share .now)) (omega (arith, c .before .before .loop-test .taken))) (l .inv .1))
+    (c .before .before .before .before .before .before .before .before .before .before .pre .0, underway-first (fresh-sizes-on (sitesIn (a .starts .now) (a .m)) (l .k) (l .left) (sharedIn (a .share .now)) (omega (arith, c .before .before .loop-test .taken))) (l .inv .1))
 
 same-length : tie.Need-same-length Inv-loop μ-loop
 same-length c = omega (arith, c .before .before .before .before .before .before .before .before .before .before .loop .inv .1 .long-out)
@@ -40,7 +40,7 @@ returns : tie.Need-returns Inv-loop μ-loop
 returns c =
     let a = c .before .before .before .before .before .before .before .before .before .before .before .before .before .before .before .before .before .args in
     let l = c .before .before .before .before .before .before .before .before .before .before .loop in
-    going-full (freshOwns (sharedIn (a .share .now)) (l .k) (sitesIn (a .starts .now) (a .m))) (freshFrom (sharedIn (a .share .now)) (l .k + 1) (l .left - 1) (sitesIn (a .starts .now) (a .m))) (fresh-sizes-on (sitesIn (a .starts .now) (a .m)) (l .k) (l .left) (sharedIn (a .share .now)) (omega (arith, c .before .before .before .before .before .before .before .before .before .loop-test .taken))) (l .inv .1) (rw (c .enum-told .given .1) at (c .before .before .before .before .before .before .offer-owns .ensures))
+    underway-full (fresh-sizes-on (sitesIn (a .starts .now) (a .m)) (l .k) (l .left) (sharedIn (a .share .now)) (omega (arith, c .before .before .before .before .before .before .before .before .before .loop-test .taken))) (l .inv .1) (rw (c .enum-told .given .1) at (c .before .before .before .before .before .before .offer-owns .ensures))
 
 add-k : tie.Need-add-k Inv-loop μ-loop
 add-k c = omega (arith, c .before .before .before .before .before .before .before .before .before .before .loop-test .taken, c .before .before .before .before .before .before .before .before .before .before .before .loop .inv .0, c .before .before .before .before .before .before .before .before .before .before .before .before .before .before .before .before .before .before .pre .1)
@@ -55,19 +55,13 @@ loop-again : tie.Need-loop-again Inv-loop μ-loop
 loop-again c =
     let a = c .before .before .before .before .before .before .before .before .before .before .before .before .before .before .before .before .before .before .args in
     let l = c .before .before .before .before .before .before .before .before .before .before .before .loop in
-    (omega (arith, l .inv .0, c .before .before .before .before .before .before .before .before .before .before .loop-test .taken), going-on (freshOwns (sharedIn (a .share .now)) (l .k) (sitesIn (a .starts .now) (a .m))) (freshFrom (sharedIn (a .share .now)) (l .k + 1) (l .left - 1) (sitesIn (a .starts .now) (a .m))) (fresh-sizes-on (sitesIn (a .starts .now) (a .m)) (l .k) (l .left) (sharedIn (a .share .now)) (omega (arith, c .before .before .before .before .before .before .before .before .before .before .loop-test .taken))) (l .inv .1) (rw (c .before .x .given .1) at (c .before .before .before .before .before .before .before .offer-owns .ensures)) (omega arith) (omega arith))
-
-same-length-3 : tie.Need-same-length-3 Inv-loop μ-loop
-same-length-3 c = c .before .loop .inv .1 .long-out
-
-same-length-4 : tie.Need-same-length-4 Inv-loop μ-loop
-same-length-4 c = c .before .loop .inv .1 .long-marks
+    (omega (arith, l .inv .0, c .before .before .before .before .before .before .before .before .before .before .loop-test .taken), underway-on (fresh-sizes-on (sitesIn (a .starts .now) (a .m)) (l .k) (l .left) (sharedIn (a .share .now)) (omega (arith, c .before .before .before .before .before .before .before .before .before .before .loop-test .taken))) (l .inv .1) (rw (c .before .x .given .1) at (c .before .before .before .before .before .before .before .offer-owns .ensures)) (omega arith) (omega arith))
 
 returns-2 : tie.Need-returns-2 Inv-loop μ-loop
-returns-2 c = let a = c .before .before .before .before .before .before .before .before .args in let l = c .before .loop in going-end (fresh-sizes-end (sitesIn (a .starts .now) (a .m)) (l .k) (l .left) (sharedIn (a .share .now)) (omega arith)) (l .inv .1)
+returns-2 c = let a = c .before .before .before .before .before .before .before .before .args in let l = c .before .loop in underway-end (fresh-sizes-end (sitesIn (a .starts .now) (a .m)) (l .k) (l .left) (sharedIn (a .share .now)) (omega arith)) (l .inv .1)
 
 pub offer-all-owns-spec : {M : Type 1} → statement M
 offer-all-owns-spec =
     tie.close (tie.spec Inv-loop μ-loop add-left loop-holds offer-owns-requires (λ c. search needs)
-    (λ c. search needs) same-length same-length-2 returns add-k sub-left loop-less loop-again same-length-3
-    same-length-4 returns-2)
+    (λ c. search needs) same-length same-length-2 returns add-k sub-left loop-less loop-again
+    (λ c. c .before .loop .inv .1 .long-out) (λ c. c .before .loop .inv .1 .long-marks) returns-2)

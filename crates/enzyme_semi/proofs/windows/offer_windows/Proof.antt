@@ -4,27 +4,27 @@ use borrow.Author.Needs.{needs}
 use Prim.Native.Nat.{_-_, _≤_}
 use Rattle.enzyme_cuts.specs.Cutting.{windows}
 use Rattle.enzyme_once.specs.SpotLaws.{spans}
-use Rattle.enzyme_parts.specs.Walk.{placeIn, sitesIn}
+use Rattle.enzyme_parts.specs.Walk.{siteStart, sitesIn}
 use Rattle.enzyme_parts.specs.WalkLaws.{spans-on, spans-end, windows-start}
-use Rattle.enzyme_parts.specs.Going.{Going}
-use Rattle.enzyme_parts.specs.GoingLaws.{going-start, going-end, one-first, one-on, one-full}
+use Rattle.enzyme_parts.specs.Going.{Underway}
+use Rattle.enzyme_parts.specs.GoingLaws.{underway-start, underway-end, range-first, range-on, range-full}
 use Rattle.enzyme_semi.proofs.windows.offer_windows.Statement.{statement}
 use Rattle.enzyme_semi.proofs.windows.offer_windows.Tie as tie
 
 abbrev Inv-loop : tie.InvT-loop
-Inv-loop letters far starts m missed terms out₀ marks₀ i₀ j₀ at₀ out marks i j at = (i ≤ j) × Going letters far terms (windows missed (sitesIn starts m)) at₀ out₀ marks₀ (spans (placeIn starts) missed i j (m - j)) at out marks
+Inv-loop letters far starts m missed terms out₀ marks₀ i₀ j₀ at₀ out marks i j at = (i ≤ j) × Underway letters far terms (windows missed (sitesIn starts m)) at₀ out₀ marks₀ (spans (siteStart starts) missed i j (m - j)) at out marks
 
 abbrev μ-loop : tie.MeasureT-loop
 μ-loop letters far starts m missed terms out₀ marks₀ i₀ j₀ at₀ out marks i j at = m - j
 
 loop-holds : tie.Need-loop-holds Inv-loop μ-loop
-loop-holds c = let a = c .before .before .before .before .before .args in (omega arith, rw (← windows-start (placeIn (a .starts .now)) (a .missed) (a .m)) (going-start (c .before .before .before .before .before .pre .1)))
+loop-holds c = let a = c .before .before .before .before .before .args in (omega arith, rw (← windows-start (siteStart (a .starts .now)) (a .missed) (a .m)) (underway-start (c .before .before .before .before .before .pre .1)))
 
 offer-window-requires : tie.Need-offer-window-requires Inv-loop μ-loop
 offer-window-requires c κs =
     let a = c .before .before .before .before .before .before .before .before .before .args in
     let l = c .before .before .before .loop in
-    (l .inv .0, omega (arith, c .before .before .loop-test .taken, c .before .before .before .before .before .before .before .before .before .pre .0), one-first (spans-on (placeIn (a .starts .now)) (a .missed) (l .i) (l .j) (a .m) (omega (arith, c .before .before .loop-test .taken))) (l .inv .1))
+    (l .inv .0, omega (arith, c .before .before .loop-test .taken, c .before .before .before .before .before .before .before .before .before .pre .0), range-first (spans-on (siteStart (a .starts .now)) (a .missed) (l .i) (l .j) (a .m) (omega (arith, c .before .before .loop-test .taken))) (l .inv .1))
 
 same-length : tie.Need-same-length Inv-loop μ-loop
 same-length c = omega (arith, c .before .before .before .before .before .before .before .before .before .before .loop .inv .1 .long-out)
@@ -36,7 +36,7 @@ returns : tie.Need-returns Inv-loop μ-loop
 returns c =
     let a = c .before .before .before .before .before .before .before .before .before .before .before .before .before .before .before .before .args in
     let l = c .before .before .before .before .before .before .before .before .before .before .loop in
-    one-full (spans-on (placeIn (a .starts .now)) (a .missed) (l .i) (l .j) (a .m) (omega (arith, c .before .before .before .before .before .before .before .before .before .loop-test .taken))) (l .inv .1) (rw (c .enum-told .given .1) at (c .before .before .before .before .before .before .offer-window .ensures))
+    range-full (spans-on (siteStart (a .starts .now)) (a .missed) (l .i) (l .j) (a .m) (omega (arith, c .before .before .before .before .before .before .before .before .before .loop-test .taken))) (l .inv .1) (rw (c .enum-told .given .1) at (c .before .before .before .before .before .before .offer-window .ensures))
 
 add-i : tie.Need-add-i Inv-loop μ-loop
 add-i c = omega (arith, c .before .before .before .before .before .before .before .before .before .before .loop-test .taken, c .before .before .before .before .before .before .before .before .before .before .before .loop .inv .0)
@@ -51,18 +51,13 @@ loop-again : tie.Need-loop-again Inv-loop μ-loop
 loop-again c =
     let a = c .before .before .before .before .before .before .before .before .before .before .before .before .before .before .before .before .before .args in
     let l = c .before .before .before .before .before .before .before .before .before .before .before .loop in
-    (omega (arith, l .inv .0), one-on (spans-on (placeIn (a .starts .now)) (a .missed) (l .i) (l .j) (a .m) (omega (arith, c .before .before .before .before .before .before .before .before .before .before .loop-test .taken))) (l .inv .1) (rw (c .before .x .given .1) at (c .before .before .before .before .before .before .before .offer-window .ensures)) (omega arith) (omega arith))
-
-same-length-3 : tie.Need-same-length-3 Inv-loop μ-loop
-same-length-3 c = c .before .loop .inv .1 .long-out
-
-same-length-4 : tie.Need-same-length-4 Inv-loop μ-loop
-same-length-4 c = c .before .loop .inv .1 .long-marks
+    (omega (arith, l .inv .0), range-on (spans-on (siteStart (a .starts .now)) (a .missed) (l .i) (l .j) (a .m) (omega (arith, c .before .before .before .before .before .before .before .before .before .before .loop-test .taken))) (l .inv .1) (rw (c .before .x .given .1) at (c .before .before .before .before .before .before .before .offer-window .ensures)) (omega arith) (omega arith))
 
 returns-2 : tie.Need-returns-2 Inv-loop μ-loop
-returns-2 c = let a = c .before .before .before .before .before .before .before .args in let l = c .before .loop in going-end (spans-end (placeIn (a .starts .now)) (a .missed) (l .i) (l .j) (a .m) (omega arith)) (l .inv .1)
+returns-2 c = let a = c .before .before .before .before .before .before .before .args in let l = c .before .loop in underway-end (spans-end (siteStart (a .starts .now)) (a .missed) (l .i) (l .j) (a .m) (omega arith)) (l .inv .1)
 
 pub offer-windows-spec : {M : Type 1} → statement M
 offer-windows-spec =
     tie.close (tie.spec Inv-loop μ-loop loop-holds offer-window-requires (λ c. search needs) (λ c. search needs)
-    same-length same-length-2 returns add-i add-j loop-less loop-again same-length-3 same-length-4 returns-2)
+    same-length same-length-2 returns add-i add-j loop-less loop-again (λ c. c .before .loop .inv .1 .long-out)
+    (λ c. c .before .loop .inv .1 .long-marks) returns-2)

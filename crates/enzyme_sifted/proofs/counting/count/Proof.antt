@@ -22,18 +22,6 @@ loop-holds c = let a = c .before .before .before .before .args in (omega arith, 
 code-at-requires : tie.Need-code-at-requires Inv-loop μ-loop
 code-at-requires c κs = c .before .before .before .before .before .before .pre .1 (c .before .loop .z) (omega arith)
 
-mul-codes : tie.Need-mul-codes Inv-loop μ-loop
-mul-codes c = omega arith
-
-slice-write-codes : tie.Need-slice-write-codes Inv-loop μ-loop
-slice-write-codes c = omega arith
-
-add-z : tie.Need-add-z Inv-loop μ-loop
-add-z c = omega arith
-
-loop-less : tie.Need-loop-less Inv-loop μ-loop
-loop-less c = omega arith
-
 loop-again : tie.Need-loop-again Inv-loop μ-loop
 loop-again c =
     let a = c .before .before .before .before .before .before .before .before .before .before .before .args in
@@ -42,16 +30,11 @@ loop-again c =
     let turn = seen-more (codeAt (length (a .seen .now)) (a .letters .now) (a .starts .now)) (l .codes) (l .seen) (l .z) v (omega arith) (c .before .before .before .before .code-at .ensures) (l .inv .3) in
     (omega arith, length-set (l .codes) (l .z) v ∙ l .inv .1, c .before .before .raise .kept .0 ∙ l .inv .2, rw (c .before .before .raise .ensures) turn)
 
-same-length : tie.Need-same-length Inv-loop μ-loop
-same-length c = c .before .loop .inv .1
-
-same-length-2 : tie.Need-same-length-2 Inv-loop μ-loop
-same-length-2 c = c .before .loop .inv .2
-
 returns : tie.Need-returns Inv-loop μ-loop
 returns c = let e : c .before .loop .z ≡ c .before .before .before .before .before .before .args .m = omega arith in rw e at (c .before .loop .inv .3)
 
 pub count-spec : {M : Type 1} → statement M
 count-spec =
-    tie.close (tie.spec Inv-loop μ-loop loop-holds code-at-requires mul-codes slice-write-codes
-    (λ c κs. search needs) add-z loop-less loop-again same-length same-length-2 returns)
+    tie.close (tie.spec Inv-loop μ-loop loop-holds code-at-requires (λ c. omega arith) (λ c. omega arith)
+    (λ c κs. search needs) (λ c. omega arith) (λ c. omega arith) loop-again (λ c. c .before .loop .inv .1)
+    (λ c. c .before .loop .inv .2) returns)

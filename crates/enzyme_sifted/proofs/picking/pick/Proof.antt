@@ -3,32 +3,20 @@ use Prim.Native.Nat.{_≤_, _-_}
 use mathlib.Core.Path.{_≡_, refl, _∙_}
 use lib.ListN.{length, length-set}
 use native.Mathlib.Omega.{arith}
-use Rattle.enzyme_sifted.specs.Sifted.{Picked}
-use Rattle.enzyme_sifted.specs.SiftLaws.{picked-none, picked-turn}
+use Rattle.enzyme_sifted.specs.Sifted.{RepeatsPicked}
+use Rattle.enzyme_sifted.specs.SiftLaws.{repeats-picked-none, repeats-picked-turn}
 use borrow.Author.Needs.{needs}
 use Rattle.enzyme_sifted.proofs.picking.pick.Statement.{statement}
 use Rattle.enzyme_sifted.proofs.picking.pick.Tie as tie
 
 abbrev Inv-loop : tie.InvT-loop
-Inv-loop codes seen m order₀ k₀ z₀ order k z = (z ≤ m) × (length order ≡ length order₀) × Picked codes seen order z k
+Inv-loop codes seen m order₀ k₀ z₀ order k z = (z ≤ m) × (length order ≡ length order₀) × RepeatsPicked codes seen order z k
 
 abbrev μ-loop : tie.MeasureT-loop
 μ-loop codes seen m order₀ k₀ z₀ order k z = m - z
 
 loop-holds : tie.Need-loop-holds Inv-loop μ-loop
-loop-holds c = let a = c .before .before .before .args in (omega arith, refl, picked-none (a .codes .now) (a .seen .now) (a .order .now))
-
-cast-site : tie.Need-cast-site Inv-loop μ-loop
-cast-site c = omega arith
-
-mul-seen-twice : tie.Need-mul-seen-twice Inv-loop μ-loop
-mul-seen-twice c = omega arith
-
-shared-slice-read-seen-twice : tie.Need-shared-slice-read-seen-twice Inv-loop μ-loop
-shared-slice-read-seen-twice c = omega arith
-
-mul-order : tie.Need-mul-order Inv-loop μ-loop
-mul-order c = omega arith
+loop-holds c = let a = c .before .before .before .args in (omega arith, refl, repeats-picked-none (a .codes .now) (a .seen .now) (a .order .now))
 
 slice-write-order : tie.Need-slice-write-order Inv-loop μ-loop
 slice-write-order c = let l = c .before .before .before .loop in omega (arith, l .inv .2 .few)
@@ -36,27 +24,18 @@ slice-write-order c = let l = c .before .before .before .loop in omega (arith, l
 after-requires : tie.Need-after-requires Inv-loop μ-loop
 after-requires c κs = let l = c .before .before .before .loop in omega (arith, l .inv .2 .few)
 
-add-z : tie.Need-add-z Inv-loop μ-loop
-add-z c = omega arith
-
-loop-less : tie.Need-loop-less Inv-loop μ-loop
-loop-less c = omega arith
-
 loop-again : tie.Need-loop-again Inv-loop μ-loop
 loop-again c =
     let a = c .before .before .before .before .before .before .before .before .args in
     let l = c .before .before .before .before .loop in
-    let turn = picked-turn (a .codes .now) (a .seen .now) (l .order) (l .z) (l .k) (omega arith) (l .inv .2) (c .before .seen-twice .result) (c .before .seen-twice .ensures) in
+    let turn = repeats-picked-turn (a .codes .now) (a .seen .now) (l .order) (l .z) (l .k) (omega arith) (l .inv .2) (c .before .seen-twice .result) (c .before .seen-twice .ensures) in
     (omega arith, length-set (l .order) (l .k) (l .z) ∙ l .inv .1, rw (c .after .ensures) turn)
-
-same-length : tie.Need-same-length Inv-loop μ-loop
-same-length c = c .before .loop .inv .1
 
 returns : tie.Need-returns Inv-loop μ-loop
 returns c = let e : c .before .loop .z ≡ c .before .before .before .before .before .args .m = omega arith in rw e at (c .before .loop .inv .2)
 
 pub pick-spec : {M : Type 1} → statement M
 pick-spec =
-    tie.close (tie.spec Inv-loop μ-loop loop-holds cast-site mul-seen-twice shared-slice-read-seen-twice
-    (λ c κs. search needs) mul-order slice-write-order after-requires add-z loop-less loop-again same-length
-    returns)
+    tie.close (tie.spec Inv-loop μ-loop loop-holds (λ c. omega arith) (λ c. omega arith) (λ c. omega arith)
+    (λ c κs. search needs) (λ c. omega arith) slice-write-order after-requires (λ c. omega arith)
+    (λ c. omega arith) loop-again (λ c. c .before .loop .inv .1) returns)

@@ -29,9 +29,6 @@ few-last c = omega (arith, c .before .loop .inv .2 .few)
 room-last : (c : tie.After-loop Inv-loop μ-loop) → c .before .loop .m + 1 < length (c .before .loop .starts)
 room-last c = omega (arith, few-last c, c .before .before .before .before .before .pre .1, c .before .loop .inv .0, length-set (c .before .before .before .before .before .args .starts .now) 0 0)
 
-slice-write-starts : tie.Need-slice-write-starts Inv-loop μ-loop
-slice-write-starts c = omega arith
-
 same-length : tie.Need-same-length Inv-loop μ-loop
 same-length c = length-set (c .before .before .before .args .starts .now) 0 0
 
@@ -39,14 +36,8 @@ returns : tie.Need-returns Inv-loop μ-loop
 returns c = let a = c .before .before .before .args in
     scanned-end (a .knife) (now (a .letters)) _ 0 0 (omega arith) (omega (arith, c .before .before .before .pre .1, length-set (a .starts .now) 0 0)) (scanned-none (a .knife) (now (a .letters)) (a .starts .now) (omega arith))
 
-sub-last : tie.Need-sub-last Inv-loop μ-loop
-sub-last c = omega arith
-
 loop-holds : tie.Need-loop-holds Inv-loop μ-loop
 loop-holds c = let a = c .before .before .before .args in (refl, omega arith, scanned-none (a .knife) (a .letters .now) (a .starts .now) (omega arith))
-
-add-next : tie.Need-add-next Inv-loop μ-loop
-add-next c = omega arith
 
 cast-place : tie.Need-cast-place Inv-loop μ-loop
 cast-place c = omega (arith, c .before .before .before .before .before .before .before .pre)
@@ -60,17 +51,11 @@ mul-starts c = omega (arith, c .before .before .before .before .before .before .
 slice-write-starts-2 : tie.Need-slice-write-starts-2 Inv-loop μ-loop
 slice-write-starts-2 c = room c
 
-loop-less : tie.Need-loop-less Inv-loop μ-loop
-loop-less c = omega arith
-
 loop-again : tie.Need-loop-again Inv-loop μ-loop
 loop-again c =
     let a = c .before .before .before .before .before .before .before .args in
     let l = c .before .before .before .loop in
     (length-set (l .starts) (l .m + 1) (l .j + 1) ∙ l .inv .0, omega arith, scanned-cut (a .knife) (a .letters .now) (l .starts) (l .m) (l .j) (omega arith) (sym (c .before .ends-at .ensures) ∙ c .if2 .taken) (l .inv .2) (room c))
-
-loop-less-2 : tie.Need-loop-less-2 Inv-loop μ-loop
-loop-less-2 c = omega arith
 
 loop-again-2 : tie.Need-loop-again-2 Inv-loop μ-loop
 loop-again-2 c =
@@ -80,9 +65,6 @@ loop-again-2 c =
 
 add-m-2 : tie.Need-add-m-2 Inv-loop μ-loop
 add-m-2 c = omega (arith, c .before .before .before .before .before .pre, room-last c)
-
-cast-end : tie.Need-cast-end Inv-loop μ-loop
-cast-end c = omega arith
 
 mul-starts-2 : tie.Need-mul-starts-2 Inv-loop μ-loop
 mul-starts-2 c = omega (arith, c .before .before .before .before .before .pre, few-last c)
@@ -103,6 +85,7 @@ returns-2 c =
 
 pub sites-spec : {M : Type 1} → statement M
 sites-spec =
-    tie.close (tie.spec Inv-loop μ-loop slice-write-starts same-length returns sub-last loop-holds add-next
-    (λ c κs. search needs) cast-place add-m mul-starts slice-write-starts-2 loop-less loop-again loop-less-2
-    loop-again-2 add-m-2 cast-end mul-starts-2 slice-write-starts-3 same-length-2 returns-2)
+    tie.close (tie.spec Inv-loop μ-loop (λ c. omega arith) same-length returns (λ c. omega arith) loop-holds
+    (λ c. omega arith) (λ c κs. search needs) cast-place add-m mul-starts slice-write-starts-2 (λ c. omega arith)
+    loop-again (λ c. omega arith) loop-again-2 add-m-2 (λ c. omega arith) mul-starts-2 slice-write-starts-3
+    same-length-2 returns-2)

@@ -4,7 +4,7 @@ use mathlib.Core.Path.{_≡_, ap}
 use borrow.Author.Tests.{eq-eqb, ne-eqb}
 use borrow.Author.Needs.{needs}
 use Rattle.enzyme_cuts.specs.declared.kinds.Kind.the-variants.{None, End, Set}
-use Rattle.enzyme_ways.specs.Ways.{turns}
+use Rattle.enzyme_ways.specs.Ways.{looksAgain}
 use Prim.Native.Nat.{ℕ, _<_}
 use borrow.Fn.Kinds.{In}
 use borrow.Fn.PlainCycle.{Measures, is, falls, and}
@@ -27,7 +27,7 @@ use Rattle.enzyme_ways.proofs.ways.+offer_all.{statement}
 use Rattle.enzyme_ways.proofs.ways.+offer_all.Tie.{close}
 
 abbrev μ-offer-all : Measures 2 offer-all-kinds.ps ℕ
-μ-offer-all κs a = turns (a .1 .0 .kind)
+μ-offer-all κs a = looksAgain (a .1 .0 .kind)
 
 abbrev offer-all-at : ℕ → In 2 offer-all-kinds.ps
 offer-all-at t = and 2 offer-all-kinds.ps (is 2 offer-all-kinds.ps μ-offer-all t) offer-all.Pre
@@ -81,7 +81,7 @@ pub +offer-all-spec : {M : Type 1} → statement M
     (λ c κs. search needs)
     (λ c κs. let s = c .before .before .before .before .before .before .before .before .before in
     let k : s .args .enzyme .kind ≡ Set (c .before .before .before .before .before .kind .given .0 .0) = c .before .before .before .before .before .kind .given .1 in
-    let e : turns (s .args .enzyme .kind) ≡ 1 = ap turns k in
+    let e : looksAgain (s .args .enzyme .kind) ≡ 1 = ap looksAgain k in
     (rw (c .before .without-set .ensures) (omega (arith, s .pre .0, e)), s .pre .1))
     (λ c. search needs)
     (λ c. let k : c .before .before .before .before .before .before .before .before .before .before .before .before .args .enzyme .kind ≡ Set (c .before .before .before .before .before .before .before .before .kind .given .0 .0) = c .before .before .before .before .before .before .before .before .kind .given .1 in

@@ -20,12 +20,6 @@ loop-holds c = (omega arith, rw (pow-zero 26))
 mul-p : tie.Need-mul-p Inv-loop μ-loop
 mul-p c = omega (arith, power-small (c .before .loop .i) (omega arith))
 
-add-i : tie.Need-add-i Inv-loop μ-loop
-add-i c = omega arith
-
-loop-less : tie.Need-loop-less Inv-loop μ-loop
-loop-less c = omega arith
-
 loop-again : tie.Need-loop-again Inv-loop μ-loop
 loop-again c = (omega arith, rw (add-one (c .before .loop .i), pow-succ' 26 (c .before .loop .i), c .before .loop .inv .1))
 
@@ -34,4 +28,4 @@ returns c = let l = c .before .loop in let e : l .i ≡ c .before .before .args 
 
 pub power-spec : {M : Type 1} → statement M
 power-spec =
-    tie.close (tie.spec Inv-loop μ-loop loop-holds mul-p add-i loop-less loop-again returns)
+    tie.close (tie.spec Inv-loop μ-loop loop-holds mul-p (λ c. omega arith) (λ c. omega arith) loop-again returns)

@@ -13,7 +13,7 @@ shared-slice-read-if2 : tie.Need-shared-slice-read-if2
 shared-slice-read-if2 c = let l = c .before .before .before .before .pre .3 (omega arith) in omega arith
 
 returns-2 : tie.Need-returns-2
-returns-2 c = inr (refl, omega arith, rw (c .before .before .wide .ensures) at (c .if2 .taken))
+returns-2 c = inr (refl, omega arith, rw (c .before .before .wide .ensures .0) at (c .if2 .taken))
 
 returns-3 : tie.Need-returns-3
 returns-3 c = inl refl

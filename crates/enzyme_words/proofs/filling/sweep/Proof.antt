@@ -5,31 +5,19 @@ use mathlib.Core.Path.{_≡_, refl, _∙_}
 use Prim.Native.Nat.{_+_, _-_, _≤_, _<_}
 use denote.Ref.{now}
 use lib.ListN.{length, length-set}
-use Rattle.enzyme_words.specs.Words.{Swept}
+use Rattle.enzyme_words.specs.Words.{StartsSwept}
 use Rattle.enzyme_words.specs.WordLaws.{code-small, swept-start, on-reach, swept-on, swept-end}
 use Rattle.enzyme_words.proofs.filling.sweep.Statement.{statement}
 use Rattle.enzyme_words.proofs.filling.sweep.Tie as tie
 
 abbrev Inv-loop : tie.InvT-loop
-Inv-loop letters q m far₀ count n i₀ r₀ far i r = (length far ≡ length far₀) × (i ≤ length letters) × Swept letters q m i far r
+Inv-loop letters q m far₀ count n i₀ r₀ far i r = (length far ≡ length far₀) × (i ≤ length letters) × StartsSwept letters q m i far r
 
 abbrev μ-loop : tie.MeasureT-loop
 μ-loop letters q m far₀ count n i₀ r₀ far i r = i
 
-add-r : tie.Need-add-r Inv-loop μ-loop
-add-r c = omega arith
-
 loop-holds : tie.Need-loop-holds Inv-loop μ-loop
 loop-holds c = let a = c .before .before .before .args in (refl, omega arith, swept-start (now (a .letters)) (a .q) (a .m) (now (a .far)) (c .before .before .before .pre .6))
-
-sub-i : tie.Need-sub-i Inv-loop μ-loop
-sub-i c = omega arith
-
-mul-end-at : tie.Need-mul-end-at Inv-loop μ-loop
-mul-end-at c = omega arith
-
-slice-read-end-at : tie.Need-slice-read-end-at Inv-loop μ-loop
-slice-read-end-at c = omega arith
 
 end-at-requires : tie.Need-end-at-requires Inv-loop μ-loop
 end-at-requires c κs =
@@ -55,15 +43,6 @@ sub-x-2 c = let h = ends c in omega arith
 cast-x : tie.Need-cast-x Inv-loop μ-loop
 cast-x c = let h = ends c in omega arith
 
-mul-far : tie.Need-mul-far Inv-loop μ-loop
-mul-far c = omega arith
-
-slice-write-far : tie.Need-slice-write-far Inv-loop μ-loop
-slice-write-far c = omega arith
-
-loop-less : tie.Need-loop-less Inv-loop μ-loop
-loop-less c = omega arith
-
 loop-again : tie.Need-loop-again Inv-loop μ-loop
 loop-again c =
     let a = c .before .before .before .before .before .before .before .args in
@@ -74,30 +53,11 @@ loop-again c =
       swept-on (now (a .letters)) (a .q) (a .m) (p .0) (now (a .count)) (p .7) (l .i) (l .i - 1) (l .far) (l .r) (l .inv .2) (omega arith) (omega arith) (c .end-at .result) (c .end-at .ensures),
     )
 
-same-length : tie.Need-same-length Inv-loop μ-loop
-same-length c = omega arith
-
 returns : tie.Need-returns Inv-loop μ-loop
 returns c = let l = c .before .loop in swept-end (now (c .before .before .before .before .before .args .letters)) (c .before .before .before .before .before .args .q) (c .before .before .before .before .before .args .m) (l .i) (l .far) (l .r) (omega arith) (l .inv .2)
 
 pub sweep-spec : {M : Type 1} → statement M
 sweep-spec =
-    tie.close
-    (tie.spec
-    Inv-loop
-    μ-loop
-    add-r
-    loop-holds
-    sub-i
-    mul-end-at
-    slice-read-end-at
-    end-at-requires
-    sub-x
-    sub-x-2
-    cast-x
-    mul-far
-    slice-write-far
-    loop-less
-    loop-again
-    same-length
-    returns)
+    tie.close (tie.spec Inv-loop μ-loop (λ c. omega arith) loop-holds (λ c. omega arith) (λ c. omega arith)
+    (λ c. omega arith) end-at-requires sub-x sub-x-2 cast-x (λ c. omega arith) (λ c. omega arith)
+    (λ c. omega arith) loop-again (λ c. omega arith) returns)

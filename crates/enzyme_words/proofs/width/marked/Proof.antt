@@ -13,37 +13,10 @@ Inv-loop seen kinds₀ i₀ kinds i = (i ≤ 26) × (kinds ≤ i)
 abbrev μ-loop : tie.MeasureT-loop
 μ-loop seen kinds₀ i₀ kinds i = 26 - i
 
-loop-holds : tie.Need-loop-holds Inv-loop μ-loop
-loop-holds c = omega arith
-
-element-copy-out-if1 : tie.Need-element-copy-out-if1 Inv-loop μ-loop
-element-copy-out-if1 c = omega arith
-
-add-kinds : tie.Need-add-kinds Inv-loop μ-loop
-add-kinds c = omega arith
-
-add-i : tie.Need-add-i Inv-loop μ-loop
-add-i c = omega arith
-
-loop-less : tie.Need-loop-less Inv-loop μ-loop
-loop-less c = omega arith
-
 loop-again : tie.Need-loop-again Inv-loop μ-loop
 loop-again c = ⊎-elim (λ w. omega arith) (λ w. omega arith) (c .if1 .came)
 
-returns : tie.Need-returns Inv-loop μ-loop
-returns c = omega arith
-
 pub marked-spec : {M : Type 1} → statement M
 marked-spec =
-    tie.close
-    (tie.spec
-    Inv-loop
-    μ-loop
-    loop-holds
-    element-copy-out-if1
-    add-kinds
-    add-i
-    loop-less
-    loop-again
-    returns)
+    tie.close (tie.spec Inv-loop μ-loop (λ c. omega arith) (λ c. omega arith) (λ c. omega arith)
+    (λ c. omega arith) (λ c. omega arith) loop-again (λ c. omega arith))

@@ -3,10 +3,7 @@ use borrow.Author.Needs.{needs}
 use Rattle.modification_rules.proofs.rule.put_rule.Statement.{statement}
 use Rattle.modification_rules.proofs.rule.put_rule.Tie as tie
 
-returns : tie.Need-returns
-returns c = cc
-
 pub put-rule-spec : {M : Type 1} → statement M
 put-rule-spec =
     tie.close (tie.spec (λ c κs. search needs) (λ c κs. search needs) (λ c κs. search needs)
-    (λ c κs. search needs) (λ c κs. search needs) (λ c. search needs) returns)
+    (λ c κs. search needs) (λ c κs. search needs) (λ c. search needs) (λ c. cc))

@@ -3,11 +3,8 @@ use borrow.Author.Needs.{needs}
 use Rattle.modification_rules.proofs.rule.rule_at.Statement.{statement}
 use Rattle.modification_rules.proofs.rule.rule_at.Tie as tie
 
-returns : tie.Need-returns
-returns c = cc
-
 pub rule-at-spec : {M : Type 1} → statement M
 rule-at-spec =
     tie.close (tie.spec (λ c. search needs) (λ c κs. search needs) (λ c. search needs) (λ c κs. search needs)
     (λ c κs. search needs) (λ c. search needs) (λ c κs. search needs) (λ c. search needs) (λ c κs. search needs)
-    returns)
+    (λ c. cc))

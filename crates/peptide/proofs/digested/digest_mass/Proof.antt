@@ -9,7 +9,7 @@ use Rattle.peptide_mass.specs.Masses.{weighed}
 use Rattle.peptide_digests.specs.DigestTests.{testedDigest}
 use Rattle.records.specs.declared.refusal.Tested.{Tested}
 use Rattle.peptide.specs.declared.making.Peptide.{Peptide}
-use Rattle.peptide.specs.Peptides.{lettersOf}
+use Rattle.peptide.specs.Peptides.{residuesOf}
 use Rattle.peptide.specs.PeptideLaws.{passed-fits}
 use Rattle.peptide.specs.Digested.{digested}
 use Rattle.peptide.specs.DigestedLaws.{made-tested, made-digested, mass-refused, digested-passes, digested-mass}
@@ -48,7 +48,7 @@ returns-2 c =
     let p = b .before .before .of-digest .result .peptide in
     c .base-mass .ensures
     ∙ ap (λ (k : ℕ). weighed (take k (p .letters)) (now (a .masses)) (a .water)) (sub-zero (p .len))
-    ∙ ap (λ (q : Peptide). weighed (lettersOf q) (now (a .masses)) (a .water)) (is b)
+    ∙ ap (λ (q : Peptide). weighed (residuesOf q) (now (a .masses)) (a .water)) (is b)
     ∙ digested-mass (now (a .letters)) (now (a .bytes)) (now (a .masses)) (passed b) (a .water)
 
 pub digest-mass-spec : {M : Type 1} → statement M

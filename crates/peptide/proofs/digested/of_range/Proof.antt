@@ -3,7 +3,7 @@ use Prim.Native.Nat.{_≤_}
 use mathlib.Core.Path.{sym, ap, _∙_, subst}
 use denote.Ref.{now}
 use Rattle.peptide.specs.declared.making.Peptide.{Peptide}
-use Rattle.peptide.specs.Peptides.{reversed}
+use Rattle.peptide.specs.Peptides.{reversedPeptide}
 use Rattle.peptide.specs.DigestedLaws.{range-decoy, range-target}
 use borrow.Author.Needs.{needs}
 use Rattle.peptide.proofs.digested.of_range.Statement.{statement}
@@ -15,7 +15,7 @@ turned-requires c κs = subst (λ (p : Peptide). p .len ≤ 64) (sym (c .before 
 returns : tie.Need-returns
 returns c =
     let a = c .before .before .before .before .before .args in
-    c .turned .ensures ∙ ap reversed (c .before .before .given .ensures) ∙ range-decoy (now (a .part)) (a .position) (a .decoy) (c .before .if1 .taken)
+    c .turned .ensures ∙ ap reversedPeptide (c .before .before .given .ensures) ∙ range-decoy (now (a .part)) (a .position) (a .decoy) (c .before .if1 .taken)
 
 returns-2 : tie.Need-returns-2
 returns-2 c =

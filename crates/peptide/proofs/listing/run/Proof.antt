@@ -9,7 +9,7 @@ use lib.ListN.{length, take, length-replicate}
 use Rattle.records.specs.Room.{counted}
 use Rattle.peptide_forms.specs.Enumeration.{mostForms}
 use Rattle.peptide_slots.specs.Used.{used}
-use Rattle.peptide_forms.specs.Packed.{choices}
+use Rattle.peptide_forms.specs.Packed.{packedChoices}
 use Rattle.peptide_forms.specs.RunLaws.{quick}
 use Rattle.peptide.specs.PackedLaws.{packedSites}
 use Rattle.peptide.specs.FormLaws.{by-table}
@@ -31,7 +31,7 @@ returns c =
     let n : length (a .p .ids) ≡ 64 = search (needs, c .before .before .before .before .before .before .before .before .before .before .before .before .before .before .before .before .before .good .0) in
     let e : sites ≡ used (now (a .variable)) (packedSites (a .p) (now (a .variable))) = ap (λ (z : ℕ). take z (k .last .1 .1 .1 .1 .0)) (sub-zero (k .result)) ∙ k .ensures .1 in
     c .before .before .list-all .ensures
-    ∙ ap (λ (z : List ℕ). counted 66 mostForms (now (a .out)) (map (quick z table sites (now (a .variable))) (choices sites (now (a .variable)) (a .limit) (a .cap)))) (c .before .before .before .before .before .before .before .before .before .bare .ensures)
+    ∙ ap (λ (z : List ℕ). counted 66 mostForms (now (a .out)) (map (quick z table sites (now (a .variable))) (packedChoices sites (now (a .variable)) (a .limit) (a .cap)))) (c .before .before .before .before .before .before .before .before .before .bare .ensures)
     ∙ ap (counted 66 mostForms (now (a .out))) (by-table (a .p) (now (a .variable)) (now (a .fixed)) sites table (a .limit) (a .cap) n e (c .before .before .before .before .before .before .before .before .before .before .fixed-table .ensures))
 
 pub run-spec : {M : Type 1} → statement M

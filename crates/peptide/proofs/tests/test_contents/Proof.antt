@@ -5,7 +5,7 @@ use native.Mathlib.Omega.{arith}
 use native.Mathlib.Nat.{sub-zero}
 use lib.ListN.{length, take}
 use Rattle.letters.specs.Letters.{firstBad}
-use Rattle.peptide.specs.Peptides.{lettersOf}
+use Rattle.peptide.specs.Peptides.{residuesOf}
 use Rattle.peptide.specs.PeptideLaws.{contents-letter, contents-clear, contents-field}
 use borrow.Author.Needs.{needs}
 use Rattle.peptide.proofs.tests.test_contents.Statement.{statement}
@@ -15,7 +15,7 @@ part-first-bad-end : tie.Need-part-first-bad-end
 part-first-bad-end c = let n : length (c .before .before .before .args .p .letters) ≡ 64 = search needs in omega (arith, c .before .before .before .pre)
 
 -- the place that was found is that of the peptide's letters
-found : (c : tie.After-first-bad) → c .first-bad .result ≡ firstBad (lettersOf (c .before .before .before .before .before .args .p))
+found : (c : tie.After-first-bad) → c .first-bad .result ≡ firstBad (residuesOf (c .before .before .before .before .before .args .p))
 found c =
     let p = c .before .before .before .before .before .args .p in
     c .first-bad .ensures ∙ ap (λ (k : ℕ). firstBad (take k (p .letters))) (sub-zero (p .len))

@@ -2,7 +2,7 @@
 use mathlib.Core.Path.{sym, _∙_}
 use denote.Ref.{now}
 use Rattle.peptide_listing.specs.FormTestLaws.{sizes-fit}
-use Rattle.peptide.specs.FormLaws.{tested-large, tested-whole, tested-contents, tested-lists}
+use Rattle.peptide.specs.FormLaws.{forms-tested-large, forms-tested-whole, forms-tested-contents, forms-tested-lists}
 use borrow.Author.Needs.{needs}
 use Rattle.peptide.proofs.tests.test_forms.Statement.{statement}
 use Rattle.peptide.proofs.tests.test_forms.Tie as tie
@@ -10,12 +10,12 @@ use Rattle.peptide.proofs.tests.test_forms.Tie as tie
 returns : tie.Need-returns
 returns c =
     let a = c .before .before .before .before .args in
-    tested-large (a .p) (now (a .variable)) (now (a .fixed)) (a .limit) (sym (c .before .too-large .ensures) ∙ c .if1 .taken)
+    forms-tested-large (a .p) (now (a .variable)) (now (a .fixed)) (a .limit) (sym (c .before .too-large .ensures) ∙ c .if1 .taken)
 
 returns-2 : tie.Need-returns-2
 returns-2 c =
     let a = c .before .before .before .before .before .before .args in
-    tested-whole (a .p) (now (a .variable)) (now (a .fixed)) (a .limit) (sym (c .before .before .before .too-large .ensures) ∙ c .before .before .if1 .left) (sym (c .before .not-whole .ensures) ∙ c .if2 .taken)
+    forms-tested-whole (a .p) (now (a .variable)) (now (a .fixed)) (a .limit) (sym (c .before .before .before .too-large .ensures) ∙ c .before .before .if1 .left) (sym (c .before .not-whole .ensures) ∙ c .if2 .taken)
 
 test-contents-requires : tie.Need-test-contents-requires
 test-contents-requires c κs =
@@ -25,12 +25,12 @@ test-contents-requires c κs =
 returns-3 : tie.Need-returns-3
 returns-3 c =
     let a = c .before .before .before .before .before .before .before .before .before .before .args in
-    tested-contents (a .p) (now (a .variable)) (now (a .fixed)) (a .limit) (sym (c .before .before .before .before .before .before .before .too-large .ensures) ∙ c .before .before .before .before .before .before .if1 .left) (sym (c .before .before .before .before .before .not-whole .ensures) ∙ c .before .before .before .before .if2 .left) _ (sym (c .before .why .given .1) ∙ c .before .before .before .test-contents .ensures)
+    forms-tested-contents (a .p) (now (a .variable)) (now (a .fixed)) (a .limit) (sym (c .before .before .before .before .before .before .before .too-large .ensures) ∙ c .before .before .before .before .before .before .if1 .left) (sym (c .before .before .before .before .before .not-whole .ensures) ∙ c .before .before .before .before .if2 .left) _ (sym (c .before .why .given .1) ∙ c .before .before .before .test-contents .ensures)
 
 returns-4 : tie.Need-returns-4
 returns-4 c =
     let a = c .before .before .before .before .before .before .before .before .before .before .args in
-    tested-lists (a .p) (now (a .variable)) (now (a .fixed)) (a .limit) (sym (c .before .before .before .before .before .before .before .too-large .ensures) ∙ c .before .before .before .before .before .before .if1 .left) (sym (c .before .before .before .before .before .not-whole .ensures) ∙ c .before .before .before .before .if2 .left) (c .test-lists .result) (sym (c .before .enum-told .given .1) ∙ c .before .before .before .test-contents .ensures) (c .test-lists .ensures)
+    forms-tested-lists (a .p) (now (a .variable)) (now (a .fixed)) (a .limit) (sym (c .before .before .before .before .before .before .before .too-large .ensures) ∙ c .before .before .before .before .before .before .if1 .left) (sym (c .before .before .before .before .before .not-whole .ensures) ∙ c .before .before .before .before .if2 .left) (c .test-lists .result) (sym (c .before .enum-told .given .1) ∙ c .before .before .before .test-contents .ensures) (c .test-lists .ensures)
 
 pub test-forms-spec : {M : Type 1} → statement M
 test-forms-spec =

@@ -18,35 +18,8 @@ abbrev μ-loop : tie.MeasureT-loop
 loop-holds : tie.Need-loop-holds Inv-loop μ-loop
 loop-holds c = (omega arith, λ j p q. absurd (omega arith))
 
-sub-a : tie.Need-sub-a Inv-loop μ-loop
-sub-a c = omega arith
-
-mul-a : tie.Need-mul-a Inv-loop μ-loop
-mul-a c = omega arith
-
-array-read-a : tie.Need-array-read-a Inv-loop μ-loop
-array-read-a c = omega arith
-
-sub-if2 : tie.Need-sub-if2 Inv-loop μ-loop
-sub-if2 c = omega arith
-
-sub-if2-2 : tie.Need-sub-if2-2 Inv-loop μ-loop
-sub-if2-2 c = omega arith
-
-sub-if2-3 : tie.Need-sub-if2-3 Inv-loop μ-loop
-sub-if2-3 c = omega arith
-
-sub-result : tie.Need-sub-result Inv-loop μ-loop
-sub-result c = omega arith
-
 returns : tie.Need-returns Inv-loop μ-loop
 returns c = (omega arith, ((λ g. (omega arith, omega arith)), λ j p q. c .before .before .before .loop .inv .1 j (⊎-elim (λ x. omega arith) (λ x. omega arith) p) q))
-
-sub-i : tie.Need-sub-i Inv-loop μ-loop
-sub-i c = omega arith
-
-loop-less : tie.Need-loop-less Inv-loop μ-loop
-loop-less c = omega arith
 
 -- one place more
 lower : (e n m i : ℕ) (xs : List ℕ) → 0 < i → m ≤ getD xs (i - 1) 0 + (n - (i - 1)) → ((j : ℕ) → i ≤ j → j < e → m ≤ getD xs j 0 + (n - j)) → (j : ℕ) → i - 1 ≤ j → j < e → m ≤ getD xs j 0 + (n - j)
@@ -67,20 +40,6 @@ returns-2 c = (omega arith, ((λ g. absurd (omega arith)), λ j p q. c .before .
 
 pub movable-spec : {M : Type 1} → statement M
 movable-spec =
-    tie.close
-    (tie.spec
-    Inv-loop
-    μ-loop
-    loop-holds
-    sub-a
-    mul-a
-    array-read-a
-    sub-if2
-    sub-if2-2
-    sub-if2-3
-    sub-result
-    returns
-    sub-i
-    loop-less
-    loop-again
-    returns-2)
+    tie.close (tie.spec Inv-loop μ-loop loop-holds (λ c. omega arith) (λ c. omega arith) (λ c. omega arith)
+    (λ c. omega arith) (λ c. omega arith) (λ c. omega arith) (λ c. omega arith) returns (λ c. omega arith)
+    (λ c. omega arith) loop-again returns-2)

@@ -19,12 +19,6 @@ Inv-loop i n m out₀ v₀ j₀ out v j =
 abbrev μ-loop : tie.MeasureT-loop
 μ-loop i n m out₀ v₀ j₀ out v j = n - j
 
-mul-v : tie.Need-mul-v Inv-loop μ-loop
-mul-v c = omega arith
-
-array-read-v : tie.Need-array-read-v Inv-loop μ-loop
-array-read-v c = omega arith
-
 -- one place more
 one-more : (xs : List ℕ) (i j a : ℕ) → i ≤ j → j < length xs
     → set (take i xs ++ (upFrom (suc a) (j - i) ++ drop j xs)) j (a + (j - i) + 1) ≡ take i xs ++ (upFrom (suc a) (j + 1 - i) ++ drop (j + 1) xs)
@@ -49,21 +43,6 @@ loop-holds c =
     let e : c .args .i - c .args .i ≡ 0 = omega arith in
     (omega arith, omega arith, omega arith, rw e (sym (take-append-drop (c .args .i) (c .args .t1))))
 
-add-v : tie.Need-add-v Inv-loop μ-loop
-add-v c = omega arith
-
-mul-out : tie.Need-mul-out Inv-loop μ-loop
-mul-out c = omega arith
-
-array-write-out : tie.Need-array-write-out Inv-loop μ-loop
-array-write-out c = omega arith
-
-add-j : tie.Need-add-j Inv-loop μ-loop
-add-j c = omega arith
-
-loop-less : tie.Need-loop-less Inv-loop μ-loop
-loop-less c = omega arith
-
 loop-again : tie.Need-loop-again Inv-loop μ-loop
 loop-again c =
     let xs = c .before .before .args .t1 in
@@ -86,17 +65,5 @@ returns c =
 
 pub refilled-spec : {M : Type 1} → statement M
 refilled-spec =
-    tie.close
-    (tie.spec
-    Inv-loop
-    μ-loop
-    mul-v
-    array-read-v
-    loop-holds
-    add-v
-    mul-out
-    array-write-out
-    add-j
-    loop-less
-    loop-again
-    returns)
+    tie.close (tie.spec Inv-loop μ-loop (λ c. omega arith) (λ c. omega arith) loop-holds (λ c. omega arith)
+    (λ c. omega arith) (λ c. omega arith) (λ c. omega arith) (λ c. omega arith) loop-again returns)

@@ -5,14 +5,14 @@ use mathlib.Core.List.{List}
 use native.Mathlib.Omega.{arith}
 use lib.ListN.{length, take, drop}
 use borrow.Author.Needs.{needs}
-use Rattle.peptide_forms.specs.Packed.{chosen}
+use Rattle.peptide_forms.specs.Packed.{packedChosen}
 use Rattle.peptide_forms.specs.RunLaws.{chosen-end, chosen-on}
 use Rattle.peptide_slots.specs.Filling.{apply}
 use Rattle.peptide_forms.proofs.listing.with_choice.Statement.{statement}
 use Rattle.peptide_forms.proofs.listing.with_choice.Tie as tie
 
 abbrev Inv-loop : tie.InvT-loop
-Inv-loop sites rules n at out₀ j₀ out j = (j ≤ n) × (apply rules (out .slots) (drop j (chosen sites (take n at))) ≡ apply rules (out₀ .slots) (chosen sites (take n at)))
+Inv-loop sites rules n at out₀ j₀ out j = (j ≤ n) × (apply rules (out .slots) (drop j (packedChosen sites (take n at))) ≡ apply rules (out₀ .slots) (packedChosen sites (take n at)))
 
 abbrev μ-loop : tie.MeasureT-loop
 μ-loop sites rules n at out₀ j₀ out j = n - j
@@ -20,25 +20,13 @@ abbrev μ-loop : tie.MeasureT-loop
 loop-holds : tie.Need-loop-holds Inv-loop μ-loop
 loop-holds c = (omega arith, refl)
 
-mul-site-at : tie.Need-mul-site-at Inv-loop μ-loop
-mul-site-at c = omega arith
-
-array-read-site-at : tie.Need-array-read-site-at Inv-loop μ-loop
-array-read-site-at c = omega arith
-
-add-j : tie.Need-add-j Inv-loop μ-loop
-add-j c = omega arith
-
-loop-less : tie.Need-loop-less Inv-loop μ-loop
-loop-less c = omega arith
-
 loop-again : tie.Need-loop-again Inv-loop μ-loop
 loop-again c =
     let a = c .before .before .before .before .before .before .before .args in
     let l = c .before .before .before .loop in
     let n : length (a .c .at) ≡ 8 = search needs in (
       omega arith,
-      (ap (λ (z : List ℕ). apply (a .rules .now) z (drop (l .j + 1) (chosen (a .sites .now) (take (a .c .n) (a .c .at))))) (c .fill-site .ensures)
+      (ap (λ (z : List ℕ). apply (a .rules .now) z (drop (l .j + 1) (packedChosen (a .sites .now) (take (a .c .n) (a .c .at))))) (c .fill-site .ensures)
           ∙ chosen-on (a .rules .now) (l .out .slots) (a .sites .now) (a .c .at) (a .c .n) (l .j) (c .before .site-at .result) (omega arith) (c .before .before .loop-test .taken) (c .before .site-at .ensures)
           ∙ l .inv .1),
     )
@@ -52,5 +40,5 @@ returns c =
 
 pub with-choice-spec : {M : Type 1} → statement M
 with-choice-spec =
-    tie.close (tie.spec Inv-loop μ-loop loop-holds mul-site-at array-read-site-at (λ c κs. search needs)
-    (λ c κs. search needs) add-j loop-less loop-again returns)
+    tie.close (tie.spec Inv-loop μ-loop loop-holds (λ c. omega arith) (λ c. omega arith) (λ c κs. search needs)
+    (λ c κs. search needs) (λ c. omega arith) (λ c. omega arith) loop-again returns)

@@ -19,9 +19,6 @@ abbrev μ-loop : tie.MeasureT-loop
 loop-holds : tie.Need-loop-holds Inv-loop μ-loop
 loop-holds c = (omega arith, refl)
 
-shared-slice-read-k : tie.Need-shared-slice-read-k Inv-loop μ-loop
-shared-slice-read-k c = omega arith
-
 sub-k : tie.Need-sub-k Inv-loop μ-loop
 sub-k c = omega (arith, c .before .before .before .pre .1 (c .before .before .loop .i) (c .before .loop-test .taken))
 
@@ -33,12 +30,6 @@ mul-mass c = omega (arith, c .shared-slice-known .given (c .before .before .loop
 
 shared-slice-read-mass : tie.Need-shared-slice-read-mass Inv-loop μ-loop
 shared-slice-read-mass c = omega (arith, c .before .before .before .before .pre .1 (c .before .before .before .loop .i) (c .before .before .loop-test .taken))
-
-add-i : tie.Need-add-i Inv-loop μ-loop
-add-i c = omega arith
-
-loop-less : tie.Need-loop-less Inv-loop μ-loop
-loop-less c = omega arith
 
 loop-again : tie.Need-loop-again Inv-loop μ-loop
 loop-again c =
@@ -54,17 +45,5 @@ returns c =
 
 pub sum-spec : {M : Type 1} → statement M
 sum-spec =
-    tie.close
-    (tie.spec
-    Inv-loop
-    μ-loop
-    loop-holds
-    shared-slice-read-k
-    sub-k
-    cast-k
-    mul-mass
-    shared-slice-read-mass
-    add-i
-    loop-less
-    loop-again
-    returns)
+    tie.close (tie.spec Inv-loop μ-loop loop-holds (λ c. omega arith) sub-k cast-k mul-mass shared-slice-read-mass
+    (λ c. omega arith) (λ c. omega arith) loop-again returns)

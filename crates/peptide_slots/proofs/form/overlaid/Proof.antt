@@ -23,21 +23,6 @@ abbrev μ-loop : tie.MeasureT-loop
 loop-holds : tie.Need-loop-holds Inv-loop μ-loop
 loop-holds c = (omega arith, upto-none _ _)
 
-array-read-filled : tie.Need-array-read-filled Inv-loop μ-loop
-array-read-filled c = omega arith
-
-array-read-filled-2 : tie.Need-array-read-filled-2 Inv-loop μ-loop
-array-read-filled-2 c = omega arith
-
-array-write-slots : tie.Need-array-write-slots Inv-loop μ-loop
-array-write-slots c = omega arith
-
-add-k : tie.Need-add-k Inv-loop μ-loop
-add-k c = omega arith
-
-loop-less : tie.Need-loop-less Inv-loop μ-loop
-loop-less c = omega arith
-
 loop-again : tie.Need-loop-again Inv-loop μ-loop
 loop-again c =
     let a = c .before .before .before .before .before .args in
@@ -55,5 +40,5 @@ returns c =
 
 pub overlaid-spec : {M : Type 1} → statement M
 overlaid-spec =
-    tie.close (tie.spec Inv-loop μ-loop loop-holds array-read-filled array-read-filled-2 (λ c κs. search needs)
-    array-write-slots add-k loop-less loop-again returns)
+    tie.close (tie.spec Inv-loop μ-loop loop-holds (λ c. omega arith) (λ c. omega arith) (λ c κs. search needs)
+    (λ c. omega arith) (λ c. omega arith) (λ c. omega arith) loop-again returns)

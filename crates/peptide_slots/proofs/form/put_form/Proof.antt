@@ -4,7 +4,7 @@ use mathlib.Core.Path.{_≡_, refl}
 use native.Mathlib.Omega.{arith}
 use lib.ListN.{length, take, length-set}
 use borrow.Author.Needs.{needs}
-use Rattle.peptide_slots.specs.WroteLaws.{Wrote, copy-all, copy-more, copy-none}
+use Rattle.peptide_slots.specs.WroteLaws.{Wrote, copy-into-all, copy-into-more, copy-into-none}
 use Rattle.peptide_slots.proofs.form.put_form.Statement.{statement}
 use Rattle.peptide_slots.proofs.form.put_form.Tie as tie
 
@@ -15,52 +15,23 @@ abbrev μ-loop : tie.MeasureT-loop
 μ-loop out₀ from slots j₀ out j = 66 - j
 
 loop-holds : tie.Need-loop-holds Inv-loop μ-loop
-loop-holds c = (omega arith, refl, copy-none _ _ (c .before .args .form .slots))
-
-array-read-out : tie.Need-array-read-out Inv-loop μ-loop
-array-read-out c = omega arith
-
-add-out : tie.Need-add-out Inv-loop μ-loop
-add-out c = omega arith
-
-slice-write-out : tie.Need-slice-write-out Inv-loop μ-loop
-slice-write-out c = omega arith
-
-add-j : tie.Need-add-j Inv-loop μ-loop
-add-j c = omega arith
-
-loop-less : tie.Need-loop-less Inv-loop μ-loop
-loop-less c = omega arith
+loop-holds c = (omega arith, refl, copy-into-none _ _ (c .before .args .form .slots))
 
 loop-again : tie.Need-loop-again Inv-loop μ-loop
 loop-again c =
     let a = c .before .before .before .args in
     let l = c .before .loop in
     let n : length (a .form .slots) ≡ 66 = search needs in
-    (omega arith, simp length-set (l .inv .1), copy-more (a .out .now) (a .from) (a .form .slots) (l .out) (l .j) (omega arith) (l .inv .2))
-
-same-length : tie.Need-same-length Inv-loop μ-loop
-same-length c = c .before .loop .inv .1
+    (omega arith, simp length-set (l .inv .1), copy-into-more (a .out .now) (a .from) (a .form .slots) (l .out) (l .j) (omega arith) (l .inv .2))
 
 returns : tie.Need-returns Inv-loop μ-loop
 returns c =
     let a = c .before .before .before .args in
     let l = c .before .loop in
     let n : length (a .form .slots) ≡ 66 = search needs in
-    copy-all (a .out .now) (a .from) (a .form .slots) (l .out) (l .j) (omega arith) (l .inv .2)
+    copy-into-all (a .out .now) (a .from) (a .form .slots) (l .out) (l .j) (omega arith) (l .inv .2)
 
 pub put-form-spec : {M : Type 1} → statement M
 put-form-spec =
-    tie.close
-    (tie.spec
-    Inv-loop
-    μ-loop
-    loop-holds
-    array-read-out
-    add-out
-    slice-write-out
-    add-j
-    loop-less
-    loop-again
-    same-length
-    returns)
+    tie.close (tie.spec Inv-loop μ-loop loop-holds (λ c. omega arith) (λ c. omega arith) (λ c. omega arith)
+    (λ c. omega arith) (λ c. omega arith) loop-again (λ c. c .before .loop .inv .1) returns)

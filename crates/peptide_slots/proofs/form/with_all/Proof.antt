@@ -19,18 +19,6 @@ abbrev μ-loop : tie.MeasureT-loop
 loop-holds : tie.Need-loop-holds Inv-loop μ-loop
 loop-holds c = refl
 
-mul-fill-site : tie.Need-mul-fill-site Inv-loop μ-loop
-mul-fill-site c = omega arith
-
-shared-slice-read-fill-site : tie.Need-shared-slice-read-fill-site Inv-loop μ-loop
-shared-slice-read-fill-site c = omega arith
-
-add-j : tie.Need-add-j Inv-loop μ-loop
-add-j c = omega arith
-
-loop-less : tie.Need-loop-less Inv-loop μ-loop
-loop-less c = omega arith
-
 loop-again : tie.Need-loop-again Inv-loop μ-loop
 loop-again c =
     let a = c .before .before .before .before .before .before .args in
@@ -47,5 +35,5 @@ returns c =
 
 pub with-all-spec : {M : Type 1} → statement M
 with-all-spec =
-    tie.close (tie.spec Inv-loop μ-loop loop-holds mul-fill-site shared-slice-read-fill-site
-    (λ c κs. search needs) add-j loop-less loop-again returns)
+    tie.close (tie.spec Inv-loop μ-loop loop-holds (λ c. omega arith) (λ c. omega arith) (λ c κs. search needs)
+    (λ c. omega arith) (λ c. omega arith) loop-again returns)

@@ -9,17 +9,17 @@ use borrow.Author.Needs.{needs}
 use lib.ListN.{length, getD, set, length-set}
 use lib.Seq.{getD-set-same, getD-set-other}
 use Rattle.peptide_slots.specs.Mirror.{mirror}
-use Rattle.peptide_slots.specs.MirrorLaws.{Turned, mirror-turned, turned-one, until}
+use Rattle.peptide_slots.specs.MirrorLaws.{MirroredTo, mirror-turned, mirrored-one, until}
 use Rattle.peptide_slots.proofs.mirror.mirrored.Statement.{statement}
 use Rattle.peptide_slots.proofs.mirror.mirrored.Tie as tie
 
 abbrev Inv-loop : tie.InvT-loop
-Inv-loop n xs out₀ i₀ out i = (1 ≤ i) × (i ≤ until n) × Turned n i xs out
+Inv-loop n xs out₀ i₀ out i = (1 ≤ i) × (i ≤ until n) × MirroredTo n i xs out
 
 abbrev μ-loop : tie.MeasureT-loop
 μ-loop n xs out₀ i₀ out i = n - i
 
-one-more : (n i : ℕ) (xs out : List ℕ) → 1 ≤ i → i < length xs → Turned n i xs out → Turned n (i + 1) xs (set out i (getD xs (n - 1 - i) 0))
+one-more : (n i : ℕ) (xs out : List ℕ) → 1 ≤ i → i < length xs → MirroredTo n i xs out → MirroredTo n (i + 1) xs (set out i (getD xs (n - 1 - i) 0))
 one-more n i xs out a b t = record { len = length-set out i v ∙ t .len; inner = inn; outer = outn }
   where
     v : ℕ
@@ -42,27 +42,6 @@ one-more n i xs out a b t = record { len = length-set out i v ∙ t .len; inner 
 loop-holds : tie.Need-loop-holds Inv-loop μ-loop
 loop-holds c = (omega arith, omega arith, record { len = refl; inner = λ k p q. absurd (omega arith); outer = λ k p. refl })
 
-add-loop : tie.Need-add-loop Inv-loop μ-loop
-add-loop c = omega arith
-
-sub-out : tie.Need-sub-out Inv-loop μ-loop
-sub-out c = omega arith
-
-sub-out-2 : tie.Need-sub-out-2 Inv-loop μ-loop
-sub-out-2 c = omega arith
-
-array-read-out : tie.Need-array-read-out Inv-loop μ-loop
-array-read-out c = omega arith
-
-array-write-out : tie.Need-array-write-out Inv-loop μ-loop
-array-write-out c = omega arith
-
-add-i : tie.Need-add-i Inv-loop μ-loop
-add-i c = omega arith
-
-loop-less : tie.Need-loop-less Inv-loop μ-loop
-loop-less c = omega arith
-
 loop-again : tie.Need-loop-again Inv-loop μ-loop
 loop-again c = (omega arith, omega arith, one-more _ _ _ _ (c .before .loop .inv .0) (let l : length (c .before .before .args .t1) ≡ 64 = search needs in omega arith) (c .before .loop .inv .2))
 
@@ -72,21 +51,9 @@ returns c =
     let n = c .before .before .args .n in
     let xs = c .before .before .args .t1 in
     let e : c .before .loop .i ≡ until n = omega arith in
-    turned-one n (c .before .loop .i) xs (c .before .loop .out) (mirror n xs) (c .before .loop .inv .2) (rw e (mirror-turned n xs (omega arith)))
+    mirrored-one n (c .before .loop .i) xs (c .before .loop .out) (mirror n xs) (c .before .loop .inv .2) (rw e (mirror-turned n xs (omega arith)))
 
 pub mirrored-spec : {M : Type 1} → statement M
 mirrored-spec =
-    tie.close
-    (tie.spec
-    Inv-loop
-    μ-loop
-    loop-holds
-    add-loop
-    sub-out
-    sub-out-2
-    array-read-out
-    array-write-out
-    add-i
-    loop-less
-    loop-again
-    returns)
+    tie.close (tie.spec Inv-loop μ-loop loop-holds (λ c. omega arith) (λ c. omega arith) (λ c. omega arith)
+    (λ c. omega arith) (λ c. omega arith) (λ c. omega arith) (λ c. omega arith) loop-again returns)

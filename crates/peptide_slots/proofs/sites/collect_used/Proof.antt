@@ -5,7 +5,7 @@ use denote.Ref.{now}
 use lib.ListN.{length}
 use Rattle.peptide_slots.specs.Sites.{allSites}
 use Rattle.peptide_slots.specs.SiteLaws.{all-few}
-use Rattle.peptide_slots.specs.UsedLaws.{sifted-taken}
+use Rattle.peptide_slots.specs.UsedLaws.{used-first-taken}
 use Rattle.peptide_slots.specs.WroteLaws.{wrote-length}
 use borrow.Author.Needs.{needs}
 use Rattle.peptide_slots.proofs.sites.collect_used.Statement.{statement}
@@ -26,7 +26,7 @@ returns c =
     let u = c .before .before .keep-used in
     let vs = allSites (a .letters) (a .n) (a .position) (now (a .rules)) in
     let few : length vs ≤ 2112 = all-few (a .letters) (a .n) (a .position) (now (a .rules)) (h .0) (h .1) in
-    let t = sifted-taken (now (a .rules)) vs (now (a .out)) (k .last .1 .1 .1 .1 .0) (u .last .1 .1 .0) (k .result) (u .result) (omega (arith, h .2)) (k .ensures) (u .ensures) in
+    let t = used-first-taken (now (a .rules)) vs (now (a .out)) (k .last .1 .1 .1 .1 .0) (u .last .1 .1 .0) (k .result) (u .result) (omega (arith, h .2)) (k .ensures) (u .ensures) in
     (omega (arith, t .0), t .1)
 
 pub collect-used-spec : {M : Type 1} → statement M

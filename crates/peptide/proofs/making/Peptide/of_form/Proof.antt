@@ -6,7 +6,7 @@ use lib.ListN.{length}
 use Rattle.peptide_listing.specs.FormTestLaws.{form-sized}
 use Rattle.peptide_mass.specs.MassLaws.{size-fits}
 use Rattle.peptide.specs.declared.making.Peptide.{Peptide}
-use Rattle.peptide.specs.Peptides.{given}
+use Rattle.peptide.specs.Peptides.{peptideFrom}
 use Rattle.peptide.specs.PeptideLaws.{of-form-refused, of-form-tested, made-refused, made-given}
 use borrow.Author.Needs.{needs}
 use Rattle.peptide.proofs.making.Peptide.of_form.Statement.{statement}
@@ -17,7 +17,7 @@ returns c =
     let a = c .before .before .before .before .before .before .before .args in
     let t = c .before .before .before .before .test-form in
     c .refused .ensures
-    ∙ made-refused _ _ (given (now (a .letters)) (now (a .form)) (a .position) (a .decoy)) (of-form-refused (now (a .letters)) (now (a .form)) (a .position) (a .decoy) (t .result) (t .ensures) _ (c .before .before .why .given .1))
+    ∙ made-refused _ _ (peptideFrom (now (a .letters)) (now (a .form)) (a .position) (a .decoy)) (of-form-refused (now (a .letters)) (now (a .form)) (a .position) (a .decoy) (t .result) (t .ensures) _ (c .before .before .why .given .1))
 
 given-requires : tie.Need-given-requires
 given-requires c κs =
@@ -36,7 +36,7 @@ returns-2 c =
     let p = c .before .before .before .before .before .given in
     let u = c .before .before .before .before .test-contents in
     c .refused2 .ensures
-    ∙ made-refused _ _ (given (now (a .letters)) (now (a .form)) (a .position) (a .decoy)) (of-form-tested (now (a .letters)) (now (a .form)) (a .position) (a .decoy) (t .result) (t .ensures) (c .before .before .before .before .before .before .enum-told .given .1) (p .result) (p .ensures) (u .result) _ (u .ensures) (c .before .before .why2 .given .1))
+    ∙ made-refused _ _ (peptideFrom (now (a .letters)) (now (a .form)) (a .position) (a .decoy)) (of-form-tested (now (a .letters)) (now (a .form)) (a .position) (a .decoy) (t .result) (t .ensures) (c .before .before .before .before .before .before .enum-told .given .1) (p .result) (p .ensures) (u .result) _ (u .ensures) (c .before .before .why2 .given .1))
 
 returns-3 : tie.Need-returns-3
 returns-3 c =
@@ -44,7 +44,7 @@ returns-3 c =
     let t = c .before .before .before .before .before .before .test-form in
     let p = c .before .before .before .given in
     let u = c .before .before .test-contents in
-    made-given _ (given (now (a .letters)) (now (a .form)) (a .position) (a .decoy)) (p .result) (of-form-tested (now (a .letters)) (now (a .form)) (a .position) (a .decoy) (t .result) (t .ensures) (c .before .before .before .before .enum-told .given .1) (p .result) (p .ensures) (u .result) _ (u .ensures) (c .enum-told2 .given .1)) (p .ensures)
+    made-given _ (peptideFrom (now (a .letters)) (now (a .form)) (a .position) (a .decoy)) (p .result) (of-form-tested (now (a .letters)) (now (a .form)) (a .position) (a .decoy) (t .result) (t .ensures) (c .before .before .before .before .enum-told .given .1) (p .result) (p .ensures) (u .result) _ (u .ensures) (c .enum-told2 .given .1)) (p .ensures)
 
 pub of-form-spec : {M : Type 1} → statement M
 of-form-spec =

@@ -3,7 +3,7 @@ use mathlib.Core.Path.{sym, _∙_}
 use mathlib.Core.List.{[]}
 use denote.Ref.{now}
 use Rattle.peptide_mass.specs.MassLaws.{part-fits}
-use Rattle.peptide.specs.Peptides.{given}
+use Rattle.peptide.specs.Peptides.{peptideFrom}
 use Rattle.peptide.specs.PeptideLaws.{made-refused, made-given}
 use borrow.Author.Needs.{needs}
 use Rattle.peptide.proofs.making.Peptide.of_part.Statement.{statement}
@@ -12,7 +12,7 @@ use Rattle.peptide.proofs.making.Peptide.of_part.Tie as tie
 returns : tie.Need-returns
 returns c =
     let a = c .before .before .before .before .before .before .before .args in
-    c .refused .ensures ∙ made-refused _ _ (given (now (a .part)) [] (a .position) (a .decoy)) (sym (c .before .before .before .before .test-part .ensures) ∙ c .before .before .why .given .1)
+    c .refused .ensures ∙ made-refused _ _ (peptideFrom (now (a .part)) [] (a .position) (a .decoy)) (sym (c .before .before .before .before .test-part .ensures) ∙ c .before .before .why .given .1)
 
 given-requires : tie.Need-given-requires
 given-requires c κs =
@@ -22,7 +22,7 @@ given-requires c κs =
 returns-2 : tie.Need-returns-2
 returns-2 c =
     let a = c .before .before .before .before .before .before .before .args in
-    made-given _ (given (now (a .part)) [] (a .position) (a .decoy)) (c .given .result) (sym (c .before .before .before .before .test-part .ensures) ∙ c .before .before .enum-told .given .1) (c .given .ensures)
+    made-given _ (peptideFrom (now (a .part)) [] (a .position) (a .decoy)) (c .given .result) (sym (c .before .before .before .before .test-part .ensures) ∙ c .before .before .enum-told .given .1) (c .given .ensures)
 
 pub of-part-spec : {M : Type 1} → statement M
 of-part-spec =

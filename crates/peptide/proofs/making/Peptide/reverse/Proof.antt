@@ -1,6 +1,6 @@
 -- `Peptide::reverse` meets its contract. Assumes nothing.
 use mathlib.Core.Path.{sym, ap, _∙_}
-use Rattle.peptide.specs.Peptides.{madeOr, reversed}
+use Rattle.peptide.specs.Peptides.{madeOr, reversedPeptide}
 use Rattle.peptide.specs.PeptideLaws.{passed-fits}
 use borrow.Author.Needs.{needs}
 use Rattle.peptide.proofs.making.Peptide.reverse.Statement.{statement}
@@ -9,7 +9,7 @@ use Rattle.peptide.proofs.making.Peptide.reverse.Tie as tie
 returns : tie.Need-returns
 returns c =
     let p = c .before .before .before .before .args .self in
-    ap (λ t. madeOr t (reversed p) p) (sym (c .before .why .given .1) ∙ c .before .before .before .test-peptide .ensures)
+    ap (λ t. madeOr t (reversedPeptide p) p) (sym (c .before .why .given .1) ∙ c .before .before .before .test-peptide .ensures)
 
 turned-requires : tie.Need-turned-requires
 turned-requires c κs = passed-fits (c .before .before .before .args .self) (sym (c .before .before .test-peptide .ensures) ∙ c .enum-told .given .1)

@@ -7,7 +7,7 @@ use borrow.Author.Tests.{lt-leb, le-leb}
 use lib.ListN.{length, drop, set, replicate}
 use Rattle.lists.specs.Lists.{upFrom}
 use Rattle.peptide_choices.specs.StepLaws.{up-more}
-use Rattle.peptide_choices.specs.Steps.{begun, firstOf, steppedTo}
+use Rattle.peptide_choices.specs.Steps.{begunChoice, firstOf, steppedTo}
 use Rattle.peptide_choices.proofs.choice.Choice.first.Statement.{statement}
 use Rattle.peptide_choices.proofs.choice.Choice.first.Tie as tie
 
@@ -18,23 +18,11 @@ abbrev μ-loop : tie.MeasureT-loop
 μ-loop n m at₀ i₀ at i = n - i
 
 returns : tie.Need-returns Inv-loop μ-loop
-unfolding begun steppedTo firstOf
+unfolding begunChoice steppedTo firstOf
 returns c = rw (lt-leb (c .before .args .n) (c .before .args .m) (c .if1 .taken))
 
 loop-holds : tie.Need-loop-holds Inv-loop μ-loop
 loop-holds c = (omega arith, refl)
-
-mul-at : tie.Need-mul-at Inv-loop μ-loop
-mul-at c = omega arith
-
-array-write-at : tie.Need-array-write-at Inv-loop μ-loop
-array-write-at c = omega arith
-
-add-i : tie.Need-add-i Inv-loop μ-loop
-add-i c = omega arith
-
-loop-less : tie.Need-loop-less Inv-loop μ-loop
-loop-less c = omega arith
 
 loop-again : tie.Need-loop-again Inv-loop μ-loop
 loop-again c =
@@ -44,22 +32,12 @@ loop-again c =
     (omega arith, ap (λ (q : List ℕ). set q i i) (c .before .loop .inv .1) ∙ up-more z i h)
 
 returns-2 : tie.Need-returns-2 Inv-loop μ-loop
-unfolding begun steppedTo firstOf
+unfolding begunChoice steppedTo firstOf
 returns-2 c =
     let e : c .before .loop .i ≡ c .before .before .before .args .n = omega arith in
     rw (le-leb (c .before .before .before .args .n) (c .before .before .before .args .m) (c .before .before .if1 .left), c .before .loop .inv .1, e)
 
 pub first-spec : {M : Type 1} → statement M
 first-spec =
-    tie.close
-    (tie.spec
-    Inv-loop
-    μ-loop
-    returns
-    loop-holds
-    mul-at
-    array-write-at
-    add-i
-    loop-less
-    loop-again
-    returns-2)
+    tie.close (tie.spec Inv-loop μ-loop returns loop-holds (λ c. omega arith) (λ c. omega arith)
+    (λ c. omega arith) (λ c. omega arith) loop-again returns-2)

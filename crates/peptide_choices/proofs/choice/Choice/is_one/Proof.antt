@@ -8,7 +8,7 @@ use lib.Dec.{leb, ltb}
 use borrow.Author.Tests.{ltb-true}
 use borrow.Author.Needs.{needs}
 use Rattle.lists.specs.Tests.{both}
-use Rattle.peptide_choices.specs.SuccessorLaws.{Rest, one-ascends, one-fits, one-of, rest-all, rest-end, rest-on, rest-stop}
+use Rattle.peptide_choices.specs.SuccessorLaws.{Rest, one-ascends, one-fits, one-of, rest-whole, rest-end, rest-on, rest-stop}
 use Rattle.peptide_choices.proofs.choice.Choice.is_one.Statement.{statement}
 use Rattle.peptide_choices.proofs.choice.Choice.is_one.Tie as tie
 
@@ -25,13 +25,7 @@ returns c =
     ((λ e. absurd (true≢false (sym e))), λ e h. omega (arith, one-fits p h))
 
 loop-holds : tie.Need-loop-holds Inv-loop μ-loop
-loop-holds c = let p = c .before .before .args .self in (omega arith, rest-all (p .n) (p .m) (p .at))
-
-mul-a : tie.Need-mul-a Inv-loop μ-loop
-mul-a c = omega arith
-
-array-read-a : tie.Need-array-read-a Inv-loop μ-loop
-array-read-a c = omega arith
+loop-holds c = let p = c .before .before .args .self in (omega arith, rest-whole (p .n) (p .m) (p .at))
 
 add-low : tie.Need-add-low Inv-loop μ-loop
 add-low c =
@@ -40,12 +34,6 @@ add-low c =
     let a = getD (p .at) (s .i) 0 in
     let h : a < p .m = ltb-true a (p .m) (both (leb (s .low) a) (ltb a (p .m)) (c .if2 .taken) .1) in
     omega arith
-
-add-i : tie.Need-add-i Inv-loop μ-loop
-add-i c = omega arith
-
-loop-less : tie.Need-loop-less Inv-loop μ-loop
-loop-less c = omega arith
 
 loop-again : tie.Need-loop-again Inv-loop μ-loop
 loop-again c =
@@ -70,17 +58,5 @@ returns-3 c =
 
 pub is-one-spec : {M : Type 1} → statement M
 is-one-spec =
-    tie.close
-    (tie.spec
-    Inv-loop
-    μ-loop
-    returns
-    loop-holds
-    mul-a
-    array-read-a
-    add-low
-    add-i
-    loop-less
-    loop-again
-    returns-2
-    returns-3)
+    tie.close (tie.spec Inv-loop μ-loop returns loop-holds (λ c. omega arith) (λ c. omega arith) add-low
+    (λ c. omega arith) (λ c. omega arith) loop-again returns-2 returns-3)
