@@ -10,7 +10,7 @@ use Rattle.records.specs.Cases.{Case, Hold}
 use Rattle.records.specs.CaseLaws.{Table, holding, allOf}
 use Rattle.records.specs.Search.{seek}
 use Rattle.catalogue_spec.specs.Names.{nameLength, zerosTo, namesTested}
-use Rattle.cover_spec.specs.Cover.{markForced, coverMarked, stays, pass, passes, greatest, mark, choose, turn, turns, cover, listed, coverList}
+use Rattle.cover_spec.specs.Cover.{markForced, coverMarked, stays, pass, trimPasses, greatest, mark, choose, turn, turns, cover, listed, coverList}
 use Rattle.protein_groups_members.specs.Members.{Member}
 use Rattle.protein_groups_spec.specs.ProteinGroups.{Pair, Groups, proteins, metas, groupsOf, grouping}
 use Rattle.sorting.specs.Cases.{table as orders, cases as orders-hold}
@@ -44,7 +44,7 @@ whole : List Case
 whole = record { got = (p10 .groups ∷ []) ∷ inGroup 0 ∷ inGroup 1 ∷ inGroup 2 ∷ inCover ∷ []; want = (3 ∷ []) ∷ (11 ∷ []) ∷ (10 ∷ []) ∷ (12 ∷ []) ∷ (10 ∷ []) ∷ [] } ∷ []
 
 whole-holds : Hold whole
-unfolding flatten markForced coverMarked stays pass passes greatest mark choose turn turns cover listed coverList proteins metas groupsOf grouping whole
+unfolding flatten markForced coverMarked stays pass trimPasses greatest mark choose turn turns cover listed coverList proteins metas groupsOf grouping whole
 whole-holds = refl
 
 -- a name of these bytes

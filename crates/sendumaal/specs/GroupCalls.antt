@@ -3,13 +3,13 @@ use Prim.Native.Nat.{ℕ}
 use mathlib.Core.Path.{_≡_}
 use mathlib.Core.List.{List}
 use Rattle.records.specs.Outcome.{Outcome, outcome, only}
-use Rattle.digest_groups_spec.specs.DigestGrouping.{groupOutcome}
+use Rattle.digest_groups_spec.specs.DigestGrouping.{digestGroupsOutcome}
 use Rattle.cover.specs.Covering.{coverOutcome}
 use Rattle.cover.specs.Updating.{updateOutcome}
 use Rattle.sendumaal_calls.specs.Calls.{countedCall}
 
 abbrev pub groupCall : List ℕ → List ℕ → List ℕ → List ℕ → List ℕ → List ℕ → List ℕ → ℕ → Outcome ℕ
-groupCall names bounds letters digests work groups proteins count = countedCall (groupOutcome names bounds letters digests work groups proteins) count
+groupCall names bounds letters digests work groups proteins count = countedCall (digestGroupsOutcome names bounds letters digests work groups proteins) count
 
 abbrev pub coverCall : List ℕ → ℕ → ℕ → List ℕ → List ℕ → ℕ → Outcome ℕ
 coverCall edges groups metas work marks count = countedCall (coverOutcome edges groups metas work marks) count

@@ -10,14 +10,14 @@ use Rattle.records.specs.Outcome.{Outcome, outcome}
 use Rattle.protein_groups.specs.declared.grouping.Sizes.{Sizes}
 use Rattle.protein_groups.specs.declared.grouping.Grouped.{Grouped}
 use Rattle.protein_groups.specs.declared.grouping.Grouped.the-variants.{Made, Refused as No}
-use Rattle.protein_groups.specs.ProteinGrouping.{groupOutcome}
+use Rattle.protein_groups.specs.ProteinGrouping.{proteinGroupsOutcome}
 use Rattle.report_lines.specs.declared.reporting.Reported.{Reported}
 use Rattle.report_lines.specs.Reporting.{lineOutcome}
 use Rattle.sendumaal_calls.specs.Calls.{refused, withLent}
 use Rattle.sendumaal_calls.specs.DigestCalls.{fieldCall}
 use Rattle.sendumaal.specs.ProteinCalls.{ProteinsArguments, sizesCall, proteinsCall, LineArguments, reportCall, areFlags, lineCall}
 
-module _ (a : ProteinsArguments) (g : Grouped) (lent : List (List ℕ)) (e : outcome g lent ≡ groupOutcome (a .pairs) (a .flags) (a .peptides) (a .proteins) (a .work) (a .edges) (a .members)) where
+module _ (a : ProteinsArguments) (g : Grouped) (lent : List (List ℕ)) (e : outcome g lent ≡ proteinGroupsOutcome (a .pairs) (a .flags) (a .peptides) (a .proteins) (a .work) (a .edges) (a .members)) where
   whole : withLent (sizesCall g a) lent ≡ proteinsCall a
   whole = ap (λ (o : Outcome Grouped). withLent (sizesCall (o .answer) a) (o .lent)) e
 

@@ -9,7 +9,7 @@ use Rattle.report_lines_tests.specs.Testing.{tested}
 use Rattle.records.specs.Outcome.{Outcome, outcome, only}
 use Rattle.protein_groups.specs.declared.grouping.Grouped.{Grouped}
 use Rattle.protein_groups.specs.declared.grouping.Grouped.the-variants.{Made, Refused as No}
-use Rattle.protein_groups.specs.ProteinGrouping.{groupOutcome}
+use Rattle.protein_groups.specs.ProteinGrouping.{proteinGroupsOutcome}
 use Rattle.report_lines.specs.declared.reporting.Reported.{Reported}
 use Rattle.report_lines.specs.declared.reporting.Reported.the-variants.{Line, Refused as Not}
 use Rattle.report_lines.specs.Reporting.{lineOutcome}
@@ -37,7 +37,7 @@ sizesCall (No r) a = refused r ((a .groups ∷ []) ∷ (a .metas ∷ []) ∷ (a 
 
 abbrev pub proteinsCall : ProteinsArguments → Outcome ℕ
 proteinsCall a =
-    let o = groupOutcome (a .pairs) (a .flags) (a .peptides) (a .proteins) (a .work) (a .edges) (a .members) in
+    let o = proteinGroupsOutcome (a .pairs) (a .flags) (a .peptides) (a .proteins) (a .work) (a .edges) (a .members) in
     withLent (sizesCall (o .answer) a) (o .lent)
 
 pub record LineArguments : Type 0 where

@@ -17,7 +17,7 @@ use Rattle.peptide_listing.specs.FormTests.{tooLarge}
 use Rattle.peptide.specs.declared.making.Peptide.{Peptide}
 use Rattle.peptide.specs.declared.making.Made.{Made}
 use Rattle.records.specs.TestedLaws.{passed-both, passed-first, passed-second}
-use Rattle.peptide.specs.Peptides.{testedPeptide, reversed, madeOr}
+use Rattle.peptide.specs.Peptides.{testedPeptide, reversedPeptide, madeOr}
 use Rattle.peptide.specs.Forms.{formsOutcome}
 use Rattle.records.specs.declared.refusal.Refusal.{Refusal}
 use Rattle.records.specs.declared.refusal.Refusal.the-variants.{Size, Length, Field}
@@ -74,8 +74,8 @@ module _ (letters ids : List ℕ) where
     pub reverse-no : (r : Refusal) → testedReverse letters ids decoy ≡ Tested.Refused r → refused r ((decoy ∷ []) ∷ letters ∷ ids ∷ []) ≡ reverseCall letters ids decoy
     reverse-no r e = ap (λ (t : Tested). reversedOr t (turned letters ids decoy) ((decoy ∷ []) ∷ letters ∷ ids ∷ [])) (sym e)
 
-    pub reverse-yes : testedReverse letters ids decoy ≡ Tested.Passed → (f : ℕ) (a b : List ℕ) → f ≡ otherFlag decoy → a ≡ take (length letters) (reversed (turning letters ids decoy) .letters)
-        → b ≡ take (length ids) (reversed (turning letters ids decoy) .ids) → accepted ((f ∷ []) ∷ a ∷ b ∷ []) ≡ reverseCall letters ids decoy
+    pub reverse-yes : testedReverse letters ids decoy ≡ Tested.Passed → (f : ℕ) (a b : List ℕ) → f ≡ otherFlag decoy → a ≡ take (length letters) (reversedPeptide (turning letters ids decoy) .letters)
+        → b ≡ take (length ids) (reversedPeptide (turning letters ids decoy) .ids) → accepted ((f ∷ []) ∷ a ∷ b ∷ []) ≡ reverseCall letters ids decoy
     reverse-yes e f a b x y z = rw (x, y, z) (ap (λ (t : Tested). reversedOr t (turned letters ids decoy) ((decoy ∷ []) ∷ letters ∷ ids ∷ [])) (sym e))
 
 -- ---- an array's first bytes over a slice
@@ -94,5 +94,5 @@ pub overlaid-all : (old from : List ℕ) (i : ℕ) → i ≡ length old → over
 overlaid-all old from i e = rw (e, drop-length old) (append-nil (take (length old) from))
 
 -- what passed its tests was reversed
-pub turned-is : (p q : Peptide) (m : Made) → q ≡ p → testedPeptide p ≡ Tested.Passed → m ≡ madeOr (testedPeptide q) (reversed q) q → m .peptide ≡ reversed p
-turned-is p q m e f g = ap (λ (x : Made). x .peptide) g ∙ ap (λ (x : Peptide). madeOr (testedPeptide x) (reversed x) x .peptide) e ∙ rw f
+pub turned-is : (p q : Peptide) (m : Made) → q ≡ p → testedPeptide p ≡ Tested.Passed → m ≡ madeOr (testedPeptide q) (reversedPeptide q) q → m .peptide ≡ reversedPeptide p
+turned-is p q m e f g = ap (λ (x : Made). x .peptide) g ∙ ap (λ (x : Peptide). madeOr (testedPeptide x) (reversedPeptide x) x .peptide) e ∙ rw f

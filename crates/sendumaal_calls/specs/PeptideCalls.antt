@@ -8,12 +8,12 @@ use lib.Dec.{leb, eqb}
 use lib.Ieee.{Float}
 use Rattle.peptide_mass.specs.declared.mass.Weighed.{Weighed}
 use Rattle.peptide_mass.specs.Masses.{wrongSize}
-use Rattle.peptide_digests.specs.DigestTests.{positionIn}
+use Rattle.enzyme_keep.specs.Digests.{positionIn}
 use Rattle.peptide_listing.specs.FormTests.{tooLarge}
 use Rattle.peptide.specs.declared.making.Peptide.{Peptide}
 use Rattle.records.specs.Tested.{andThen}
 use Rattle.peptide_slots.specs.Windows.{window}
-use Rattle.peptide.specs.Peptides.{testedPeptide, reversed}
+use Rattle.peptide.specs.Peptides.{testedPeptide, reversedPeptide}
 use Rattle.peptide.specs.Digested.{weighedDigest}
 use Rattle.peptide.specs.Forms.{formsOutcome}
 use Rattle.records.specs.declared.refusal.Refusal.the-variants.{Size, Length, Field}
@@ -134,7 +134,7 @@ reversedOr (Tested.Refused r) new old = refused r old
 -- the first letters and ids of the reversed peptide stand where they came from
 abbrev pub turned : List ℕ → List ℕ → ℕ → List (List ℕ)
 turned letters ids decoy =
-    let p = reversed (turning letters ids decoy) in
+    let p = reversedPeptide (turning letters ids decoy) in
     (otherFlag decoy ∷ []) ∷ take (length letters) (p .letters) ∷ take (length ids) (p .ids) ∷ []
 
 abbrev pub reverseCall : List ℕ → List ℕ → ℕ → Outcome ℕ

@@ -7,7 +7,7 @@ ghost use Prim.Native.Nat.{_≤_};
 ghost use lib.ListN.{length, take};
 ghost use Rattle.peptide_listing.specs.FormTests.{tooLarge};
 ghost use Rattle.records.specs.declared.refusal.Tested.the-variants.{Passed};
-ghost use Rattle.peptide.specs.Peptides.{testedPeptide, reversed};
+ghost use Rattle.peptide.specs.Peptides.{testedPeptide, reversedPeptide};
 ghost use Rattle.sendumaal_calls.specs.PeptideCalls.{peptideOf, testedLengths, turning, testedTurn, testedReverse, otherFlag};
 
 // The peptide of lent letters and ids, its contents untested.
@@ -99,7 +99,7 @@ pub fn test_reverse(letters: &[u8], ids: &[u8], decoy: u32) -> Tested
 // Reverses a peptide and stores it over the slices that it came from.
 pub fn turn(letters: &mut [u8], ids: &mut [u8], decoy: u32)
     requires { ⌜ (length (now letters) ≤ 64) × (length (now ids) ≤ 64) × (testedPeptide (turning (now letters) (now ids) decoy) ≡ Passed) ⌝ }
-    ensures { λ _. ⌜ (now (letters .exit) ≡ take (length (now (letters .entry))) (reversed (turning (now (letters .entry)) (now (ids .entry)) decoy) .letters)) × (now (ids .exit) ≡ take (length (now (ids .entry))) (reversed (turning (now (letters .entry)) (now (ids .entry)) decoy) .ids)) ⌝ }
+    ensures { λ _. ⌜ (now (letters .exit) ≡ take (length (now (letters .entry))) (reversedPeptide (turning (now (letters .entry)) (now (ids .entry)) decoy) .letters)) × (now (ids .exit) ≡ take (length (now (ids .entry))) (reversedPeptide (turning (now (letters .entry)) (now (ids .entry)) decoy) .ids)) ⌝ }
 {
     let p = peptide_of(letters, ids, 0, 0, 0, decoy == 1);
     let made = p.reverse();

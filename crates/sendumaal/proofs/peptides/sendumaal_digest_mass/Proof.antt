@@ -2,7 +2,7 @@
 use mathlib.Core.Path.{sym, ap, _∙_}
 use denote.Ref.{now}
 use Rattle.peptide_mass.specs.declared.mass.Weighed.{Weighed}
-use Rattle.peptide_digests.specs.DigestTests.{positionIn}
+use Rattle.enzyme_keep.specs.Digests.{positionIn}
 use Rattle.sendumaal_calls.specs.PeptideCalls.{digestWeightCall}
 use Rattle.sendumaal_calls.specs.PeptideCallLaws.{digest-weight-said}
 use borrow.Author.Needs.{needs}

@@ -2,7 +2,7 @@
 use mathlib.Core.List.{[]}
 use mathlib.Core.Bool.{false}
 use Rattle.peptide_mass.specs.Masses.{testedPart}
-use Rattle.peptide.specs.Peptides.{given}
+use Rattle.peptide.specs.Peptides.{peptideFrom}
 use mathlib.Core.Path.{_≡_, ap, _∙_}
 use denote.Ref.{now}
 use Rattle.peptide.specs.declared.making.Made.{Made}
@@ -17,7 +17,7 @@ returns c =
     let a = c .before .before .before .before .before .args in
     let found : c .before .before .of-part .result .tested ≡ testedPart (now (a .letters)) (now (a .masses)) (a .position) =
     ap (λ (m : Made). m .tested) (c .before .before .of-part .ensures)
-    ∙ tested-of (testedPart (now (a .letters)) (now (a .masses)) (a .position)) (given (now (a .letters)) [] (a .position) false) (given [] [] 0 false) in
+    ∙ tested-of (testedPart (now (a .letters)) (now (a .masses)) (a .position)) (peptideFrom (now (a .letters)) [] (a .position) false) (peptideFrom [] [] 0 false) in
     c .told .ensures ∙ ap testCall found
 
 pub sendumaal-peptide-test-spec : {M : Type 1} → statement M
