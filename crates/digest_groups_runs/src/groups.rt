@@ -1,4 +1,4 @@
-// DigestsSorted digests made groups, run by run: each run becomes a record, and its place in the work memory the list of its proteins.
+// Sorted digests made groups, run by run: each run becomes a record, and its place in the work memory the list of its proteins.
 use sorting_texts::By;
 ghost use mathlib.Core.Path.{_≡_};
 ghost use mathlib.Core.List.{_++_};

@@ -1,4 +1,4 @@
--- DigestsSorted numbers of digests: the tables, sorted, have the gathered digests as runs. Assumes nothing.
+-- Sorted numbers of digests: the tables, sorted, have the gathered digests as runs. Assumes nothing.
 use Prim.Native.Nat.{ℕ, _+_, _-_, _*_, _≤_, _<_}
 use mathlib.Core.Path.{_≡_, sym, ap, ap₂, _∙_, subst}
 use mathlib.Core.Bool.{Bool, cond}

@@ -1,4 +1,4 @@
--- Document 01's report line: worked cases, proved of the definitions. A case is the answer's lineNumbers, the line's length and the group
+-- Document 01's report line: worked cases, proved of the definitions. A case is the answer's numbers, the line's length and the group
 -- count or a refusal, and then the lent bytes.
 use Prim.Native.Nat.{ℕ, _-_}
 use mathlib.Core.Path.{refl}
@@ -52,7 +52,7 @@ pub table : List Case
 table =
     -- groups {c, a} and {b}: c is in the list, and so is b: `a/c;b`; more room than needed stays
     call abc (member 0 2 0 ∷ member 0 0 0 ∷ member 1 1 0 ∷ []) (1 ∷ 1 ∷ []) (1 ∷ 2 ∷ []) false [] false 6 (line 5 2) (97 ∷ 47 ∷ 99 ∷ 59 ∷ 98 ∷ 170 ∷ [])
-    -- by their texts, not by their lineNumbers: `b` of group 0 after `a/c`; each once
+    -- by their texts, not by their numbers: `b` of group 0 after `a/c`; each once
     ∷ call abc (member 0 1 0 ∷ member 1 2 0 ∷ member 1 0 0 ∷ []) (1 ∷ 1 ∷ []) (0 ∷ 1 ∷ 2 ∷ 0 ∷ []) false [] false 5 (line 5 2) (97 ∷ 47 ∷ 99 ∷ 59 ∷ 98 ∷ [])
     -- no group applies: an empty line
     ∷ call abc (member 0 2 0 ∷ []) (0 ∷ []) (2 ∷ []) false [] false 1 (line 0 0) (170 ∷ [])
