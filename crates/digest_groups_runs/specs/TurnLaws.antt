@@ -9,8 +9,7 @@ use native.Mathlib.Numerals.{add-one}
 use lib.Dec.{leb}
 use borrow.Author.Tests.{le-leb}
 use lib.ListN.{length-append, length-drop, length, getD, take, drop, set, length-set, length-map}
-use lib.Seq.{sets, length-take-le, slice, slice-cons, slice-empty, length-slice, ext-getD, getD-set-same, getD-set-other}
-use Rattle.lists.specs.InLaws.{getD-mapped}
+use lib.Seq.{sets, length-take-le, slice, slice-cons, slice-empty, length-slice, getD-set-same, getD-set-other}
 use Rattle.lists.specs.Tests.{below?, same?}
 use Rattle.lists.specs.FrameLaws.{framed-none, framed-then, framed-within, framed-set}
 use Rattle.records.specs.Le.{le}
@@ -23,7 +22,7 @@ use Rattle.sorting_spec.specs.Runs.{runLength, runsOf}
 use Rattle.sorting_spec.specs.RunLaws.{runs-slice, run-some, run-most}
 use Rattle.sorting_slices.specs.Sorting.{arranged}
 use Rattle.sorting_slices.specs.SortingLaws.{length-arranged, arranged-rest, arranged-between, arranged-sorted}
-use Rattle.sorting_spec.specs.PartLaws.{at-slice, slice-same, slice-join, drop-same}
+use Rattle.sorting_spec.specs.PartLaws.{slice-same, slice-mapped, slice-join, drop-same}
 use Rattle.enzyme_keep.specs.Digests.{proteinIn}
 use Rattle.digest_groups_spec.specs.DigestGroups.{digestAt, byName, proteinsOf, groupOf, groupsFrom, proteinList}
 use Rattle.digest_groups_runs.specs.Turns.{Replaced, RunListed, DigestsReady, digestOrder, runsFrom, RunGrouped, RunsAhead, RunsGathered}
@@ -43,15 +42,6 @@ replaced-more {f} {old} {new} {lo} {i} l h r = record {
       (framed-set lo (i + 1) i (f (getD new i 0)) new l (omega arith));
 }
 
-replaced-slice : (f : ℕ → ℕ) (old new : List ℕ) (lo hi : ℕ) → hi ≤ length old → Replaced f old new lo hi → slice lo hi new ≡ map f (slice lo hi old)
-replaced-slice f old new lo hi h r =
-    let n : length (slice lo hi new) ≡ hi - lo = length-slice lo hi new (omega (arith, r .same-length)) in
-    let m : length (slice lo hi old) ≡ hi - lo = length-slice lo hi old h in
-    ext-getD 0 (slice lo hi new) (map f (slice lo hi old)) (omega (arith, length-map (slice lo hi old) f))
-    (λ i l.
-    let k : lo + i < hi = omega arith in
-    at-slice lo hi new i k ∙ r .inside (lo + i) (omega arith) k ∙ ap f (sym (at-slice lo hi old i k)) ∙ sym (getD-mapped f (slice lo hi old) i (omega arith)))
-
 -- ---- and sorted by name
 
 pub listed-of : (names bytes old mid : List ℕ) (lo hi n : ℕ) → lo ≤ hi → hi ≤ n → 2 * n ≤ length old → Replaced (λ (x : ℕ). proteinIn (digestAt bytes x)) old mid lo hi
@@ -63,7 +53,7 @@ listed-of names bytes old mid lo hi n a b c r =
       same-length = length-arranged Name names lo hi n (2 * n) mid a b s l ∙ r .same-length;
       proteins =
           arranged-sorted Name names lo hi n (2 * n) mid a b s l
-          ∙ ap (sorted (byName names)) (replaced-slice (λ (x : ℕ). proteinIn (digestAt bytes x)) old mid lo hi (omega arith) r ∙ sym (map-map proteinIn (digestAt bytes) (slice lo hi old)));
+          ∙ ap (sorted (byName names)) (slice-mapped (λ (x : ℕ). proteinIn (digestAt bytes x)) lo hi mid old (omega arith) (omega arith) (r .inside) ∙ sym (map-map proteinIn (digestAt bytes) (slice lo hi old)));
       ahead = λ i h k. arranged-between Name names lo hi n (2 * n) mid a b s l i h k ∙ r .rest i (inr h);
       rest =
           framed-then lo (2 * n) old mid (arranged Name names lo hi n (2 * n) mid) (framed-within lo lo hi (2 * n) old mid (omega arith) (omega arith) (r .rest))

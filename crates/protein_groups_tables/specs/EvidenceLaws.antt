@@ -8,9 +8,8 @@ use native.Mathlib.Numerals.{add-one}
 use native.Mathlib.Omega.{arith}
 use borrow.Author.Tests.{lt-ltb, le-leb}
 use lib.Dec.{ltb, leb}
-use lib.ListN.{length, getD, length-map}
-use lib.Seq.{slice, length-slice, ext-getD}
-use Rattle.lists.specs.InLaws.{getD-mapped}
+use lib.ListN.{length, getD}
+use lib.Seq.{slice}
 use Rattle.lists.specs.FrameLaws.{Out}
 use Rattle.lists.specs.FirstLaws.{firstAt, firstOnes, firsts-all, all-of-key, under-places}
 use Rattle.lists.specs.KeyLaws.{Under, byKeys, ofKey, below, below-le, below-most, under-of, under-at, under-by-keys}
@@ -18,7 +17,7 @@ use Rattle.sorting_spec.specs.SortLaws.{under-sorted}
 use Rattle.records.specs.Outcome.{Outcome, outcome}
 use Rattle.sorting_texts.specs.declared.text.By.the-variants.{Itself}
 use Rattle.sorting_spec.specs.Sort.{sorted}
-use Rattle.sorting_spec.specs.PartLaws.{at-slice, slice-same}
+use Rattle.sorting_spec.specs.PartLaws.{at-slice, slice-same, slice-mapped}
 use Rattle.sorting.specs.Each.{sortedTo, eachOutcome}
 use Rattle.sorting.specs.EachLaws.{StretchesGiven, EachSorted, each-sorted}
 use Rattle.protein_groups_spec.specs.ProteinGroups.{up}
@@ -47,14 +46,6 @@ pub record Evident (w₀ w : List ℕ) (k : ℕ) (p : Plan) (r : ℕ) : Type 0 w
   pub bounds : (j : ℕ) → j ≤ p .kinds → getD w (p .bounds + j) 0 ≡ below j (allKeys p w₀)
   pub texts : (x : ℕ) → x < p .kinds → planText p w x ≡ sorted up (map (λ (y : ℕ). firstAt y (foundOrder p w₀)) (ofKey x (allKeys p w₀) (allValues p w₀)))
   pub rest : (j : ℕ) → k + k ≤ j → Out j (p .bounds) (p .keys + p .count) → getD w j 0 ≡ getD w₀ j 0
-
--- a part mapped
-slice-mapped : (g : ℕ → ℕ) (f t : ℕ) (x y : List ℕ) → t ≤ length x → t ≤ length y → ((i : ℕ) → f ≤ i → i < t → getD x i 0 ≡ g (getD y i 0)) → slice f t x ≡ map g (slice f t y)
-slice-mapped g f t x y hx hy q =
-    ext-getD 0 (slice f t x) (map g (slice f t y)) (length-slice f t x hx ∙ sym (length-slice f t y hy) ∙ sym (length-map (slice f t y) g))
-    (λ i h.
-    let k : f + i < t = omega (arith, length-slice f t x hx) in
-    at-slice f t x i k ∙ q (f + i) (omega arith) k ∙ ap g (sym (at-slice f t y i k)) ∙ sym (getD-mapped g (slice f t y) i (omega (arith, length-slice f t y hy))))
 
 module _ (w₀ w₁ : List ℕ) (k : ℕ) (p : Plan) (l₁ : length w₁ ≡ length w₀) (g : Peptides w₀ k p) (s : PlanSorted p w₀ w₁) where
   abbrev f : PlanKeyed w₀ p

@@ -1,11 +1,12 @@
 -- Laws of parts of lists. Assumes nothing.
 use mathlib.Core.Path.{_≡_, refl, sym, ap, _∙_}
-use mathlib.Core.List.{List, [], _∷_, _++_}
+use mathlib.Core.List.{List, [], _∷_, _++_, map}
 use Prim.Native.Nat.{ℕ, zero, suc, _+_, _-_, _≤_, _<_}
 use native.Mathlib.Nat.{add-sub-of-le}
 use native.Mathlib.Omega.{arith}
-use lib.ListN.{set, length, getD, take, drop, length-drop, take-append-drop}
+use lib.ListN.{set, length, getD, take, drop, length-drop, length-map, take-append-drop}
 use lib.Seq.{take-suc, take-suc-set, slice, getD-take, getD-drop, ext-getD, length-slice, take-take, drop-append-le, length-take-le, take-all}
+use Rattle.lists.specs.InLaws.{getD-mapped}
 
 -- an element in a part
 pub at-slice : (f t : ℕ) (l : List ℕ) (i : ℕ) → f + i < t → getD (slice f t l) i 0 ≡ getD l (f + i) 0
@@ -19,6 +20,14 @@ pub at-drop : (n : ℕ) (x y : List ℕ) → drop n x ≡ drop n y → (i : ℕ)
 at-drop n x y e i h =
     let q : n + (i - n) ≡ i = add-sub-of-le h in
     ap (λ (k : ℕ). getD x k 0) (sym q) ∙ sym (getD-drop n x (i - n) 0) ∙ ap (λ (l : List ℕ). getD l (i - n) 0) e ∙ getD-drop n y (i - n) 0 ∙ ap (λ (k : ℕ). getD y k 0) q
+
+-- a part is the map of another whose elements it maps
+pub slice-mapped : (g : ℕ → ℕ) (f t : ℕ) (x y : List ℕ) → t ≤ length x → t ≤ length y → ((i : ℕ) → f ≤ i → i < t → getD x i 0 ≡ g (getD y i 0)) → slice f t x ≡ map g (slice f t y)
+slice-mapped g f t x y hx hy q =
+    ext-getD 0 (slice f t x) (map g (slice f t y)) (length-slice f t x hx ∙ sym (length-slice f t y hy) ∙ sym (length-map (slice f t y) g))
+    (λ i h.
+    let k : f + i < t = omega (arith, length-slice f t x hx) in
+    at-slice f t x i k ∙ q (f + i) (omega arith) k ∙ ap g (sym (at-slice f t y i k)) ∙ sym (getD-mapped g (slice f t y) i (omega (arith, length-slice f t y hy))))
 
 -- and back: parts and tails are equal whose elements are
 pub slice-same : (f t : ℕ) (x y : List ℕ) → t ≤ length x → t ≤ length y → ((i : ℕ) → f ≤ i → i < t → getD x i 0 ≡ getD y i 0) → slice f t x ≡ slice f t y
