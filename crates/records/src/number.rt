@@ -50,6 +50,17 @@ fn joined(a: u8, b: u8, c: u8, d: u8) -> u32
     (a as u32) + 256 * ((b as u32) + 256 * ((c as u32) + 256 * (d as u32)))
 }
 
+// The number where fewer than four bytes stand from a place on. The first is read last: otherwise the compiler reads it before it is known
+// how many there are, and no longer makes one read of four.
+fn short_at(s: &[u8], at: usize) -> u32
+    requires { ⌜ (at < length (now s)) × (length (now s) < at + 4) ⌝ }
+    ensures { λ r. ⌜ r ≡ numberAt 4 (now (s .entry)) at ⌝ }
+{
+    let b = byte_at(s, at + 1);
+    let c = byte_at(s, at + 2);
+    joined(s[at], b, c, 0)
+}
+
 // The number in the four bytes from a place on.
 pub fn u32_at(s: &[u8], at: usize) -> u32
     ensures { λ r. ⌜ r ≡ numberAt 4 (now (s .entry)) at ⌝ }
@@ -60,12 +71,7 @@ pub fn u32_at(s: &[u8], at: usize) -> u32
     if 4 <= s.len() - at {
         return joined(s[at], s[at + 1], s[at + 2], s[at + 3]);
     }
-    joined(
-        s[at],
-        byte_at(s, at + 1),
-        byte_at(s, at + 2),
-        byte_at(s, at + 3),
-    )
+    short_at(s, at)
 }
 
 fn put_whole(out: &mut [u8], at: usize, n: u32)

@@ -14,14 +14,8 @@ returns-2 c =
     let a = c .before .before .before .before .before .before .before .before .args in
     c .joined .ensures ∙ sym (number-four (now (a .s)) (a .at))
 
-returns-3 : tie.Need-returns-3
-returns-3 c =
-    let a = c .before .before .before .before .before .before .before .before .args in
-    rw (number-four (now (a .s)) (a .at)) (cc)
-
 pub u32-at-spec : {M : Type 1} → statement M
 u32-at-spec =
     tie.close (tie.spec returns (λ c. search needs) (λ c. search needs) (λ c. search needs) (λ c. search needs)
     (λ c. search needs) (λ c. search needs) (λ c. search needs) (λ c. search needs) (λ c κs. search needs)
-    returns-2 (λ c. search needs) (λ c. search needs) (λ c κs. search needs) (λ c. search needs)
-    (λ c κs. search needs) (λ c. search needs) (λ c κs. search needs) (λ c κs. search needs) returns-3)
+    returns-2 (λ c κs. search needs) (λ c. search needs))
