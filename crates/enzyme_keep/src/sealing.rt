@@ -1,4 +1,5 @@
 // The last pass: the protein's number takes the place of the links.
+use crate::record::put_number;
 ghost use mathlib.Core.Path.{_≡_};
 ghost use Prim.Native.Nat.{_*_, _≤_};
 ghost use lib.ListN.{length};
@@ -12,7 +13,7 @@ pub fn seal(out: &mut [u8], count: usize, p: u32)
 {
     let mut k = 0;
     while k < count {
-        records::put_u32(out, 16 * k + 12, p);
+        put_number(out, 16 * k + 12, p);
         k += 1;
     }
 }

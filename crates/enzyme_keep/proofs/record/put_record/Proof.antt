@@ -20,8 +20,8 @@ returns c = let a = c .before .before .before .before .before .before .before .b
     let start = le 4 (a .a) in
     let end = le 4 (a .e) in
     let marks = a .missed ∷ a .semi ∷ positionOf (a .n) (a .a) (a .e) ∷ 0 ∷ [] in
-    c .before .before .put-u323 .ensures
-    ∙ rw (c .before .before .before .before .before .before .put-marks .ensures, c .before .before .before .before .before .before .before .before .before .before .before .before .before .before .before .before .position .ensures, c .before .before .before .before .before .before .before .before .before .before .put-u322 .ensures, c .before .before .before .before .before .before .before .before .before .before .before .before .before .before .put-u32 .ensures)
+    c .before .before .put-number3 .ensures
+    ∙ rw (c .before .before .before .before .before .before .put-four .ensures, c .before .before .before .before .before .before .before .before .before .before .before .before .before .before .before .before .position .ensures, c .before .before .before .before .before .before .before .before .before .before .put-number2 .ensures, c .before .before .before .before .before .before .before .before .before .before .before .before .before .before .put-number .ensures)
     (sets-behind marks (le 4 (a .last)) (sets (sets out at start) (at + 4) end) (at + 8) (at + 12) (omega arith)
     ∙ sets-behind end (marks ++ le 4 (a .last)) (sets out at start) (at + 4) (at + 8) (omega arith)
     ∙ sets-behind start (end ++ (marks ++ le 4 (a .last))) out at (at + 4) (omega arith))

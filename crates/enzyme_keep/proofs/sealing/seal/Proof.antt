@@ -19,7 +19,7 @@ loop-holds : tie.Need-loop-holds Inv-loop μ-loop
 loop-holds c = (omega arith, refl, refl)
 
 loop-again : tie.Need-loop-again Inv-loop μ-loop
-loop-again c = let l = c .before .before .before .before .before .loop in (omega arith, omega arith, c .before .before .put-u32 .ensures ∙ rw (add-one (l .k), l .inv .2))
+loop-again c = let l = c .before .before .before .before .before .loop in (omega arith, omega arith, c .before .before .put-number .ensures ∙ rw (add-one (l .k), l .inv .2))
 
 returns : tie.Need-returns Inv-loop μ-loop
 returns c = let e : c .before .loop .k ≡ c .before .before .before .args .count = omega arith in rw e at (c .before .loop .inv .2)
