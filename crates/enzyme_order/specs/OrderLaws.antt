@@ -167,10 +167,15 @@ order-else a b p q = go (way (length a) (length b))
 
 -- ---- four letters at a time
 
-pub order-alike : (a b : List ℕ) (i : ℕ) → length a ≡ length b → i ≤ length a → AgreeTo a b i → letterwise (drop i a) (drop i b) ≡ compared a b
-order-alike a b zero e h k = order-start a b e
-order-alike a b (suc i) e h k =
-    sym (letters-on a b i (omega arith) (omega arith) (k i (omega arith))) ∙ order-alike a b i e (omega arith) (λ j l. k j (omega arith))
+alike-inside : (a b : List ℕ) (i : ℕ) → length a ≡ length b → i ≤ length a → AgreeTo a b i → letterwise (drop i a) (drop i b) ≡ compared a b
+alike-inside a b zero e h k = order-start a b e
+alike-inside a b (suc i) e h k =
+    sym (letters-on a b i (omega arith) (omega arith) (k i (omega arith))) ∙ alike-inside a b i e (omega arith) (λ j l. k j (omega arith))
 
 pub order-all : (a b : List ℕ) (i : ℕ) → length a ≡ length b → length a ≤ i → AgreeTo a b i → compared a b ≡ 1
 order-all a b i e h k = let g : a ≡ b = same-eq a b (agree-all a b i e h k) in rw g (order-self b)
+
+pub order-alike : (a b : List ℕ) (i : ℕ) → length a ≡ length b → AgreeTo a b i → letterwise (drop i a) (drop i b) ≡ compared a b
+order-alike a b i e k =
+    ⊎-elim (λ (h : length a < i). letters-end a b i (omega arith) (omega arith) ∙ sym (order-all a b i e (omega arith) k))
+    (λ (h : i ≤ length a). alike-inside a b i e h k) (below? (length a) i)

@@ -23,7 +23,8 @@ fn order_from(a: &[u8], b: &[u8], from: usize) -> u8
     1
 }
 
-// By length, then letters: 0 below, 1 the same, 2 above. What is the same is passed over four letters at a time.
+// By length, then letters: 0 below, 1 the same, 2 above. What is the same is passed over four letters at a time, twice in
+// a turn; letters past the end are the same.
 pub fn order(a: &[u8], b: &[u8]) -> u8
     ensures { λ r. ⌜ r ≡ compared (now (a .entry)) (now (b .entry)) ⌝ }
 {
@@ -40,7 +41,13 @@ pub fn order(a: &[u8], b: &[u8]) -> u8
         if x != y {
             return order_from(a, b, i);
         }
-        i += 4;
+        let j = i + 4;
+        let z = records::u32_at(a, j);
+        let w = records::u32_at(b, j);
+        if z != w {
+            return order_from(a, b, j);
+        }
+        i = j + 4;
     }
     1
 }
