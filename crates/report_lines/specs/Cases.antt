@@ -60,8 +60,10 @@ table =
     -- each decoy gets the tag r where decoys are generated, and is sorted with it: `b/ra`
     ∷ call abc (member 0 0 1 ∷ member 0 1 0 ∷ []) (1 ∷ []) (0 ∷ []) true (114 ∷ []) true 4 (line 4 1) (98 ∷ 47 ∷ 114 ∷ 97 ∷ [])
     ∷ call abc (member 0 0 1 ∷ member 0 1 0 ∷ []) (1 ∷ []) (0 ∷ []) true (114 ∷ []) false 4 (line 3 1) (97 ∷ 47 ∷ 98 ∷ 170 ∷ [])
-    -- a name that has a `;` counts as two
-    ∷ call abc (member 0 3 0 ∷ []) (1 ∷ []) (3 ∷ []) false [] false 3 (line 3 2) (97 ∷ 59 ∷ 98 ∷ [])
+    -- names do not count: `a;b` and `c` are two groups, `a;b` alone is one, and so is `a` with the tag `;`
+    ∷ call abc (member 0 3 0 ∷ member 1 2 0 ∷ []) (1 ∷ 1 ∷ []) (2 ∷ 3 ∷ []) false [] false 5 (line 5 2) (97 ∷ 59 ∷ 98 ∷ 59 ∷ 99 ∷ [])
+    ∷ call abc (member 0 3 0 ∷ []) (1 ∷ []) (3 ∷ []) false [] false 3 (line 3 1) (97 ∷ 59 ∷ 98 ∷ [])
+    ∷ call abc (member 0 0 1 ∷ []) (1 ∷ []) (0 ∷ []) true (59 ∷ []) true 2 (line 2 1) (59 ∷ 97 ∷ [])
     -- 11: the first bytes that fit
     ∷ call abc (member 0 2 0 ∷ member 0 0 0 ∷ member 1 1 0 ∷ []) (1 ∷ 1 ∷ []) (1 ∷ 2 ∷ []) false [] false 4 (refusedAs 11 0) (97 ∷ 47 ∷ 99 ∷ 59 ∷ [])
     -- 1: a mark too many, before all else

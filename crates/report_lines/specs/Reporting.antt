@@ -23,7 +23,7 @@ lined text count out = outcome (reportedOf (length text) count (length out)) (fi
 
 abbrev pub lineLined : List ℕ → List ℕ → List ℕ → List ℕ → Bool → List ℕ → Bool → List ℕ → Outcome Reported
 lineLined names members marks list decoy tag generated out =
-    lined (lineText names (membersIn members) marks list decoy tag generated) (lineCount names (membersIn members) marks list decoy tag generated) out
+    lined (lineText names (membersIn members) marks list decoy tag generated) (lineCount (membersIn members) marks list decoy) out
 
 abbrev pub lineOutcome : List ℕ → List ℕ → List ℕ → List ℕ → Bool → List ℕ → Bool → List ℕ → Outcome Reported
 lineOutcome names members marks list decoy tag generated out =

@@ -117,7 +117,7 @@ module _ {names members marks list tag : List ℕ} (good : GoodLine names member
 -- THE LAW: what is read off the table is what a call answers
 pub line-outcome : (names members marks list : List ℕ) (decoy : Bool) (tag : List ℕ) (generated : Bool) (w : List ℕ) (c : ℕ)
     → Stretched names (membersIn members) marks list decoy tag generated w c → c ≤ 131072 → Tag tag → (old new : List ℕ) (bytes groups : ℕ) (r : Reported)
-    → (new ≡ fitted 1 (length old) old (singly (lineIn names w c (length marks)))) × (bytes ≡ length (lineIn names w c (length marks))) × (groups ≡ countIn names w c (length marks))
+    → (new ≡ fitted 1 (length old) old (singly (lineIn names w c (length marks)))) × (bytes ≡ length (lineIn names w c (length marks))) × (groups ≡ countIn w c (length marks))
     → r ≡ reportedOf bytes groups (length old)
     → outcome r (new ∷ []) ≡ lineLined names members marks list decoy tag generated old
 line-outcome names members marks list decoy tag generated w c s few t old new bytes groups r p e =
@@ -143,5 +143,5 @@ tests-told names members marks list tag decoy generated out = go (tested names m
     either false p = refl
 
     go : (t : Tested) → notRoom t ≡ true → testsOf (unlessRefused t No (out ∷ []) (lineLined names members marks list decoy tag generated out) .answer) ≡ t
-    go Passed h = either (leb (length text) (length out)) (record { bytes = length text; groups = lineCount names (membersIn members) marks list decoy tag generated })
+    go Passed h = either (leb (length text) (length out)) (record { bytes = length text; groups = lineCount (membersIn members) marks list decoy })
     go (Refused why) h = let e : eqb (numberOf why) 11 ≡ false = not-true (eqb (numberOf why) 11) h in rw e

@@ -19,7 +19,7 @@ ghost use Rattle.report_lines_write.specs.LineLaws.{Tag};
 ghost use Rattle.report_lines.specs.Reporting.{reportedOf, lineLined, lineOutcome};
 ghost use Rattle.report_lines.specs.ReportingLaws.{lineTold, LineTable, Fitting, testsOf};
 
-// How many bytes the line has, and how many groups it counts.
+// How many bytes the line has, and how many groups it names.
 pub struct Report {
     pub bytes: u32,
     pub groups: u32,
@@ -198,7 +198,7 @@ fn line_of(
 }
 
 // Writes the names of the marked groups that hold a protein of the list with the peptide's decoy flag, as document 01 has them,
-// where there is room, and answers how many bytes they are and how many groups.
+// where there is room, and answers how many bytes they are and how many groups, whatever the names contain (document 02, [3]).
 pub fn report_line(
     names: &[u8],
     members: &[u8],

@@ -17,7 +17,7 @@ mem g p d = record { group = g; protein = p; decoy = d }
 
 line : List Member → List ℕ → List ℕ → Bool → List ℕ → Bool → ℕ → List ℕ → Case
 line ms marks list decoy tag generated count text =
-    record { got = (lineCount names ms marks list decoy tag generated ∷ []) ∷ lineText names ms marks list decoy tag generated ∷ []; want = (count ∷ []) ∷ text ∷ [] }
+    record { got = (lineCount ms marks list decoy ∷ []) ∷ lineText names ms marks list decoy tag generated ∷ []; want = (count ∷ []) ∷ text ∷ [] }
 
 pub table : List Case
 table =
@@ -31,8 +31,12 @@ table =
     -- each decoy gets the tag r where decoys are generated, and is sorted with it: `b/ra`; else `a/b`
     ∷ line (mem 0 0 1 ∷ mem 0 1 0 ∷ []) (1 ∷ []) (0 ∷ []) true (114 ∷ []) true 1 (98 ∷ 47 ∷ 114 ∷ 97 ∷ [])
     ∷ line (mem 0 0 1 ∷ mem 0 1 0 ∷ []) (1 ∷ []) (0 ∷ []) true (114 ∷ []) false 1 (97 ∷ 47 ∷ 98 ∷ [])
-    -- a name that has a `;` counts as two
-    ∷ line (mem 0 3 0 ∷ []) (1 ∷ []) (3 ∷ []) false [] false 2 (97 ∷ 59 ∷ 98 ∷ [])
+    -- names do not count: `a;b` and `c` are two groups, `a;b` alone is one; so are decoys whose tag is `r;`: `r;a/r;b`
+    ∷ line (mem 0 3 0 ∷ mem 1 2 0 ∷ []) (1 ∷ 1 ∷ []) (2 ∷ 3 ∷ []) false [] false 2 (97 ∷ 59 ∷ 98 ∷ 59 ∷ 99 ∷ [])
+    ∷ line (mem 0 3 0 ∷ []) (1 ∷ []) (3 ∷ []) false [] false 1 (97 ∷ 59 ∷ 98 ∷ [])
+    ∷ line (mem 0 0 1 ∷ mem 0 1 1 ∷ []) (1 ∷ []) (0 ∷ []) true (114 ∷ 59 ∷ []) true 1 (114 ∷ 59 ∷ 97 ∷ 47 ∷ 114 ∷ 59 ∷ 98 ∷ [])
+    -- groups with the same members are two
+    ∷ line (mem 0 0 0 ∷ mem 1 0 0 ∷ []) (1 ∷ 1 ∷ []) (0 ∷ []) false [] false 2 (97 ∷ 59 ∷ 97 ∷ [])
     ∷ []
 
 pub cases : Hold table

@@ -1,5 +1,8 @@
--- What a reader has to believe: Line. Cases is proved of it; Stretches says how the code lays its groups out.
+-- What a reader has to believe: Line. Cases is proved of it, and CountLaws says how its count stands to the line; Stretches says how the
+-- code lays its groups out.
 pub mod Line
+pub mod Cases
+pub mod TotalLaws
+pub mod CountLaws
 pub mod Stretches
 pub mod StretchLaws
-pub mod Cases

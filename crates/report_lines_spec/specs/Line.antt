@@ -1,10 +1,10 @@
 -- Document 01, "Groups and cover": the report line of a peptide, given its protein list and decoy flag.
-use Prim.Native.Nat.{ℕ, suc}
+use Prim.Native.Nat.{ℕ}
 use mathlib.Core.Bool.{Bool, cond, _&&_}
-use mathlib.Core.List.{List, [], _∷_, _++_, map}
+use mathlib.Core.List.{List, [], _++_, map}
 use lib.Dec.{ltb, eqb}
 use lib.ListN.{length, getD}
-use Rattle.lists.specs.Lists.{upFrom, keep, occurs, times}
+use Rattle.lists.specs.Lists.{upFrom, keep, occurs}
 use Rattle.sorting_spec.specs.Sort.{sorted}
 use Rattle.sorting_spec.specs.Lex.{lexLe}
 use Rattle.sorting_spec.specs.Joined.{nameOf, untilZero, join}
@@ -36,10 +36,7 @@ applying ms marks list decoy = keep (applies ms marks list decoy) (upFrom 0 (len
 unfoldable pub lineText : List ℕ → List Member → List ℕ → List ℕ → Bool → List ℕ → Bool → List ℕ
 lineText names ms marks list decoy tag generated = join 59 (sorted lexLe (map (groupText names ms tag generated) (applying ms marks list decoy)))
 
--- "The group count is the number of `;` plus one, or 0 and an empty line where no group applies."
-abbrev pub countOf : List ℕ → List ℕ → ℕ
-countOf [] text = 0
-countOf (g ∷ gs) text = suc (times 59 text)
-
-unfoldable pub lineCount : List ℕ → List Member → List ℕ → List ℕ → Bool → List ℕ → Bool → ℕ
-lineCount names ms marks list decoy tag generated = countOf (applying ms marks list decoy) (lineText names ms marks list decoy tag generated)
+-- Document 02, [3]: "It should be the number of marked groups that hold a protein of the peptide with its decoy flag, whatever the
+-- names contain." Neither names nor tag are among its arguments.
+unfoldable pub lineCount : List Member → List ℕ → List ℕ → Bool → ℕ
+lineCount ms marks list decoy = length (applying ms marks list decoy)

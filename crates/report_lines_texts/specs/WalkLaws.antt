@@ -8,32 +8,32 @@ use Rattle.report_lines_texts.specs.ByteLaws.{AllBytes, bytes-joined}
 use Rattle.sorting_texts.specs.Text.{entryText, joinedText}
 use Rattle.sorting_texts.specs.Walk.{leftFrom, WalksOn}
 use Rattle.sorting_texts.specs.WalkLaws.{left-start}
-use Rattle.report_lines_texts.specs.WriteLaws.{semi, Put, Coming, times-cons, coming-all, coming-one, coming-done, coming-length, coming-fits}
+use Rattle.report_lines_texts.specs.WriteLaws.{Put, Coming, coming-all, coming-one, coming-done, coming-length}
 
 -- the walk along the text at x stands at place i of the text of an entry, and what lies before is written
-pub record Writing (names keys : List ℕ) (x : ℕ) (old : List ℕ) (at semis : ℕ) (new : List ℕ) (entry i k s : ℕ) : Type 0 where
-  pub coming : Coming old at semis (joinedText names keys x) new k s (leftFrom names keys entry i)
+pub record Writing (names keys : List ℕ) (x : ℕ) (old : List ℕ) (at : ℕ) (new : List ℕ) (entry i k : ℕ) : Type 0 where
+  pub coming : Coming old at (joinedText names keys x) new k (leftFrom names keys entry i)
   pub within : i ≤ length (entryText names keys (getD keys entry 0))
   pub bytes : AllBytes (leftFrom names keys entry i)
 
-module _ {names keys : List ℕ} {x : ℕ} {old : List ℕ} {at semis : ℕ} where
-  pub writing-start : ((i : ℕ) → getD names i 0 < 256) → ((i : ℕ) → i < 16 → getD keys i 0 < 256) → Writing names keys x old at semis old (16 + x) 0 at semis
+module _ {names keys : List ℕ} {x : ℕ} {old : List ℕ} {at : ℕ} where
+  pub writing-start : ((i : ℕ) → getD names i 0 < 256) → ((i : ℕ) → i < 16 → getD keys i 0 < 256) → Writing names keys x old at old (16 + x) 0 at
   writing-start p q = record {
     coming = rw (left-start names keys x) coming-all;
     within = omega arith;
     bytes = rw (left-start names keys x) (bytes-joined names keys p q x);
   }
 
-  module _ {new : List ℕ} {entry i k s : ℕ} (c : Writing names keys x old at semis new entry i k s) where
+  module _ {new : List ℕ} {entry i k : ℕ} (c : Writing names keys x old at new entry i k) where
     pub writing-length : length new ≡ length old
     writing-length = coming-length (c .coming)
 
     module _ {n e j : ℕ} (step : WalksOn names keys entry i n e j) where
-      pub writing-done : n ≡ 0 → Put old at semis (joinedText names keys x) new k s
+      pub writing-done : n ≡ 0 → Put old at (joinedText names keys x) new k
       writing-done z = coming-done (step .shows .none z) (c .coming)
 
       module _ (some : n ≡ 0 → ⊥) where
-        next : Coming old at semis (joinedText names keys x) new k s (n ∷ leftFrom names keys e j)
+        next : Coming old at (joinedText names keys x) new k (n ∷ leftFrom names keys e j)
         next = rw (step .shows .one some) at (c .coming)
 
         rest : AllBytes (n ∷ leftFrom names keys e j)
@@ -45,9 +45,9 @@ module _ {names keys : List ℕ} {x : ℕ} {old : List ℕ} {at semis : ℕ} whe
         pub writing-less : length (leftFrom names keys e j) < length (leftFrom names keys entry i)
         writing-less = rw (step .shows .one some) (omega arith)
 
-        pub writing-fits : semis ≤ at → at + length (joinedText names keys x) < 4294967296 → (k + 1 < 4294967296) × (s + semi n < 4294967296)
-        writing-fits h f = let g = coming-fits h f next in (omega (arith, g .0), omega (arith, g .1, times-cons n (leftFrom names keys e j)))
+        pub writing-fits : at + length (joinedText names keys x) < 4294967296 → k + 1 < 4294967296
+        writing-fits f = omega (arith, next .ends)
 
         -- THE LAW of a turn
-        pub writing-on : Writing names keys x old at semis (set new k n) e j (k + 1) (s + semi n)
+        pub writing-on : Writing names keys x old at (set new k n) e j (k + 1)
         writing-on = record { coming = coming-one next; within = step .within; bytes = rest .1 }

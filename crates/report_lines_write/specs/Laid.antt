@@ -11,7 +11,6 @@ use Rattle.sorting_spec.specs.Sort.{sorted}
 use Rattle.sorting_spec.specs.Lex.{lexLe}
 use Rattle.sorting_spec.specs.Joined.{join}
 use Rattle.sorting_texts.specs.Text.{entryText}
-use Rattle.report_lines_spec.specs.Line.{countOf}
 
 -- where stretch g begins; the next begins where it ends
 abbrev pub boundIn : List ℕ → ℕ → ℕ → ℕ
@@ -49,6 +48,6 @@ textIn names w c g = join 47 (map (entryText names (drop (2 * c) w)) (stretchIn 
 unfoldable pub lineIn : List ℕ → List ℕ → ℕ → ℕ → List ℕ
 lineIn names w c groups = join 59 (sorted lexLe (map (textIn names w c) (somes w (2 * c + 16) groups)))
 
-unfoldable pub countIn : List ℕ → List ℕ → ℕ → ℕ → ℕ
-unfolding lineIn
-countIn names w c groups = countOf (somes w (2 * c + 16) groups) (lineIn names w c groups)
+-- how many groups the line names
+abbrev pub countIn : List ℕ → ℕ → ℕ → ℕ
+countIn w c groups = length (somes w (2 * c + 16) groups)

@@ -23,7 +23,7 @@ use Rattle.sorting_texts.specs.Text.{entryText}
 use Rattle.sorting_spec.specs.PartLaws.{at-slice}
 use Rattle.sorting_texts.specs.EntryLaws.{ZeroFree, until-padded}
 use Rattle.protein_groups_members.specs.Members.{Member}
-use Rattle.report_lines_spec.specs.Line.{tagged, inGroup, groupText, holds, applies, applying, lineText, countOf, lineCount}
+use Rattle.report_lines_spec.specs.Line.{tagged, inGroup, groupText, holds, applies, applying, lineText, lineCount}
 use Rattle.report_lines_spec.specs.StretchLaws.{length-keys}
 use Rattle.report_lines_spec.specs.Stretches.{entry, tagKeys, byText, gatheredOf, stretchOf, Stretched}
 use Rattle.report_lines_write.specs.Laid.{boundIn, stretchIn, someIn, somes, textIn, lineIn, countIn, StretchesLaid}
@@ -228,6 +228,6 @@ module _ (names : List ℕ) (ms : List Member) (marks list : List ℕ) (decoy : 
       (map-alike (textIn names w c) (groupText names ms tag generated) (applying ms marks list decoy)
       (λ g i. let k = keep-in g (applies ms marks list decoy) (upFrom 0 (length marks)) i in text-is g (omega (arith, up-in g 0 (length marks) (k .0))) (k .1)))
 
-  pub count-is : countIn names w c (length marks) ≡ lineCount names ms marks list decoy tag generated
-  unfolding countIn lineCount
-  count-is = ap (λ (l : List ℕ). countOf l (lineIn names w c (length marks))) somes-are ∙ ap (countOf (applying ms marks list decoy)) line-is
+  pub count-is : countIn w c (length marks) ≡ lineCount ms marks list decoy
+  unfolding lineCount
+  count-is = ap length somes-are

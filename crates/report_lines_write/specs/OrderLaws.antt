@@ -1,11 +1,11 @@
 -- The starts of the groups in the order of their texts. Assumes nothing.
 use Prim.Native.Nat.{ℕ, _+_, _-_, _*_, _≤_, _<_}
-use mathlib.Core.Path.{_≡_, refl, sym, ap, _∙_}
+use mathlib.Core.Path.{_≡_, sym, ap, _∙_}
 use mathlib.Core.Bool.{true}
-use mathlib.Core.List.{List, [], _∷_, map}
+use mathlib.Core.List.{List, map}
 use native.Mathlib.Omega.{arith}
 use native.Mathlib.Nat.{sub-zero}
-use lib.ListN.{length, getD, take, drop, length-map}
+use lib.ListN.{length, getD, take, drop, length-map, length-take}
 use lib.Seq.{sets, getD-take, getD-drop}
 use Rattle.records.specs.Room.{fitted, singly}
 use Rattle.sorting_texts.specs.declared.text.By.the-variants.{Joined}
@@ -17,7 +17,6 @@ use Rattle.sorting_texts.specs.Text.{joinedText, leBy}
 use Rattle.sorting_spec.specs.PartLaws.{rest-all}
 use Rattle.sorting_slices.specs.Sorting.{fitting, arranged}
 use Rattle.sorting_slices.specs.SortingLaws.{order-fitting, length-arranged, arranged-sorted, arranged-drop}
-use Rattle.report_lines_spec.specs.Line.{countOf}
 use Rattle.report_lines_write.specs.Laid.{boundIn, somes, textIn, lineIn, countIn, StretchesLaid}
 use Rattle.report_lines_write.specs.ReadyLaws.{TextsReady, ready-texts}
 use Rattle.report_lines_write.specs.SizeLaws.{line-short}
@@ -80,26 +79,9 @@ module _ (names : List ℕ) {w₀ : List ℕ} {c groups : ℕ} (l : StretchesLai
     small = λ i h. rw same-keys (tag-small i h);
   }
 
-count-alike : (xs ys text : List ℕ) → length xs ≡ length ys → countOf xs text ≡ countOf ys text
-count-alike [] [] text e = refl
-count-alike [] (y ∷ ys) text e = absurd (omega arith)
-count-alike (x ∷ xs) [] text e = absurd (omega arith)
-count-alike (x ∷ xs) (y ∷ ys) text e = refl
-
 -- the front of a slice as it is lent
 pub front-all : (n : ℕ) (w : List ℕ) → take (n - 0) (drop 0 w) ≡ take n w
 front-all n w = ap (λ (k : ℕ). take k w) (sub-zero n)
-
--- THE LAW of the line
-pub lined-line : (names w₀ : List ℕ) (c groups : ℕ) (w : List ℕ) (count : ℕ) → LineOrdered names w₀ c groups w count → (old new : List ℕ) (bytes semis : ℕ)
-    → (new ≡ sets old 0 (join 59 (map (joinedText names (drop (2 * c) w)) (take count w)))) × (bytes ≡ length (join 59 (map (joinedText names (drop (2 * c) w)) (take count w)))) × (semis ≡ countOf (take count w) (join 59 (map (joinedText names (drop (2 * c) w)) (take count w))))
-    → (new ≡ fitted 1 (length old) old (singly (lineIn names w₀ c groups))) × (bytes ≡ length (lineIn names w₀ c groups)) × (semis ≡ countIn names w₀ c groups)
-unfolding countIn
-lined-line names w₀ c groups w count o old new bytes semis p = (
-  p .0 ∙ ap (sets old 0) (o .texts) ∙ put-fits old (lineIn names w₀ c groups),
-  p .1 ∙ ap length (o .texts),
-  p .2 ∙ ap (countOf (take count w)) (o .texts) ∙ count-alike (take count w) (somes w₀ (2 * c + 16) groups) (lineIn names w₀ c groups) (o .as-many),
-)
 
 -- the parts of the slice as they are lent
 module _ {names w₀ : List ℕ} {c groups : ℕ} {w : List ℕ} {count : ℕ} (o : LineOrdered names w₀ c groups w count) where
@@ -109,18 +91,26 @@ module _ {names w₀ : List ℕ} {c groups : ℕ} {w : List ℕ} {count : ℕ} (
   abbrev keys : List ℕ
   keys = take (length w - 2 * c) (drop (2 * c) w)
 
-  lent : join 59 (map (joinedText names keys) starts) ≡ join 59 (map (joinedText names (drop (2 * c) w)) (take count w))
-  lent = ap (λ (k : List ℕ). join 59 (map (joinedText names k) starts)) (rest-all (2 * c) w) ∙ ap (λ (s : List ℕ). join 59 (map (joinedText names (drop (2 * c) w)) s)) (front-all count w)
+  abbrev texts : List ℕ
+  texts = join 59 (map (joinedText names keys) starts)
 
-  pub lined-fits : StretchesLaid w₀ c groups → ((i : ℕ) → i < 16 → getD (take (length w - 2 * c) (drop (2 * c) w)) i 0 < 256) × (length (join 59 (map (joinedText names (take (length w - 2 * c) (drop (2 * c) w))) (take (count - 0) (drop 0 w)))) < 4294967295)
+  line-lent : texts ≡ lineIn names w₀ c groups
+  line-lent =
+      ap (λ (k : List ℕ). join 59 (map (joinedText names k) starts)) (rest-all (2 * c) w)
+      ∙ ap (λ (s : List ℕ). join 59 (map (joinedText names (drop (2 * c) w)) s)) (front-all count w)
+      ∙ o .texts
+
+  count-lent : length starts ≡ countIn w₀ c groups
+  count-lent = ap length (front-all count w) ∙ o .as-many
+
+  pub lined-fits : StretchesLaid w₀ c groups → ((i : ℕ) → i < 16 → getD keys i 0 < 256) × (length texts < 4294967296) × (length starts < 4294967296)
   lined-fits l = (
     λ i h. rw (rest-all (2 * c) w) (o .small i h),
-    omega (arith, ap length (lent ∙ o .texts), line-short names w₀ c groups l),
+    omega (arith, ap length line-lent, line-short names w₀ c groups l),
+    omega (arith, length-take (count - 0) (drop 0 w), o .counted, l .fit, l .few),
   )
 
-  pub lined-written : (old new : List ℕ) (bytes semis : ℕ)
-      → (new ≡ sets old 0 (join 59 (map (joinedText names (take (length w - 2 * c) (drop (2 * c) w))) (take (count - 0) (drop 0 w))))) × (bytes ≡ length (join 59 (map (joinedText names (take (length w - 2 * c) (drop (2 * c) w))) (take (count - 0) (drop 0 w))))) × (semis ≡ countOf (take (count - 0) (drop 0 w)) (join 59 (map (joinedText names (take (length w - 2 * c) (drop (2 * c) w))) (take (count - 0) (drop 0 w)))))
-      → (new ≡ fitted 1 (length old) old (singly (lineIn names w₀ c groups))) × (bytes ≡ length (lineIn names w₀ c groups)) × (semis ≡ countIn names w₀ c groups)
-  lined-written old new bytes semis p =
-      lined-line names w₀ c groups w count o old new bytes semis
-      (p .0 ∙ ap (sets old 0) lent, p .1 ∙ ap length lent, p .2 ∙ ap (countOf starts) lent ∙ ap (λ (s : List ℕ). countOf s (join 59 (map (joinedText names (drop (2 * c) w)) (take count w)))) (front-all count w))
+  -- THE LAW of the line
+  pub lined-written : (old new : List ℕ) (bytes named : ℕ) → (new ≡ sets old 0 texts) × (bytes ≡ length texts) × (named ≡ length starts)
+      → (new ≡ fitted 1 (length old) old (singly (lineIn names w₀ c groups))) × (bytes ≡ length (lineIn names w₀ c groups)) × (named ≡ countIn w₀ c groups)
+  lined-written old new bytes named p = (p .0 ∙ ap (sets old 0) line-lent ∙ put-fits old (lineIn names w₀ c groups), p .1 ∙ ap length line-lent, p .2 ∙ count-lent)

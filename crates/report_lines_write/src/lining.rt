@@ -19,11 +19,11 @@ fn order(names: &[u8], w: &mut [u32], c: usize, groups: usize) -> usize
     count
 }
 
-// Writes the texts of the groups that have an entry, sorted and joined by `;`, where there is room for them. Areas of w have c
-// numbers; what stands in w is used up.
+// Writes the texts of the groups that have an entry, sorted and joined by `;`, where there is room for them, and counts these groups.
+// Areas of w have c numbers; what stands in w is used up.
 pub fn line_in(names: &[u8], w: &mut [u32], c: usize, groups: usize, out: &mut [u8]) -> Line
     requires { ⌜ StretchesLaid (now w) c groups ⌝ }
-    ensures { λ r. ⌜ (now (out .exit) ≡ fitted 1 (length (now (out .entry))) (now (out .entry)) (singly (lineIn (now (names .entry)) (now (w .entry)) c groups))) × (r .bytes ≡ length (lineIn (now (names .entry)) (now (w .entry)) c groups)) × (r .groups ≡ countIn (now (names .entry)) (now (w .entry)) c groups) ⌝ }
+    ensures { λ r. ⌜ (now (out .exit) ≡ fitted 1 (length (now (out .entry))) (now (out .entry)) (singly (lineIn (now (names .entry)) (now (w .entry)) c groups))) × (r .bytes ≡ length (lineIn (now (names .entry)) (now (w .entry)) c groups)) × (r .groups ≡ countIn (now (w .entry)) c groups) ⌝ }
 {
     let count = order(names, w, c, groups);
     let keys = 2 * c;

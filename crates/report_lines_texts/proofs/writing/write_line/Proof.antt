@@ -1,10 +1,10 @@
 -- `write_line` meets its contract: the first text, and then the others. Assumes nothing.
-use mathlib.Core.Path.{_≡_}
+use mathlib.Core.Path.{_≡_, refl}
 use mathlib.Core.List.{[]}
 use native.Mathlib.Omega.{arith}
 use Rattle.lists.specs.InLaws.{no-places}
 use Rattle.sorting_texts.specs.Text.{joinedText}
-use Rattle.report_lines_texts.specs.WriteLaws.{line-length, line-put, line-written, some-starts, put-le}
+use Rattle.report_lines_texts.specs.WriteLaws.{Put, textsOf, line-length, line-put, some-starts}
 use borrow.Author.Needs.{needs}
 use Rattle.report_lines_texts.proofs.writing.write_line.Statement.{statement}
 use Rattle.report_lines_texts.proofs.writing.write_line.Tie as tie
@@ -17,7 +17,7 @@ write-text-requires c κs =
     let s = c .before .before .before .before .before .before .before .before in
     let a = s .args in
     let h = some-starts (a .starts .now) (c .before .before .before .if1 .left) in
-    (c .before .before .tag-length .ensures, s .pre .0, omega arith, omega (arith, line-length (joinedText (a .names .now) (a .keys .now)) (a .starts .now) h, s .pre .1))
+    (c .before .before .tag-length .ensures, s .pre .0, omega (arith, line-length (joinedText (a .names .now) (a .keys .now)) (a .starts .now) h, s .pre .1))
 
 write-rest-requires : tie.Need-write-rest-requires
 write-rest-requires c κs =
@@ -25,33 +25,18 @@ write-rest-requires c κs =
     let a = s .args in
     let h = some-starts (a .starts .now) (c .before .before .before .before .before .before .before .if1 .left) in
     let t = c .before .before .before .write-text .ensures in
-    (c .before .before .before .before .before .before .tag-length .ensures, s .pre .0, put-le (omega arith) t, omega (arith, t .counts, line-length (joinedText (a .names .now) (a .keys .now)) (a .starts .now) h, s .pre .1))
+    (c .before .before .before .before .before .before .tag-length .ensures, s .pre .0, omega (arith, t .ends, line-length (joinedText (a .names .now) (a .keys .now)) (a .starts .now) h, s .pre .1))
 
-cast-bytes : tie.Need-cast-bytes
-cast-bytes c =
-    let s = c .before .before .before .before .before .before .before .before .before .before .before .before .before .before .before .before in
-    let a = s .args in
-    let h = some-starts (a .starts .now) (c .before .before .before .before .before .before .before .before .before .before .before .if1 .left) in
-    let p = line-put (joinedText (a .names .now) (a .keys .now)) (a .starts .now) h (c .before .before .before .before .before .before .before .write-text .ensures) (c .before .before .before .write-rest .ensures) in
-    omega (arith, p .counts, s .pre .1)
-
-add-groups : tie.Need-add-groups
-add-groups c =
-    let s = c .before .before .before .before .before .before .before .before .before .before .before .before .before .before .before .before .before in
-    let a = s .args in
-    let h = some-starts (a .starts .now) (c .before .before .before .before .before .before .before .before .before .before .before .before .if1 .left) in
-    let p = line-put (joinedText (a .names .now) (a .keys .now)) (a .starts .now) h (c .before .before .before .before .before .before .before .before .write-text .ensures) (c .before .before .before .before .write-rest .ensures) in
-    omega (arith, p .counts, put-le (omega arith) p, s .pre .1)
+-- the line is written
+line : (c : tie.After-slice-known3) → Put (c .before .before .before .before .before .before .before .before .before .before .before .before .before .before .before .args .out .now) 0 (textsOf (c .before .before .before .before .before .before .before .before .before .before .before .before .before .before .before .args .names .now) (c .before .before .before .before .before .before .before .before .before .before .before .before .before .before .before .args .keys .now) (c .before .before .before .before .before .before .before .before .before .before .before .before .before .before .before .args .starts .now)) (c .before .before .write-rest .last .1 .1 .1 .1 .0) (c .before .before .write-rest .result)
+line c =
+    let a = c .before .before .before .before .before .before .before .before .before .before .before .before .before .before .before .args in
+    line-put (joinedText (a .names .now) (a .keys .now)) (a .starts .now) (some-starts (a .starts .now) (c .before .before .before .before .before .before .before .before .before .before .if1 .left)) (c .before .before .before .before .before .before .write-text .ensures) (c .before .before .write-rest .ensures)
 
 returns-2 : tie.Need-returns-2
-returns-2 c =
-    let s = c .before .before .before .before .before .before .before .before .before .before .before .before .before .before .before .before .before in
-    let a = s .args in
-    let h = some-starts (a .starts .now) (c .before .before .before .before .before .before .before .before .before .before .before .before .if1 .left) in
-    let p = line-put (joinedText (a .names .now) (a .keys .now)) (a .starts .now) h (c .before .before .before .before .before .before .before .before .write-text .ensures) (c .before .before .before .before .write-rest .ensures) in
-    line-written (joinedText (a .names .now) (a .keys .now)) (a .starts .now) h p
+returns-2 c = (line c .stores, omega (arith, line c .ends), refl)
 
 pub write-line-spec : {M : Type 1} → statement M
 write-line-spec =
     tie.close (tie.spec returns (λ c κs. search needs) (λ c. search needs) write-text-requires write-rest-requires
-    cast-bytes add-groups (λ c. search needs) returns-2)
+    (λ c. omega (arith, line c .ends, c .before .before .before .before .before .before .before .before .before .before .before .before .before .before .before .pre .1)) (λ c. search needs) (λ c. search needs) returns-2)
