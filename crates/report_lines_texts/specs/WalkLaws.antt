@@ -4,7 +4,8 @@ use mathlib.Core.Path.{_≡_}
 use mathlib.Core.List.{List, _∷_}
 use native.Mathlib.Omega.{arith}
 use lib.ListN.{length, getD, set}
-use Rattle.report_lines_texts.specs.ByteLaws.{AllBytes, bytes-joined}
+use Rattle.lists.specs.KeyLaws.{Under}
+use Rattle.report_lines_texts.specs.ByteLaws.{bytes-joined}
 use Rattle.sorting_texts.specs.Text.{entryText, joinedText}
 use Rattle.sorting_texts.specs.Walk.{leftFrom, WalksOn}
 use Rattle.sorting_texts.specs.WalkLaws.{left-start}
@@ -14,7 +15,7 @@ use Rattle.report_lines_texts.specs.WriteLaws.{Put, Coming, coming-all, 
 pub record Writing (names keys : List ℕ) (x : ℕ) (old : List ℕ) (at : ℕ) (new : List ℕ) (entry i k : ℕ) : Type 0 where
   pub coming : Coming old at (joinedText names keys x) new k (leftFrom names keys entry i)
   pub within : i ≤ length (entryText names keys (getD keys entry 0))
-  pub bytes : AllBytes (leftFrom names keys entry i)
+  pub bytes : Under 256 (leftFrom names keys entry i)
 
 module _ {names keys : List ℕ} {x : ℕ} {old : List ℕ} {at : ℕ} where
   pub writing-start : ((i : ℕ) → getD names i 0 < 256) → ((i : ℕ) → i < 16 → getD keys i 0 < 256) → Writing names keys x old at old (16 + x) 0 at
@@ -36,7 +37,7 @@ module _ {names keys : List ℕ} {x : ℕ} {old : List ℕ} {at : ℕ} where
         next : Coming old at (joinedText names keys x) new k (n ∷ leftFrom names keys e j)
         next = rw (step .shows .one some) at (c .coming)
 
-        rest : AllBytes (n ∷ leftFrom names keys e j)
+        rest : Under 256 (n ∷ leftFrom names keys e j)
         rest = rw (step .shows .one some) at (c .bytes)
 
         pub writing-byte : n < 256
