@@ -6,7 +6,7 @@ use mathlib.Core.Logic.{inl, inr}
 use mathlib.Core.List.{List, [], _∷_, _++_, map}
 use native.Mathlib.Omega.{arith}
 use lib.Dec.{eqb}
-use lib.ListN.{length}
+use lib.ListN.{length, length-append}
 use Rattle.lists.specs.Lists.{In, times}
 use Rattle.lists.specs.FirstLaws.{times-append}
 use Rattle.sorting_spec.specs.Sort.{insert, sorted}
@@ -42,7 +42,11 @@ module _ {A : Type 0} (f : A → ℕ) where
   total-zero [] h = refl
   total-zero (x ∷ xs) h = omega (arith, h x (inl refl), total-zero xs (λ y i. h y (inr i)))
 
--- lists joined by a number: how often a number stands in them
+-- lists joined by a number: how long they are, and how often a number stands in them
+pub length-joined : (by : ℕ) (ls : List (List ℕ)) → length (joinAfter by ls) ≡ total (λ (l : List ℕ). suc (length l)) ls
+length-joined by [] = refl
+length-joined by (l ∷ ls) = omega (arith, length-append l (joinAfter by ls), length-joined by ls)
+
 pub times-joined : (k by : ℕ) (ls : List (List ℕ)) → times k (joinAfter by ls) ≡ cond (eqb by k) (length ls) 0 + total (times k) ls
 times-joined k by [] = go (eqb by k)
   where

@@ -9,11 +9,12 @@ use native.Mathlib.Numerals.{add-one}
 use borrow.Author.Tests.{lt-ltb, le-ltb}
 use lib.ListN.{length, drop, length-append}
 use Rattle.lists.specs.Tests.{below?}
-use Rattle.sorting_spec.specs.Sort.{insert, sorted}
+use Rattle.sorting_spec.specs.Sort.{sorted}
 use Rattle.sorting_spec.specs.Lex.{lexLe}
 use Rattle.sorting_spec.specs.Joined.{joinAfter, join}
 use Rattle.sorting_texts.specs.Text.{entryText}
 use Rattle.sorting_texts.specs.EntryLaws.{entry-short}
+use Rattle.report_lines_spec.specs.TotalLaws.{total-sorted, length-joined}
 use Rattle.report_lines_write.specs.Laid.{boundIn, stretchIn, someIn, somes, textIn, lineIn, StretchesLaid}
 use Rattle.report_lines_write.specs.ListLaws.{kept-up}
 use Rattle.report_lines_write.specs.ReadyLaws.{stretch-adds}
@@ -28,22 +29,8 @@ after-snoc by (k ∷ ls) l =
     omega (arith, length-append k (joinAfter by (ls ++ (l ∷ []))), after-snoc by ls l, length-append k (joinAfter by ls))
 
 -- sorting leaves the length
-after-insert : (by : ℕ) (le : List ℕ → List ℕ → Bool) (l : List ℕ) (ls : List (List ℕ)) → length (joinAfter by (insert le l ls)) ≡ length (joinAfter by (l ∷ ls))
-after-insert by le l [] = refl
-after-insert by le l (k ∷ ls) = go (le l k) (after-insert by le l ls)
-  where
-    go : (t : Bool) → length (joinAfter by (insert le l ls)) ≡ length (joinAfter by (l ∷ ls)) → length (joinAfter by (cond t (l ∷ k ∷ ls) (k ∷ insert le l ls))) ≡ length (joinAfter by (l ∷ k ∷ ls))
-    go true r = refl
-    go false r =
-        ap suc
-        (length-append k (joinAfter by (insert le l ls))
-        ∙ omega (arith, r, length-append l (joinAfter by ls), length-append l (by ∷ (k ++ joinAfter by ls)), length-append k (joinAfter by ls)))
-
 after-sorted : (by : ℕ) (le : List ℕ → List ℕ → Bool) (ls : List (List ℕ)) → length (joinAfter by (sorted le ls)) ≡ length (joinAfter by ls)
-after-sorted by le [] = refl
-after-sorted by le (l ∷ ls) =
-    after-insert by le l (sorted le ls)
-    ∙ ap suc (length-append l (joinAfter by (sorted le ls)) ∙ ap (λ (n : ℕ). length l + n) (after-sorted by le ls) ∙ sym (length-append l (joinAfter by ls)))
+after-sorted by le ls = length-joined by (sorted le ls) ∙ total-sorted (λ (l : List ℕ). suc (length l)) le ls ∙ sym (length-joined by ls)
 
 entries-short : (names keys xs : List ℕ) → length (joinAfter 47 (map (entryText names keys) xs)) ≤ 81 * length xs
 entries-short names keys [] = omega arith
