@@ -10,7 +10,8 @@ use crate::cover::model as cover;
 use crate::entry::{Against, Context, Tally};
 use crate::protein_groups::call;
 use crate::protein_groups::model::{MEMBER, MOST_MEMBERS};
-use crate::report_lines::model::{Call, Line};
+use crate::report_lines::model::{applying, semicolons_in_names, Call, Line};
+use crate::report_lines::SEMICOLONS;
 use crate::rng::Rng;
 use cases::Pass;
 use said::{ask, ask_of_rows, read, read_rows};
@@ -35,10 +36,11 @@ fn covered(rng: &mut Rng, pass: &Pass) -> Checked<(Vec<u8>, Vec<u8>)> {
     Ok((grouped.members[..members * MEMBER].to_vec(), marks.buffer))
 }
 
-/// The lines of all peptides.
-fn lines(rng: &mut Rng, pass: &Pass) -> Checked<Vec<Line>> {
+/// The lines of all peptides, as the original counts them: with the `;` in names.
+fn lines(tally: &mut Tally, rng: &mut Rng, pass: &Pass) -> Checked<Vec<Line>> {
     let (members, marks) = covered(rng, pass)?;
     let mut lines = Vec::new();
+    let mut some_in_names = false;
     for peptide in 0..pass.flags.len() {
         let call = Call {
             names: pass.names.clone(),
@@ -51,7 +53,13 @@ fn lines(rng: &mut Rng, pass: &Pass) -> Checked<Vec<Line>> {
         };
         let said = report_lines::report_line(&call, &vec![0xee; pass.room()])?;
         let sizes = accepted(said.answer)?;
-        lines.push(Line { text: said.buffer[..sizes.bytes as usize].to_vec(), groups: sizes.groups });
+        let in_names = semicolons_in_names(&call, &applying(&call));
+        some_in_names |= in_names > 0;
+        let text = said.buffer[..sizes.bytes as usize].to_vec();
+        lines.push(Line { text, groups: sizes.groups + in_names });
+    }
+    if some_in_names {
+        tally.intended(SEMICOLONS);
     }
     Ok(lines)
 }
@@ -59,7 +67,8 @@ fn lines(rng: &mut Rng, pass: &Pass) -> Checked<Vec<Line>> {
 const PASSES: Asked<Pass> = Asked {
     ask: |context, passes| ask(&context.oracle, passes),
     hold: |tally, rng, pass, answer| {
-        tally.case(pass, &lines(rng, pass), &read(&answer, pass.flags.len()));
+        let ours = lines(tally, rng, pass);
+        tally.case(pass, &ours, &read(&answer, pass.flags.len()));
     },
     rooms: "passes, work memory",
 };
@@ -83,21 +92,23 @@ pub fn examples(context: &Context) -> Tally {
     let wanted: Vec<Line> = (0..4).map(lines_of).collect();
     let answer = ask(&context.oracle, std::slice::from_ref(&pass));
     tally.case(&pass, &Ok(read(&answer[0], 4)), &wanted);
-    tally.case(&pass, &lines(&mut context.rng("passes, P10"), &pass), &wanted);
+    let ours = lines(&mut tally, &mut context.rng("passes, P10"), &pass);
+    tally.case(&pass, &ours, &wanted);
     tally
 }
 
 /// The lines of all peptides, where none is written as the original does it: with the names of all proteins.
-fn rows(rng: &mut Rng, pass: &Pass) -> Checked<Vec<Line>> {
+fn rows(tally: &mut Tally, rng: &mut Rng, pass: &Pass) -> Checked<Vec<Line>> {
     let row = |(peptide, line): (usize, Line)| if line.groups == 0 { pass.all_names(peptide) } else { line };
-    Ok(lines(rng, pass)?.into_iter().enumerate().map(row).collect())
+    Ok(lines(tally, rng, pass)?.into_iter().enumerate().map(row).collect())
 }
 
 /// The rows that the original's public function annotates.
 const ROWS: Asked<Pass> = Asked {
     ask: |context, passes| ask_of_rows(&context.oracle, passes),
     hold: |tally, rng, pass, answer| {
-        tally.case(pass, &rows(rng, pass), &read_rows(&answer, pass.flags.len()));
+        let ours = rows(tally, rng, pass);
+        tally.case(pass, &ours, &read_rows(&answer, pass.flags.len()));
     },
     rooms: "passes, work memory of rows",
 };

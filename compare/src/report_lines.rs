@@ -1,4 +1,4 @@
-//! Report lines: against the original's, byte for byte and in their counts.
+//! Report lines: against the original's, byte for byte, and in their counts, but for the `;` in names that the original counts.
 pub mod cases;
 pub mod model;
 pub mod refusals;
@@ -13,11 +13,12 @@ use crate::protein_groups::model::Member;
 use crate::rng::Rng;
 use crate::room;
 use crate::shown::from_difference;
-use model::{applying, filled, line_of, Call, Line, Sizes};
+use model::{applying, filled, line_of, semicolons_in_names, Call, Line, Sizes};
 use said::{ask, can_be_asked, read};
 use std::collections::HashSet;
 
 const EQUAL: &str = "of two marked groups with the same members (two, the Rust one)";
+pub const SEMICOLONS: &str = "with a `;` in a name of the line (the Rust counts it)";
 
 /// Holds one call against what its answer and its line have to be.
 pub fn hold(tally: &mut Tally, call: &Call, out: &[u8], wanted: &Filled<Sizes>) {
@@ -41,17 +42,30 @@ fn distinct(groups: &[Vec<Member>]) -> Vec<Vec<Member>> {
     groups.iter().filter(|group| known.insert(members(group))).cloned().collect()
 }
 
-/// Holds a call against the original's answer, or against document 01's where groups have the same members.
+/// What the original says of groups, none of which has the same members as another.
+fn said_of(call: &Call, groups: &[Vec<Member>]) -> Line {
+    let line = line_of(call, groups);
+    Line { groups: line.groups + semicolons_in_names(call, groups), ..line }
+}
+
+/// Holds a call against the original's answer, its count without the `;` in names, or against ours where groups have the same
+/// members.
 fn hold_to_rust(tally: &mut Tally, rng: &mut Rng, call: &Call, said: &Line) {
     let groups = applying(call);
     let distinct = distinct(&groups);
+    let in_names = semicolons_in_names(call, &distinct);
     if distinct.len() == groups.len() {
-        return hold_with_rooms(tally, rng, call, said);
+        let counted = Line { groups: said.groups.wrapping_sub(in_names), ..said.clone() };
+        hold_with_rooms(tally, rng, call, &counted);
+    } else {
+        hold_with_rooms(tally, rng, call, &line_of(call, &groups));
+        tally.intended(EQUAL);
+        if *said != said_of(call, &distinct) {
+            tally.fail(call, &format!("the Rust says {} {}", said.groups, said.text.escape_ascii()));
+        }
     }
-    hold_with_rooms(tally, rng, call, &line_of(call, &groups));
-    tally.intended(EQUAL);
-    if *said != line_of(call, &distinct) {
-        tally.fail(call, &format!("the Rust says {}", said.text.escape_ascii()));
+    if in_names > 0 {
+        tally.intended(SEMICOLONS);
     }
 }
 
@@ -87,7 +101,7 @@ pub fn long_calls(context: &Context) -> Tally {
 pub fn model_lines(context: &Context) -> Tally {
     let calls = |rng| with_larger(rng, 60_000, 30, cases::larger, cases::random).filter(can_be_asked);
     CALLS.entry(context, "model: report lines").model(calls, |tally, call, answer| {
-        tally.case(call, &Ok(line_of(call, &distinct(&applying(call)))), &read(&answer));
+        tally.case(call, &Ok(said_of(call, &distinct(&applying(call)))), &read(&answer));
     })
 }
 

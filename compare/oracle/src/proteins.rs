@@ -7,7 +7,7 @@ use oracle::protein_grouping::{generate_protein_groups, probe};
 use oracle::scoring::Feature;
 use std::sync::Arc;
 
-/// Peptides that have a decoy flag each, and the proteins of `peptide.protein` pairs in their order.
+/// Peptides that have a decoy flag each, and the proteins of `peptide.protein` pairs in their order. No name holds a blank.
 fn database(decoys: &str, pairs: &str, tag: &str, generate: bool) -> IndexedDatabase {
     let peptide = |c: u8| Peptide { decoy: c == b'1', ..Default::default() };
     let mut db = IndexedDatabase {
@@ -16,7 +16,7 @@ fn database(decoys: &str, pairs: &str, tag: &str, generate: bool) -> IndexedData
         generate_decoys: generate,
         ..Default::default()
     };
-    for (peptide, protein) in list(pairs, ';').into_iter().map(two) {
+    for (peptide, protein) in list(pairs, ' ').into_iter().map(two) {
         db.peptides[number::<usize>(peptide)].proteins.push(Arc::from(protein));
     }
     db

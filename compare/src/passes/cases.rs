@@ -57,7 +57,7 @@ fn pass(rng: &mut Rng, (pairs, flags, proteins): Shown) -> Pass {
     if tag == b"-" {
         tag.clear();
     }
-    let names = catalogue(rng, proteins, &tag, true);
+    let names = catalogue(rng, proteins, &tag, false);
     let mut grouped = with_pairs(&pairs, &flags);
     if rng.once_in(3) {
         grouped.retain(|_| rng.once_in(2));

@@ -8,7 +8,7 @@ use crate::report_lines::model::Line;
 /// The fields of flags and pairs.
 fn database(pass: &Pass) -> String {
     let pair = |(peptide, protein): &Edge| format!("{peptide}.{}", text(pass.name(*protein)));
-    format!("{}\t{}", digits_field(&pass.flags), list_field(pass.pairs.iter().map(pair), ";"))
+    format!("{}\t{}", digits_field(&pass.flags), list_field(pass.pairs.iter().map(pair), " "))
 }
 
 fn tag(pass: &Pass) -> String {

@@ -1,7 +1,7 @@
 //! What the original says of pairs. Its proteins have names: here a protein's number.
 use super::model::{Groups, Member};
 use crate::cover::model::Edge;
-use crate::fields::{digits_field, edges_field, list_field};
+use crate::fields::{digits_field, list_field};
 use crate::oracle::{answered, Oracle};
 
 /// Pairs, the decoy flags of peptides, and the number of proteins.
@@ -17,7 +17,8 @@ pub fn with_pairs(pairs: &[Edge], flags: &[u8]) -> Vec<usize> {
 }
 
 fn line((pairs, flags, _): &Shown, taking: &[usize]) -> String {
-    format!("GROUPP\t{}\t{}\t{}", digits_field(flags), edges_field(pairs), list_field(taking, ","))
+    let pairs = pairs.iter().map(|(peptide, protein)| format!("{peptide}.{protein}"));
+    format!("GROUPP\t{}\t{}\t{}", digits_field(flags), list_field(pairs, " "), list_field(taking, ","))
 }
 
 /// One answer for each list of pairs: only peptides with a pair take part.

@@ -47,14 +47,14 @@ fn tricky_name(rng: &mut Rng, tag: &[u8], earlier: &[Vec<u8>]) -> Vec<u8> {
     }
 }
 
-/// So many names, all different, in no order; none with `;` in it or just `-` where the original reads them in pairs.
-pub fn catalogue(rng: &mut Rng, count: usize, tag: &[u8], in_pairs: bool) -> Vec<u8> {
+/// So many names, all different, in no order; none is just `-` where the original writes that for no line.
+pub fn catalogue(rng: &mut Rng, count: usize, tag: &[u8], dash: bool) -> Vec<u8> {
     let mut known = HashSet::new();
     let mut names: Vec<Vec<u8>> = Vec::new();
     while names.len() < count {
         let name = tricky_name(rng, tag, &names);
-        let apart = in_pairs && (name.contains(&b';') || name == b"-");
-        if name.len() <= NAME && !apart && known.insert(name.clone()) {
+        let wanted = name.len() <= NAME && (dash || name != b"-");
+        if wanted && known.insert(name.clone()) {
             names.push(name);
         }
     }
@@ -108,7 +108,7 @@ fn of_sizes(rng: &mut Rng, [names, groups, members, list]: [usize; 4]) -> Call {
     };
     let list = if names == 0 { 0 } else { list };
     Call {
-        names: catalogue(rng, names, &tag, false),
+        names: catalogue(rng, names, &tag, true),
         members: bytes_of(&all),
         marks,
         proteins: (0..list).map(|_| rng.below(names) as u32).collect(),

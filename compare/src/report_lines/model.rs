@@ -1,4 +1,4 @@
-//! Document 01's report line as plain Rust.
+//! Document 01's report line, with document 02's count, as plain Rust.
 use crate::answer::*;
 use crate::digest_groups::model::{name, names_test, shown_names, MOST_NAMES, NAME};
 use crate::protein_groups::model::{Member, MEMBER, MOST_MEMBERS};
@@ -81,14 +81,16 @@ pub fn applying(call: &Call) -> Vec<Vec<Member>> {
         .collect()
 }
 
+/// "Decoys get the tag where decoys are generated."
+fn tagged(call: &Call, member: &Member) -> Vec<u8> {
+    let tag: &[u8] = if member.decoy == 1 && call.generated == 1 { &call.tag } else { &[] };
+    [tag, call.name(member.protein)].concat()
+}
+
 /// "Names in a group, tag included, sorted and joined by `/`, groups sorted and joined by `;`."
-pub fn text(call: &Call, groups: &[Vec<Member>]) -> Vec<u8> {
-    let tagged = |member: &Member| {
-        let tag: &[u8] = if member.decoy == 1 && call.generated == 1 { &call.tag } else { &[] };
-        [tag, call.name(member.protein)].concat()
-    };
+fn text(call: &Call, groups: &[Vec<Member>]) -> Vec<u8> {
     let group_text = |members: &Vec<Member>| {
-        let mut names: Vec<Vec<u8>> = members.iter().map(tagged).collect();
+        let mut names: Vec<Vec<u8>> = members.iter().map(|member| tagged(call, member)).collect();
         names.sort();
         names.join(&b'/')
     };
@@ -97,11 +99,15 @@ pub fn text(call: &Call, groups: &[Vec<Member>]) -> Vec<u8> {
     texts.join(&b';')
 }
 
-/// "The group count is the number of `;` plus one, or 0 and an empty line where no group applies."
+/// Document 02, [3]: "the number of marked groups that hold a protein of the peptide with its decoy flag, whatever the names contain".
 pub fn line_of(call: &Call, groups: &[Vec<Member>]) -> Line {
-    let text = text(call, groups);
-    let parts = text.iter().filter(|byte| **byte == b';').count() as u32 + 1;
-    Line { groups: if groups.is_empty() { 0 } else { parts }, text }
+    Line { text: text(call, groups), groups: groups.len() as u32 }
+}
+
+/// How many `;` the names of groups hold, tag included. The original counts the `;` of the line, and so these too.
+pub fn semicolons_in_names(call: &Call, groups: &[Vec<Member>]) -> u32 {
+    let names = groups.iter().flatten().flat_map(|member| tagged(call, member));
+    names.filter(|byte| *byte == b';').count() as u32
 }
 
 pub fn line(call: &Call) -> Line {

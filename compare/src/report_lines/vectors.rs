@@ -1,5 +1,6 @@
-//! A sample of the original's report lines, where no two groups have the same members.
-use super::model::{applying, Call, Line};
+//! A sample of the original's report lines, where no two groups have the same members. The count is the original's without the `;` in
+//! names.
+use super::model::{applying, semicolons_in_names, Call, Line};
 use super::said::{ask, can_be_asked, read};
 use super::{cases, distinct};
 use crate::asked::drawn;
@@ -16,7 +17,8 @@ fn line(call: &Call, said: &Line) -> String {
     let (marks, proteins) = (digits_field(&call.marks), list_field(&call.proteins, "."));
     let Call { decoy, generated, tag, .. } = call;
     let given = format!("{names} {members} {marks} {proteins} {decoy} {} {generated}", hex(tag));
-    format!("{given} {} {}\n", said.groups, hex(&said.text))
+    let groups = said.groups - semicolons_in_names(call, &applying(call));
+    format!("{given} {groups} {}\n", hex(&said.text))
 }
 
 /// Few of those that apply no group.
