@@ -10,7 +10,7 @@ use crate::cover::model as cover;
 use crate::entry::{Against, Context, Tally};
 use crate::protein_groups::call;
 use crate::protein_groups::model::{MEMBER, MOST_MEMBERS};
-use crate::report_lines::model::{applying, semicolons_in_names, Call, Line};
+use crate::report_lines::model::{applying, semicolons_in_names, Line};
 use crate::report_lines::SEMICOLONS;
 use crate::rng::Rng;
 use cases::Pass;
@@ -42,15 +42,7 @@ fn lines(tally: &mut Tally, rng: &mut Rng, pass: &Pass) -> Checked<Vec<Line>> {
     let mut lines = Vec::new();
     let mut some_in_names = false;
     for peptide in 0..pass.flags.len() {
-        let call = Call {
-            names: pass.names.clone(),
-            members: members.clone(),
-            marks: marks.clone(),
-            proteins: pass.proteins_of(peptide),
-            decoy: pass.flags[peptide].into(),
-            tag: pass.tag.clone(),
-            generated: pass.generated,
-        };
+        let call = pass.call(peptide, &members, &marks);
         let said = report_lines::report_line(&call, &vec![0xee; pass.room()])?;
         let sizes = accepted(said.answer)?;
         let in_names = semicolons_in_names(&call, &applying(&call));

@@ -6,7 +6,7 @@ use crate::protein_groups::cases as pairs;
 use crate::protein_groups::p10 as groups_p10;
 use crate::protein_groups::said::{with_pairs, Shown};
 use crate::report_lines::cases::{catalogue, tag};
-use crate::report_lines::model::{Line, MOST_TAG};
+use crate::report_lines::model::{Call, Line, MOST_TAG};
 use crate::rng::Rng;
 
 #[derive(Clone, Debug)]
@@ -27,6 +27,19 @@ impl Pass {
 
     pub fn proteins_of(&self, peptide: usize) -> Vec<u32> {
         self.pairs.iter().filter(|pair| pair.0 as usize == peptide).map(|pair| pair.1).collect()
+    }
+
+    /// The call for the line of a peptide, given the members of the groups and their marks.
+    pub fn call(&self, peptide: usize, members: &[u8], marks: &[u8]) -> Call {
+        Call {
+            names: self.names.clone(),
+            members: members.to_vec(),
+            marks: marks.to_vec(),
+            proteins: self.proteins_of(peptide),
+            decoy: self.flags[peptide].into(),
+            tag: self.tag.clone(),
+            generated: self.generated,
+        }
     }
 
     /// What the original writes for a peptide without a group.

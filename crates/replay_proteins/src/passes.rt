@@ -1,6 +1,6 @@
 // Whole passes: groups of proteins, their cover, and the report lines of all peptides. A line is the names in hexadecimal, divided by
 // `;`, the flags of the peptides as digits, the pairs as `peptide.protein`, divided by `;`, the tag in hexadecimal, whether decoys
-// are generated, and the Rust's texts in hexadecimal, divided by `;`; `-` stands for none.
+// are generated, the Rust's texts in hexadecimal, divided by `;`, and their numbers of groups, divided by `.`; `-` stands for none.
 use protein_groups::Grouped;
 use protein_groups::Sizes;
 use records::Counted;
@@ -14,6 +14,7 @@ use text_fields::is_text;
 use text_fields::item_end;
 use text_fields::marks_at;
 use text_fields::names_at;
+use text_fields::numbers_at;
 use text_fields::records_at;
 use text_lines::more;
 use text_lines::narrow;
@@ -48,7 +49,15 @@ fn proteins_of(pairs: &[u8], peptide: u32, out: &mut [u32]) -> usize
     n
 }
 
-// Whether the library writes an item's text as the Rust did.
+// How many groups a line has for a peptide.
+fn groups_of(line: &[u8], peptide: u32) -> u32 {
+    let mut groups = [0u32; 32];
+    let n = numbers_at(line, 6, &mut groups);
+    let i = peptide as usize;
+    if i < n { groups[i] } else { 0 }
+}
+
+// Whether the library writes an item's text as the Rust did, and names so many groups.
 fn is_written(
     line: &[u8],
     names: &[u8],
@@ -57,6 +66,7 @@ fn is_written(
     list: &[u32],
     decoy: bool,
     item: &[u8],
+    groups: u32,
 ) -> bool {
     let mut tag = [0u8; 17];
     let mut out = [7u8; 256];
@@ -73,7 +83,7 @@ fn is_written(
         &mut out,
     );
     match answer {
-        Reported::Line(report) => is_text(item, &out, report.bytes),
+        Reported::Line(report) => (report.groups == groups) & is_text(item, &out, report.bytes),
         Reported::Refused(_) => false,
     }
 }
@@ -91,7 +101,8 @@ fn is_line(
 ) -> bool {
     let mut list = [0u32; 64];
     let n = proteins_of(pairs, peptide, &mut list);
-    is_written(line, names, members, marks, &list[..n], decoy, item)
+    let groups = groups_of(line, peptide);
+    is_written(line, names, members, marks, &list[..n], decoy, item, groups)
 }
 
 // Behind the byte that ends an item, or the end.
@@ -102,7 +113,7 @@ fn next_item(line: &[u8], end: usize) -> usize
     if end < line.len() { end + 1 } else { end }
 }
 
-// Whether the texts of all peptides are those of a line.
+// Whether the texts of all peptides and their numbers of groups are those of a line.
 fn are_lines(
     line: &[u8],
     names: &[u8],
