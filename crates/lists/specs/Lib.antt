@@ -2,6 +2,7 @@
 pub mod Lists
 pub mod Tests
 pub mod KeepLaws
+pub mod TotalLaws
 pub mod SameLaws
 pub mod InLaws
 pub mod RowLaws

@@ -8,11 +8,12 @@ use lib.ListN.{length, getD}
 use Rattle.lists.specs.Lists.{upFrom, keep}
 use Rattle.lists.specs.FrameLaws.{Framed, framed-then, framed-within}
 use Rattle.lists.specs.KeyLaws.{under-keep}
+use Rattle.lists.specs.TotalLaws.{total-keep}
 use Rattle.sorting_spec.specs.Sort.{sorted}
 use Rattle.sorting_spec.specs.PartLaws.{drop-same}
 use Rattle.sorting_spec.specs.Runs.{runsOf}
 use Rattle.protein_groups_spec.specs.CountingLaws.{metasIn, groupsIn}
-use Rattle.protein_groups_spec.specs.LeaderLaws.{leTexts, spreadSorted, total, total-keep}
+use Rattle.protein_groups_spec.specs.LeaderLaws.{leTexts, spreadSorted, textsLength}
 use Rattle.protein_groups_numbering.specs.declared.plan.Plan.{Plan}
 use Rattle.protein_groups_numbering.specs.SpreadLaws.{planText, keysTo, valuesTo}
 use Rattle.protein_groups_runs.specs.TakerLaws.{hasText, Takers}
@@ -43,11 +44,11 @@ module _ (w₀ w₁ : List ℕ) (p : Plan) (t : ℕ) (l₁ : length w₁ ≡ len
   ends₁ : getD w₁ (p .bounds + p .kinds) 0 ≤ p .count
   ends₁ = rw (from (p .bounds + p .kinds) (omega arith)) (g .ends)
 
-  short : total (planText p w₁) (keep (hasText w₀ (p .bounds)) (upFrom 0 (p .kinds))) ≤ p .count
+  short : textsLength (planText p w₁) (keep (hasText w₀ (p .bounds)) (upFrom 0 (p .kinds))) ≤ p .count
   short =
       let e : 0 + p .kinds ≡ p .kinds = omega arith in
       let z = rw e at (total-up w₁ (p .bounds) (p .texts) (p .kinds) 0 (p .kinds) (omega arith) rises₁) in
-      omega (arith, total-keep (planText p w₁) (hasText w₀ (p .bounds)) (upFrom 0 (p .kinds)), ends₁)
+      omega (arith, total-keep (λ (n : ℕ). length (planText p w₁ n)) (hasText w₀ (p .bounds)) (upFrom 0 (p .kinds)), ends₁)
 
   pub taken-things : Things w₁ p t
   taken-things = record {

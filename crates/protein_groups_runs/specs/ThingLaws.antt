@@ -10,14 +10,14 @@ use lib.Seq.{slice}
 use Rattle.lists.specs.Lists.{upFrom}
 use Rattle.lists.specs.FrameLaws.{Framed, framed-then, framed-within}
 use Rattle.lists.specs.KeyLaws.{Under, under-at}
-use Rattle.sorting_spec.specs.SortLaws.{under-sorted}
+use Rattle.sorting_spec.specs.SortLaws.{total-sorted, under-sorted}
 use Rattle.sorting_texts.specs.declared.text.By.the-variants.{Numbers}
 use Rattle.sorting_spec.specs.Sort.{sorted}
 use Rattle.sorting_texts.specs.Text.{textBy}
 use Rattle.sorting_spec.specs.PartLaws.{at-slice, slice-same, drop-same}
 use Rattle.sorting_spec.specs.Runs.{runsOf, runNumbers}
 use Rattle.protein_groups_spec.specs.CountingLaws.{metasIn, groupsIn}
-use Rattle.protein_groups_spec.specs.LeaderLaws.{leTexts, spreadSorted, total, total-sorted, spread-most}
+use Rattle.protein_groups_spec.specs.LeaderLaws.{leTexts, spreadSorted, textsLength, spread-most}
 use Rattle.protein_groups_numbering.specs.declared.plan.Plan.{Plan}
 use Rattle.protein_groups_numbering.specs.SliceLaws.{slice-long}
 use Rattle.protein_groups_numbering.specs.SpreadLaws.{textAt, planText, thingsTo, runsTo, keysTo, valuesTo, spreadOf, Spreadable, RunsSpread}
@@ -25,7 +25,7 @@ use Rattle.protein_groups_runs.specs.OrderingLaws.{RunsOrdered, text-is}
 
 -- the texts of the stretches i, i + 1, .. are no longer than what is left
 pub total-up : (w : List ℕ) (c l m i d : ℕ) → i + d ≤ m → ((j : ℕ) → j < m → getD w (c + j) 0 ≤ getD w (c + (j + 1)) 0)
-    → total (textAt w c l) (upFrom i d) + getD w (c + i) 0 ≤ getD w (c + (i + d)) 0
+    → textsLength (textAt w c l) (upFrom i d) + getD w (c + i) 0 ≤ getD w (c + (i + d)) 0
 total-up w c l m i zero h g = let u : i + 0 ≡ i = omega arith in rw u (omega arith)
 total-up w c l m i (suc d) h g =
     let u : i + suc d ≡ suc i + d = omega arith in
@@ -65,7 +65,7 @@ pub record PlanFits (w : List ℕ) (p : Plan) (t : ℕ) : Type 0 where
 pub record Things (w : List ℕ) (p : Plan) (t : ℕ) : Type 0 where
   pub tables : PlanFits w p t
   pub inside : Under (p .kinds) (thingsTo p t w)
-  pub most : total (planText p w) (thingsTo p t w) ≤ p .count
+  pub most : textsLength (planText p w) (thingsTo p t w) ≤ p .count
 
 abbrev pub sortedThings : Plan → ℕ → List ℕ → List ℕ
 sortedThings p t w = sorted (leTexts (planText p w)) (thingsTo p t w)
@@ -115,7 +115,7 @@ module _ (w₀ w₂ : List ℕ) (p : Plan) (t r : ℕ) (l₂ : length w₂ ≡ l
     bounds = λ j h. omega (arith, inside₂ j h, f .bounds, f .lists);
     rises = λ j h. bound₂ (getD w₂ (p .things + j) 0) (inside₂ j h) .0;
     ends = λ j h. omega (arith, bound₂ (getD w₂ (p .things + j) 0) (inside₂ j h) .1, f .lists);
-    room = rw spreadSorted₂ (omega (arith, spread-most (planText p w₀) 0 (runNumbers (leTexts (planText p w₀)) (sortedThings p t w₀)) (sortedThings p t w₀), total-sorted (planText p w₀) (leTexts (planText p w₀)) (thingsTo p t w₀), g .most));
+    room = rw spreadSorted₂ (omega (arith, spread-most (planText p w₀) 0 (runNumbers (leTexts (planText p w₀)) (sortedThings p t w₀)) (sortedThings p t w₀), total-sorted (λ (n : ℕ). length (planText p w₀ n)) (leTexts (planText p w₀)) (thingsTo p t w₀), g .most));
   }
 
   module _ (w₃ : List ℕ) (q : ℕ) (l₃ : length w₃ ≡ length w₂) (s : RunsSpread w₂ w₃ p t q) where

@@ -14,7 +14,8 @@ use Rattle.lists.specs.Lists.{In, keep, same}
 use Rattle.lists.specs.Tests.{clash}
 use Rattle.lists.specs.SameLaws.{same-refl, same-eq}
 use Rattle.lists.specs.KeyLaws.{Under}
-use Rattle.sorting_spec.specs.Sort.{insert, sorted}
+use Rattle.lists.specs.TotalLaws.{total}
+use Rattle.sorting_spec.specs.Sort.{sorted}
 use Rattle.sorting_spec.specs.SortLaws.{sorted-in}
 use Rattle.sorting_spec.specs.Lex.{lexLe}
 use Rattle.sorting_spec.specs.Runs.{equalsAfter, runsOf, joined, next, numbersFrom, runNumbers}
@@ -147,44 +148,22 @@ module _ (text : ℕ → List ℕ) where
   gathered-walk f ns = ap (runsTagged f 0) (sym (runs-distinct text ns)) ∙ sym (walk-runs f leTexts (sorted leTexts ns))
 
   -- the lengths of all texts
-  abbrev pub total : List ℕ → ℕ
-  total [] = 0
-  total (x ∷ xs) = length (text x) + total xs
+  abbrev pub textsLength : List ℕ → ℕ
+  textsLength = total (λ (x : ℕ). length (text x))
 
   long-along : (g : ℕ) (l : List ℕ) → length (along g l) ≡ length l
   long-along g [] = refl
   long-along g (x ∷ xs) = ap suc (long-along g xs)
 
-  pub spread-most : (k : ℕ) (gs xs : List ℕ) → length (spreadBy k gs xs) ≤ total xs
+  pub spread-most : (k : ℕ) (gs xs : List ℕ) → length (spreadBy k gs xs) ≤ textsLength xs
   spread-most k [] xs = omega arith
   spread-most k (g ∷ gs) [] = omega arith
   spread-most k (g ∷ gs) (x ∷ xs) = go (eqb g k) (spread-most k gs xs) (spread-most (k + 1) gs xs)
     where
-      go : (t : Bool) → length (spreadBy k gs xs) ≤ total xs → length (spreadBy (k + 1) gs xs) ≤ total xs
-          → length (cond t (along g (text x) ++ spreadBy (k + 1) gs xs) (spreadBy k gs xs)) ≤ length (text x) + total xs
+      go : (t : Bool) → length (spreadBy k gs xs) ≤ textsLength xs → length (spreadBy (k + 1) gs xs) ≤ textsLength xs
+          → length (cond t (along g (text x) ++ spreadBy (k + 1) gs xs) (spreadBy k gs xs)) ≤ length (text x) + textsLength xs
       go true a b = omega (arith, length-append (along g (text x)) (spreadBy (k + 1) gs xs), long-along g (text x))
       go false a b = omega arith
-
-  total-insert : (f : ℕ → ℕ → Bool) (x : ℕ) (s : List ℕ) → total (insert f x s) ≡ length (text x) + total s
-  total-insert f x [] = refl
-  total-insert f x (y ∷ ys) = go (f x y) (total-insert f x ys)
-    where
-      go : (t : Bool) → total (insert f x ys) ≡ length (text x) + total ys
-          → total (cond t (x ∷ y ∷ ys) (y ∷ insert f x ys)) ≡ length (text x) + (length (text y) + total ys)
-      go true h = refl
-      go false h = omega arith
-
-  pub total-sorted : (f : ℕ → ℕ → Bool) (s : List ℕ) → total (sorted f s) ≡ total s
-  total-sorted f [] = refl
-  total-sorted f (x ∷ xs) = total-insert f x (sorted f xs) ∙ ap (λ (y : ℕ). length (text x) + y) (total-sorted f xs)
-
-  pub total-keep : (p : ℕ → Bool) (s : List ℕ) → total (keep p s) ≤ total s
-  total-keep p [] = omega arith
-  total-keep p (x ∷ xs) = go (p x) (total-keep p xs)
-    where
-      go : (t : Bool) → total (keep p xs) ≤ total xs → total (cond t (x ∷ keep p xs) (keep p xs)) ≤ length (text x) + total xs
-      go true h = omega arith
-      go false h = omega arith
 
   -- what is spread out is below what all texts are
   under-along : (k g : ℕ) (xs : List ℕ) (es : List Edge) → Under k xs → Under k (metasIn es) → Under k (metasIn (along g xs ++ es))

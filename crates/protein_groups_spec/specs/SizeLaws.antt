@@ -12,8 +12,9 @@ use Rattle.lists.specs.Lists.{In, upFrom, keep, same, times}
 use Rattle.lists.specs.RowLaws.{length-up}
 use Rattle.lists.specs.FirstLaws.{firstAt, at-most}
 use Rattle.lists.specs.KeyLaws.{ofKey, below, below-suc, below-most, under-of}
+use Rattle.lists.specs.TotalLaws.{total-keep}
 use Rattle.sorting_spec.specs.Sort.{sorted}
-use Rattle.sorting_spec.specs.SortLaws.{length-sorted}
+use Rattle.sorting_spec.specs.SortLaws.{total-sorted, length-sorted}
 use Rattle.sorting_spec.specs.Lex.{lexLe}
 use Rattle.sorting_spec.specs.Runs.{runNumbers}
 use Rattle.sorting_spec.specs.Distinct.{onceAfter, once, distinct}
@@ -21,7 +22,7 @@ use Rattle.cover_spec.specs.Cover.{Edge}
 use Rattle.protein_groups_spec.specs.ProteinGroups.{Pair, pairsOf, paired, taking, up, listFrom, edgesFrom, Groups}
 use Rattle.protein_groups_spec.specs.PackedGroups.{packedSeen, packedShown, packedProteins, packedEvidence, packedMetas, lists, packedMember, packedGroups, packedGrouping}
 use Rattle.protein_groups_spec.specs.CountingLaws.{metasIn, groupsIn, list-chosen}
-use Rattle.protein_groups_spec.specs.LeaderLaws.{leTexts, total, total-sorted, total-keep, spread-most, edges-spread}
+use Rattle.protein_groups_spec.specs.LeaderLaws.{leTexts, textsLength, spread-most, edges-spread}
 use Rattle.protein_groups_spec.specs.ReadingLaws.{read-walk}
 use Rattle.protein_groups_spec.specs.WholeLaws.{peptidesOf, times-pairs, whole-packed}
 use Rattle.protein_groups_spec.specs.TheoremLaws.{found-once, member-seen}
@@ -62,18 +63,18 @@ few-chosen k (x ∷ xs) (v ∷ vs) = go (eqb x k) (few-chosen k xs vs)
 
 -- texts that are each no longer than a key stands in ks are together no longer than ks
 module _ (text : ℕ → List ℕ) (ks : List ℕ) (each : (k : ℕ) → length (text k) ≤ times k ks) where
-  total-below : (a n : ℕ) → total text (upFrom a n) + below a ks ≤ below (a + n) ks
+  total-below : (a n : ℕ) → textsLength text (upFrom a n) + below a ks ≤ below (a + n) ks
   total-below a zero = let z : a + 0 ≡ a = omega arith in rw z (omega arith)
   total-below a (suc n) = let z : a + suc n ≡ suc a + n = omega arith in rw z (omega (arith, each a, below-suc a ks, total-below (suc a) n))
 
-  total-most : (n : ℕ) → total text (upFrom 0 n) ≤ length ks
+  total-most : (n : ℕ) → textsLength text (upFrom 0 n) ≤ length ks
   total-most n = omega (arith, total-below 0 n, below-most (0 + n) ks)
 
 -- the distinct texts spread out are no more than all texts
-few-spread : (text : ℕ → List ℕ) (ns : List ℕ) → length (edgesFrom 0 (distinct (map text ns))) ≤ total text ns
+few-spread : (text : ℕ → List ℕ) (ns : List ℕ) → length (edgesFrom 0 (distinct (map text ns))) ≤ textsLength text ns
 few-spread text ns =
     rw (edges-spread text ns)
-    (omega (arith, spread-most text 0 (runNumbers (leTexts text) (sorted (leTexts text) ns)) (sorted (leTexts text) ns), total-sorted text (leTexts text) ns))
+    (omega (arith, spread-most text 0 (runNumbers (leTexts text) (sorted (leTexts text) ns)) (sorted (leTexts text) ns), total-sorted (λ (n : ℕ). length (text n)) (leTexts text) ns))
 
 -- ---- the grouping
 
@@ -134,7 +135,7 @@ module _ (flags : List ℕ) (peptides : ℕ) (qs : List Pair) where
       omega (
         arith,
         few-spread (packedEvidence ps flags qs) (taking peptides qs),
-        total-keep (packedEvidence ps flags qs) (paired qs) (upFrom 0 peptides),
+        total-keep (λ (p : ℕ). length (packedEvidence ps flags qs p)) (paired qs) (upFrom 0 peptides),
         total-most (packedEvidence ps flags qs) (peptidesOf qs) long-evidence peptides,
         length-map qs (λ (q : Pair). q .peptide),
       )

@@ -16,7 +16,7 @@ use Rattle.sorting_spec.specs.Sort.{sorted}
 use Rattle.sorting_spec.specs.PartLaws.{slice-same, slice-set}
 use Rattle.sorting_spec.specs.Runs.{runsOf, runNumbers}
 use Rattle.protein_groups_spec.specs.CountingLaws.{metasIn, groupsIn}
-use Rattle.protein_groups_spec.specs.LeaderLaws.{leTexts, spreadSorted, total}
+use Rattle.protein_groups_spec.specs.LeaderLaws.{leTexts, spreadSorted, textsLength}
 use Rattle.protein_groups_numbering.specs.declared.plan.Plan.{Plan}
 use Rattle.protein_groups_numbering.specs.SpreadLaws.{planText, thingsTo, runsTo, keysTo, valuesTo}
 use Rattle.protein_groups_runs.specs.ThingLaws.{PlanFits, Things, Ran, total-up}
@@ -68,7 +68,7 @@ module _ (w₀ w₁ w₂ : List ℕ) (p : Plan) (l₁ : length w₁ ≡ length w
   tables₂ : PlanFits w₂ p (p .kinds)
   tables₂ = plan-fits w₀ p g w₂ (l₂ ∙ l₁) bound
 
-  short : total (planText p w₂) (upFrom 0 (p .kinds)) ≤ p .count
+  short : textsLength (planText p w₂) (upFrom 0 (p .kinds)) ≤ p .count
   short =
       let e : 0 + p .kinds ≡ p .kinds = omega arith in
       let z = rw e at (total-up w₂ (p .bounds) (p .texts) (p .kinds) 0 (p .kinds) (omega arith) (tables₂ .rises)) in

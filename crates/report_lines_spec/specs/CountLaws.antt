@@ -8,13 +8,14 @@ use native.Mathlib.Nat.{zero-add}
 use lib.ListN.{length, length-map}
 use Rattle.lists.specs.Lists.{In, times}
 use Rattle.lists.specs.InLaws.{no-places}
+use Rattle.lists.specs.TotalLaws.{total, total-map, total-alike, total-zero}
 use Rattle.sorting_spec.specs.Sort.{sorted}
-use Rattle.sorting_spec.specs.SortLaws.{length-sorted}
+use Rattle.sorting_spec.specs.SortLaws.{total-sorted, length-sorted}
 use Rattle.sorting_spec.specs.Lex.{lexLe}
 use Rattle.sorting_spec.specs.Joined.{join}
+use Rattle.sorting_spec.specs.JoinLaws.{times-joined}
 use Rattle.protein_groups_members.specs.Members.{Member}
 use Rattle.report_lines_spec.specs.Line.{tagged, inGroup, groupText, applying, lineText, lineCount}
-use Rattle.report_lines_spec.specs.TotalLaws.{total, total-sorted, total-map, total-alike, total-zero, times-joined}
 
 -- joined texts: their own `;`, and one for each but the first where they are joined by it
 semicolons-by-slash : (ls : List (List ℕ)) → times 59 (join 47 ls) ≡ total (times 59) ls

@@ -2,7 +2,6 @@
 -- code lays its groups out.
 pub mod Line
 pub mod Cases
-pub mod TotalLaws
 pub mod CountLaws
 pub mod Stretches
 pub mod StretchLaws

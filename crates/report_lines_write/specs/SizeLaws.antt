@@ -1,7 +1,7 @@
 -- How long a line is. Assumes nothing.
-use Prim.Native.Nat.{ℕ, zero, suc, _+_, _-_, _*_, _≤_, _<_}
-use mathlib.Core.Path.{_≡_, refl, sym, ap, _∙_}
-use mathlib.Core.Bool.{Bool, true, false, cond}
+use Prim.Native.Nat.{ℕ, zero, suc, _+_, _*_, _≤_, _<_}
+use mathlib.Core.Path.{_≡_, sym, _∙_}
+use mathlib.Core.Bool.{Bool, cond}
 use mathlib.Core.Logic.{_⊎_, ⊎-elim}
 use mathlib.Core.List.{List, [], _∷_, _++_, map, append-nil}
 use native.Mathlib.Omega.{arith}
@@ -10,11 +10,12 @@ use borrow.Author.Tests.{lt-ltb, le-ltb}
 use lib.ListN.{length, drop, length-append}
 use Rattle.lists.specs.Tests.{below?}
 use Rattle.sorting_spec.specs.Sort.{sorted}
+use Rattle.sorting_spec.specs.SortLaws.{total-sorted}
 use Rattle.sorting_spec.specs.Lex.{lexLe}
 use Rattle.sorting_spec.specs.Joined.{joinAfter, join}
+use Rattle.sorting_spec.specs.JoinLaws.{length-joined}
 use Rattle.sorting_texts.specs.Text.{entryText}
 use Rattle.sorting_texts.specs.EntryLaws.{entry-short}
-use Rattle.report_lines_spec.specs.TotalLaws.{total-sorted, length-joined}
 use Rattle.report_lines_write.specs.Laid.{boundIn, stretchIn, someIn, somes, textIn, lineIn, StretchesLaid}
 use Rattle.report_lines_write.specs.ListLaws.{kept-up}
 use Rattle.report_lines_write.specs.ReadyLaws.{stretch-adds}

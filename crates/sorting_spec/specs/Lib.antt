@@ -4,6 +4,7 @@ pub mod SortLaws
 pub mod Lex
 pub mod LexLaws
 pub mod Joined
+pub mod JoinLaws
 pub mod PartLaws
 pub mod MergeLaws
 pub mod Runs
