@@ -28,7 +28,10 @@ write-rest-requires c κs =
     (c .before .before .before .before .before .before .tag-length .ensures, s .pre .0, omega (arith, t .ends, line-length (joinedText (a .names .now) (a .keys .now)) (a .starts .now) h, s .pre .1))
 
 -- the line is written
-line : (c : tie.After-slice-known3) → Put (c .before .before .before .before .before .before .before .before .before .before .before .before .before .before .before .args .out .now) 0 (textsOf (c .before .before .before .before .before .before .before .before .before .before .before .before .before .before .before .args .names .now) (c .before .before .before .before .before .before .before .before .before .before .before .before .before .before .before .args .keys .now) (c .before .before .before .before .before .before .before .before .before .before .before .before .before .before .before .args .starts .now)) (c .before .before .write-rest .last .1 .1 .1 .1 .0) (c .before .before .write-rest .result)
+line : (c : tie.After-slice-known3)
+    → let a = c .before .before .before .before .before .before .before .before .before .before .before .before .before .before .before .args in
+    let r = c .before .before .write-rest in
+    Put (a .out .now) 0 (textsOf (a .names .now) (a .keys .now) (a .starts .now)) (r .last .1 .1 .1 .1 .0) (r .result)
 line c =
     let a = c .before .before .before .before .before .before .before .before .before .before .before .before .before .before .before .args in
     line-put (joinedText (a .names .now) (a .keys .now)) (a .starts .now) (some-starts (a .starts .now) (c .before .before .before .before .before .before .before .before .before .before .if1 .left)) (c .before .before .before .before .before .before .write-text .ensures) (c .before .before .write-rest .ensures)
