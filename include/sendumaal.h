@@ -20,8 +20,8 @@
 
 /* docs/CHANGES.md says what each version changed. The second number rises where a declaration, an answer or a refusal does. */
 #define SENDUMAAL_VERSION_MAJOR 0
-#define SENDUMAAL_VERSION_MINOR 3
-#define SENDUMAAL_VERSION_PATCH 3
+#define SENDUMAAL_VERSION_MINOR 4
+#define SENDUMAAL_VERSION_PATCH 0
 
 #ifdef __cplusplus
 extern "C" {
@@ -255,8 +255,8 @@ uint32_t sendumaal_update(const uint8_t *old_edges, size_t old_edges_len,
  * 12 and 13 in names, the lowest place; 9 in members (a group without a mark, a protein without a name, a flag above 1, no
  * three zeros); 9 in marks; 9 in proteins (no name); 12 (the tag is longer than 16 bytes, or has one that is not 33 to 126:
  * 0); 9 (decoy or generated is neither 0 nor 1: 0); 11: the bytes that fit stand in order. Accepted: *bytes is the length
- * of the line, which stands at the front of line; *groups is the number of ';' in it plus one, or 0 where no group applies;
- * the rest of line stays. It takes 1.6 MB of stack. */
+ * of the line, which stands at the front of line; *groups is the number of groups that the line names, whatever the names
+ * contain, and 0 where the line is empty; the rest of line stays. It takes 1.6 MB of stack. */
 uint32_t sendumaal_report_line(const uint8_t *names, size_t names_len, const uint8_t *members, size_t members_len,
                                const uint8_t *marks, size_t marks_len, const uint32_t *proteins, size_t proteins_len,
                                uint32_t decoy, const uint8_t *tag, size_t tag_len, uint32_t generated,
