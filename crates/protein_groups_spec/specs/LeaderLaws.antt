@@ -147,7 +147,7 @@ module _ (text : ℕ → List ℕ) where
       → runsTagged f 0 (map (λ k. keep (λ n. same (text n) k) ns) (distinct (map text ns))) ≡ walkSorted f (sorted leTexts ns)
   gathered-walk f ns = ap (runsTagged f 0) (sym (runs-distinct text ns)) ∙ sym (walk-runs f leTexts (sorted leTexts ns))
 
-  -- the lengths of all texts
+  -- how long all texts are together
   abbrev pub textsLength : List ℕ → ℕ
   textsLength = total (λ (x : ℕ). length (text x))
 

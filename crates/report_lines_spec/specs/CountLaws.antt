@@ -1,4 +1,4 @@
--- How the count of groups stands to the `;` of the line, which was the count before request [3] and is the Rust's. Assumes nothing.
+-- How the count of groups relates to the `;` of the line, by which the Rust counts. Assumes nothing.
 use Prim.Native.Nat.{ℕ, suc, _+_, _<_}
 use mathlib.Core.Path.{_≡_, refl, sym, ap, _∙_}
 use mathlib.Core.Bool.{Bool}

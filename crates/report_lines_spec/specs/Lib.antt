@@ -1,5 +1,5 @@
--- What a reader has to believe: Line. Cases is proved of it, and CountLaws says how its count stands to the line; Stretches says how the
--- code lays its groups out.
+-- What a reader has to believe: Line. Cases is proved of it, and CountLaws says how its count relates to the `;` of the line; Stretches says
+-- how the code lays its groups out.
 pub mod Line
 pub mod Cases
 pub mod CountLaws
