@@ -5,18 +5,13 @@ use mathlib.Core.Bool.{Bool, true, false, cond}
 use mathlib.Core.Logic.{inl, inr}
 use mathlib.Core.List.{List, [], _∷_, map}
 use native.Mathlib.Omega.{arith}
-use lib.ListN.{length}
 use Rattle.lists.specs.Lists.{In, keep, bit, count}
 
 abbrev pub total : {A : Type 0} → (A → ℕ) → List A → ℕ
 total f [] = 0
 total f (x ∷ xs) = f x + total f xs
 
--- a length and a count are totals
-pub length-total : {A : Type 0} (xs : List A) → length xs ≡ total (λ (x : A). 1) xs
-length-total [] = refl
-length-total (x ∷ xs) = omega (arith, length-total xs)
-
+-- a count is a total
 pub count-total : {A : Type 0} (p : A → Bool) (xs : List A) → count p xs ≡ total (λ (x : A). bit (p x)) xs
 count-total p [] = refl
 count-total p (x ∷ xs) = ap (λ (n : ℕ). bit (p x) + n) (count-total p xs)
