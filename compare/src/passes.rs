@@ -36,7 +36,7 @@ fn covered(rng: &mut Rng, pass: &Pass) -> Checked<(Vec<u8>, Vec<u8>)> {
     Ok((grouped.members[..members * MEMBER].to_vec(), marks.buffer))
 }
 
-/// The lines of all peptides, as the original counts them: with the `;` in names.
+/// The lines of all peptides, counted by the original's formula: with the `;` in names.
 fn lines(tally: &mut Tally, rng: &mut Rng, pass: &Pass) -> Checked<Vec<Line>> {
     let (members, marks) = covered(rng, pass)?;
     let mut lines = Vec::new();

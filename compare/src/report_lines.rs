@@ -1,4 +1,5 @@
-//! Report lines: against the original's, byte for byte, and in their counts, but for the `;` in names that the original counts.
+//! Report lines: against the original's, byte for byte. The count is held to the `;` of the original's line plus one, by which the
+//! original counts, without the `;` in names.
 pub mod cases;
 pub mod model;
 pub mod refusals;
@@ -48,8 +49,8 @@ fn said_of(call: &Call, groups: &[Vec<Member>]) -> Line {
     Line { groups: line.groups + semicolons_in_names(call, groups), ..line }
 }
 
-/// Holds a call against the original's answer, its count without the `;` in names, or against ours where groups have the same
-/// members.
+/// Holds a call against the original's line and its `;` plus one, without those in names, or against the model where groups have
+/// the same members.
 fn hold_to_rust(tally: &mut Tally, rng: &mut Rng, call: &Call, said: &Line) {
     let groups = applying(call);
     let distinct = distinct(&groups);

@@ -21,7 +21,7 @@
 //! numbers of groups and of meta-peptides, the edges as `group.meta`, divided by `;`, and the members as `group.protein.decoy`,
 //! divided by `;`, sorted by the original's numbers in each group. lines.txt: the names as in groups.txt, the members as in
 //! proteins.txt, the marks as digits, the peptide's proteins, divided by `.`, its flag, the tag in hexadecimal, whether decoys
-//! are generated, the number of groups, which is the original's count without the `;` in names, and the line in hexadecimal.
+//! are generated, the number of groups, which is the `;` of the line plus one, without those in names, and the line in hexadecimal.
 //! passes.txt: the names, the flags of the peptides, the pairs, the tag, whether decoys are generated, the lines of all peptides
 //! in hexadecimal, divided by `;`, and their numbers of groups, divided by `.`. `-` stands for none.
 use crate::answer::Answer;

@@ -53,6 +53,7 @@ fn read_member(item: &str) -> (u32, String, bool) {
     (number(f[0]), f[2].to_string(), flag(f[1]))
 }
 
+/// The original makes a line here, no count: that is made of the line by the formula of `annotate_features`, which `annotate` runs.
 pub fn report(f: &[&str]) -> String {
     let db = database("-", "-", text(f[4]), flag(f[5]));
     let members: Vec<_> = list(f[0], ' ').into_iter().map(read_member).collect();

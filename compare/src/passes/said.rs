@@ -34,7 +34,7 @@ pub fn ask(oracle: &Oracle, passes: &[Pass]) -> Vec<String> {
 }
 
 /// No name is just `-` and no peptide has an empty line: `-` is a peptide without a line, and all of the answer where there are
-/// no peptides.
+/// no peptides. The original makes no count here: it is that of its formula, the `;` plus one.
 pub fn read(answer: &str, peptides: usize) -> Vec<Line> {
     let line = |text: &str| match text {
         "-" => Line { text: vec![], groups: 0 },
@@ -47,7 +47,7 @@ pub fn ask_of_rows(oracle: &Oracle, passes: &[Pass]) -> Vec<String> {
     oracle.ask(&passes.iter().map(rows).collect::<Vec<_>>())
 }
 
-/// The text and the count of each row.
+/// The text and the count of each row, both the original's.
 pub fn read_rows(answer: &str, peptides: usize) -> Vec<Line> {
     let row = |row: &str| {
         let (groups, text) = row.split_once(':').expect("a row of the oracle");

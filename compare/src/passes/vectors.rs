@@ -1,4 +1,5 @@
-//! A sample of the original's lines after grouping and cover. Counts are the original's without the `;` in names.
+//! A sample of the original's lines after grouping and cover. Numbers of groups are made of the lines: their `;` plus one, without
+//! those in names.
 use super::cases::{self, Pass};
 use super::said::{ask, read};
 use crate::asked::drawn;

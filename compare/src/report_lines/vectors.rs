@@ -1,5 +1,5 @@
-//! A sample of the original's report lines, where no two groups have the same members. The count is the original's without the `;` in
-//! names.
+//! A sample of the original's report lines, where no two groups have the same members. The number of groups is made of the line: its
+//! `;` plus one, without those in names.
 use super::model::{applying, semicolons_in_names, Call, Line};
 use super::said::{ask, can_be_asked, read};
 use super::{cases, distinct};
