@@ -27,17 +27,14 @@ impl LetterSet {
     }
 
     // Whether the letter is in the set: no byte but a letter is in any.
+    // Document 02, [5]: "On our busiest node, asking whether a letter is in a set takes too long." A byte below A wraps to 191 or
+    // more, so that one comparison tells letters from all other bytes, and nothing branches. `% 32` bounds the shift where k is no
+    // letter's; it costs nothing.
     pub fn contains(self, letter: u8) -> bool
         ensures { λ r. ⌜ r ≡ has self letter ⌝ }
     {
-        if letter < 65 {
-            return false;
-        }
-        if 90 < letter {
-            return false;
-        }
-        let k = letter - 65;
-        (self.mask >> k) % 2 == 1
+        let k = std::num::wrapping_sub_u8(letter, 65);
+        (k < 26) & ((self.mask >> (k % 32)) % 2 == 1)
     }
 
     // The set with the letter: any other byte changes nothing.
