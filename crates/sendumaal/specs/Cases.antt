@@ -2,6 +2,7 @@
 -- one claim.
 use Prim.Native.Nat.{ℕ, _-_}
 use mathlib.Core.Path.{refl}
+use mathlib.Core.Bool.{cond}
 use mathlib.Core.List.{List, [], _∷_, _++_, flatten, map}
 use lib.ListN.{length, getD, replicate}
 use lib.Dec.{eqb}
@@ -9,6 +10,7 @@ use Rattle.lists.specs.Lists.{keep}
 use Rattle.records.specs.Cases.{Case, Hold}
 use Rattle.records.specs.CaseLaws.{Table, holding, allOf}
 use Rattle.records.specs.Search.{seek}
+use Rattle.letters.specs.Letters.{isLetter, bitSet, has}
 use Rattle.catalogue_spec.specs.Names.{nameLength, zerosTo, namesTested}
 use Rattle.cover_spec.specs.Cover.{markForced, coverMarked, stays, pass, trimPasses, greatest, mark, choose, turn, turns, cover, listed, coverList}
 use Rattle.protein_groups_members.specs.Members.{Member}
@@ -26,6 +28,7 @@ use Rattle.cover_spec.specs.Cases.{table as marks, cases as marks-hold}
 use Rattle.cover.specs.Cases.{table as covers, cases as covers-hold}
 use Rattle.report_lines_spec.specs.Cases.{table as lines, cases as lines-hold}
 use Rattle.report_lines.specs.Cases.{table as reports, cases as reports-hold}
+use Rattle.sendumaal_calls.specs.Calls.{setOf}
 use Rattle.sendumaal.specs.NameCalls.{namesCall}
 
 -- P10: of pairs (peptide, protein) the proteins of each group, then those of the groups that the cover of its edges marks
@@ -46,6 +49,37 @@ whole = record { got = (p10 .groups ∷ []) ∷ inGroup 0 ∷ inGroup 1 ∷ inGr
 whole-holds : Hold whole
 unfolding flatten markForced coverMarked stays pass trimPasses greatest mark choose turn turns cover listed coverList proteins metas groupsOf grouping whole
 whole-holds = refl
+
+-- a set and a byte, and 1 where the set has it, else 0
+asked : ℕ → ℕ → ℕ → Case
+asked set byte want = record { got = (cond (has (setOf set) byte) 1 0 ∷ []) ∷ []; want = (want ∷ []) ∷ [] }
+
+sets : List Case
+sets =
+    -- K and R: both, and neighbours of each
+    asked 132096 75 1
+    ∷ asked 132096 82 1
+    ∷ asked 132096 74 0
+    ∷ asked 132096 83 0
+    -- A alone and Z alone
+    ∷ asked 1 65 1
+    ∷ asked 33554432 90 1
+    -- bits above 25 are no letters: bit 26 is not the byte behind Z, bit 31 not the byte before a
+    ∷ asked 67108864 91 0
+    ∷ asked 2147483648 96 0
+    -- every bit: neither the bytes next to A and Z, nor a and z, nor bytes 32 before a letter, nor the first and the last byte
+    ∷ asked 4294967295 64 0
+    ∷ asked 4294967295 91 0
+    ∷ asked 4294967295 97 0
+    ∷ asked 4294967295 122 0
+    ∷ asked 4294967295 33 0
+    ∷ asked 4294967295 0 0
+    ∷ asked 4294967295 255 0
+    ∷ []
+
+sets-hold : Hold sets
+unfolding isLetter bitSet has asked sets
+sets-hold = refl
 
 -- a name of these bytes
 name : List ℕ → List ℕ
@@ -81,7 +115,8 @@ names-hold = refl
 
 tables : List Table
 tables =
-    holding orders orders-hold
+    holding sets sets-hold
+    ∷ holding orders orders-hold
     ∷ holding books books-hold
     ∷ holding rules rules-hold
     ∷ holding digests digests-hold
