@@ -5,8 +5,10 @@ mod sides;
 use crate::clock::{least, seconds};
 use crate::rng::Rng;
 use crate::turns::{measure, Measured, Sides};
-use rows::{doubling_rows, greatest_rows, rows, Cutting, Row, TRYPTIC};
-use sides::{Ours, Rust};
+use rows::{doubling_rows, greatest_rows, rows, Row, TRYPTIC};
+pub use rows::{name_of, Cutting, MOST, SET};
+use sides::Rust;
+pub use sides::{set_of, Ours};
 use std::cell::RefCell;
 use std::hint::black_box;
 

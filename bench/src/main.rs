@@ -1,5 +1,6 @@
 //! Times the original Rust and the proved library on the same proteins, peptides, digests, edges and pairs, in turns, and prints
-//! tables of both: `bench digest`, `bench greatest`, `bench doubling`, `bench forms`, `bench groups`, `bench cover`, `bench inference`, `bench lines`.
+//! tables of both: `bench digest`, `bench greatest`, `bench doubling`, `bench letters`, `bench forms`, `bench groups`, `bench cover`,
+//! `bench inference`, `bench lines`.
 mod clock;
 #[path = "../../compare/src/digest/colliding.rs"]
 mod colliding;
@@ -11,6 +12,7 @@ mod ffi;
 mod forms;
 mod groups;
 mod inference;
+mod letters;
 mod lines;
 mod proteins;
 mod records;
@@ -26,11 +28,12 @@ fn main() {
         Some("digest") => digest::print(),
         Some("greatest") => digest::print_greatest(),
         Some("doubling") => digest::print_doubling(),
+        Some("letters") => letters::print(),
         Some("forms") => forms::print(),
         Some("groups") => groups::print(),
         Some("cover") => cover::print(),
         Some("inference") => inference::print(),
         Some("lines") => lines::print(),
-        _ => panic!("digest, greatest, doubling, forms, groups, cover, inference or lines"),
+        _ => panic!("digest, greatest, doubling, letters, forms, groups, cover, inference or lines"),
     }
 }

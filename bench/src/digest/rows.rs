@@ -4,10 +4,10 @@ use crate::proteins::{letters, protein};
 use crate::rng::Rng;
 use crate::turns::Block;
 
-/// How a protein is cut: with a set, KR but not before P, or at every place.
+/// How a protein is cut: behind the letters of a set, but not before P, or at every place where the set is empty.
 #[derive(Clone, Copy)]
 pub struct Cutting {
-    pub set: bool,
+    pub cleave: &'static str,
     pub semi: bool,
     pub missed: u8,
     pub minimum: u32,
@@ -26,18 +26,18 @@ const BLOCK: usize = 25;
 const BLOCK_LETTERS: usize = 100_000;
 const BLOCKS: usize = 4;
 
-const SET: Cutting = Cutting { set: true, semi: false, missed: 0, minimum: 7, maximum: 50 };
+pub const SET: Cutting = Cutting { cleave: "KR", semi: false, missed: 0, minimum: 7, maximum: 50 };
 /// How lists of digests are made that are to be grouped.
 pub const TRYPTIC: Cutting = Cutting { missed: 2, ..SET };
-const NONE: Cutting = Cutting { set: false, semi: false, missed: 0, minimum: 7, maximum: 30 };
+const NONE: Cutting = Cutting { cleave: "", semi: false, missed: 0, minimum: 7, maximum: 30 };
 
-fn name_of(cutting: &Cutting) -> String {
-    let Cutting { set, semi, missed, minimum, maximum } = cutting;
+pub fn name_of(cutting: &Cutting) -> String {
+    let Cutting { cleave, semi, missed, minimum, maximum } = cutting;
     let lengths = format!("lengths {minimum} to {maximum}");
-    match (set, semi) {
-        (false, _) => format!("none, {lengths}"),
-        (true, false) => format!("KR not before P, missed {missed}, {lengths}"),
-        (true, true) => format!("KR not before P, semi, missed {missed}, {lengths}"),
+    match (*cleave, semi) {
+        ("", _) => format!("none, {lengths}"),
+        (_, false) => format!("{cleave} not before P, missed {missed}, {lengths}"),
+        (_, true) => format!("{cleave} not before P, semi, missed {missed}, {lengths}"),
     }
 }
 
@@ -62,7 +62,7 @@ fn cuttings() -> Vec<Cutting> {
 }
 
 /// The longest protein that there is.
-const MOST: usize = 65_536;
+pub const MOST: usize = 65_536;
 
 /// Proteins that someone may send who wants a call to take long, each with its name.
 fn hostile(rng: &mut Rng, length: usize) -> Vec<(&'static str, String)> {

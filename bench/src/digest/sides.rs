@@ -6,7 +6,6 @@ use oracle::enzyme::{Digest, Enzyme, EnzymeParameters};
 use std::hint::black_box;
 use std::sync::Arc;
 
-const CLEAVE: &str = "KR";
 const SKIP: &str = "P";
 
 pub struct Rust {
@@ -16,12 +15,11 @@ pub struct Rust {
 
 impl Rust {
     pub fn new(cutting: &Cutting) -> Rust {
-        let cleave = if cutting.set { CLEAVE } else { "" };
         let parameters = EnzymeParameters {
             missed_cleavages: cutting.missed,
             min_len: cutting.minimum as usize,
             max_len: cutting.maximum as usize,
-            enzyme: Enzyme::new(cleave, SKIP, true, cutting.semi),
+            enzyme: Enzyme::new(cutting.cleave, SKIP, true, cutting.semi),
         };
         Rust { parameters, name: Arc::from("P") }
     }
@@ -44,7 +42,7 @@ pub struct Ours {
     out: Vec<u8>,
 }
 
-fn set_of(letters: &str) -> u32 {
+pub fn set_of(letters: &str) -> u32 {
     letters.bytes().fold(0, |set, letter| set | 1 << (letter - b'A'))
 }
 
@@ -66,12 +64,12 @@ impl Ours {
 
     fn cut(&mut self, cutting: &Cutting, letters: &str, protein: u32) -> usize {
         let (mut count, mut place) = (0, 0);
-        let kind = if cutting.set { 2 } else { 0 };
+        let kind = if cutting.cleave.is_empty() { 0 } else { 2 };
         let letters = black_box(letters);
         #[rustfmt::skip]
         let number = unsafe {
             sendumaal_digest(
-                letters.as_ptr(), letters.len(), ALL_LETTERS, kind, set_of(CLEAVE), set_of(SKIP), 0, cutting.semi.into(),
+                letters.as_ptr(), letters.len(), ALL_LETTERS, kind, set_of(cutting.cleave), set_of(SKIP), 0, cutting.semi.into(),
                 cutting.missed.into(), cutting.minimum, cutting.maximum, protein,
                 self.out.as_mut_ptr(), self.out.len(), &mut count, &mut place,
             )
