@@ -33,8 +33,15 @@ uint32_t sendumaal_set_insert(uint32_t set, uint8_t letter)
 
 uint32_t sendumaal_set_contains(uint32_t set, uint8_t letter)
 {
-    if (planted("letters: the byte behind Z is in a set with bit 26") && letter == 'Z' + 1)
+    uint8_t k = letter - 'A';
+    if (planted("letters: the byte behind Z is in a set with bit 26") && k == 26)
         return set >> 26 & 1;
+    if (planted("letters: Z is in no set") && k == 25)
+        return 0;
+    if (planted("letters: a small letter is in a set with its capital") && k >= 32 && k < 58)
+        return set >> (k - 32) & 1;
+    if (planted("letters: a byte before A wraps round to a bit") && letter < 'A')
+        return set >> k % 32 & 1;
     return real_set_contains(set, letter);
 }
 
