@@ -21,7 +21,7 @@
 /* docs/CHANGES.md says what each version changed. The second number rises where a declaration, an answer or a refusal does. */
 #define SENDUMAAL_VERSION_MAJOR 0
 #define SENDUMAAL_VERSION_MINOR 4
-#define SENDUMAAL_VERSION_PATCH 0
+#define SENDUMAAL_VERSION_PATCH 1
 
 #ifdef __cplusplus
 extern "C" {
