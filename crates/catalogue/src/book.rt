@@ -18,7 +18,7 @@ fn contents_tested(bounds: &[u32], letters: &[u8]) -> Tested
     and_then(bound, catalogue_book::letters_tested(letters))
 }
 
-// The tests of a book of so many proteins: 1, 8, 9 at the lowest bad boundary, 2 at the first byte that is not A to Z.
+// The tests of a book of so many proteins: 1, 8, 9 at the lowest bad boundary, 2 at the first byte that is no letter.
 pub fn book_tested(bounds: &[u32], letters: &[u8], proteins: usize) -> Tested
     ensures { λ r. ⌜ r ≡ bookTested (now (bounds .entry)) (now (letters .entry)) proteins ⌝ }
 {
@@ -31,7 +31,7 @@ pub fn book_tested(bounds: &[u32], letters: &[u8], proteins: usize) -> Tested
     Tested::Refused(Refusal::Length)
 }
 
-// The tests of letters alone, of a protein or of a whole book: 1, and 2 at the first byte that is not A to Z.
+// The tests of letters alone, of a protein or of a whole book: 1, and 2 at the first byte that is no letter.
 pub fn letters_tested(letters: &[u8]) -> Tested
     ensures { λ r. ⌜ r ≡ allLettersTested (now (letters .entry)) ⌝ }
 {

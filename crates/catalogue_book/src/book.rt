@@ -88,7 +88,7 @@ pub fn bounds_tested(bounds: &[u32], letters: usize) -> Tested
     field_tested(first_bad_bound(bounds, letters), bounds.len())
 }
 
-// The test of a book's letters: 2 at the first byte that is not A to Z.
+// The test of a book's letters: 2 at the first byte that is no letter.
 pub fn letters_tested(letters: &[u8]) -> Tested
     ensures { λ r. ⌜ r ≡ lettersTested (now (letters .entry)) ⌝ }
 {

@@ -50,6 +50,6 @@ boundsTested bounds count =
     cond (eqb (length bounds) 0) (Refused (Field 0))
     (fieldTested (firstBadBound bounds count) (length bounds))
 
--- 2 at the first byte that is not A to Z
+-- 2 at the first byte that is no letter
 abbrev pub lettersTested : List ℕ → Tested
 lettersTested letters = cond (ltb (firstBad letters) (length letters)) (Refused (Letter (firstBad letters))) Passed

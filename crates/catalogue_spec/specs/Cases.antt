@@ -40,11 +40,14 @@ books =
     ∷ booking (0 ∷ 65537 ∷ 65537 ∷ []) 2 3 9 1
     ∷ booking (0 ∷ 3 ∷ []) 1 4 9 1
     ∷ booking (0 ∷ []) 0 4 9 0
-    -- 2: a byte that is not A to Z, behind the boundaries
+    -- 2: a byte that is no letter, behind the boundaries
     ∷ spelling (0 ∷ 1 ∷ 3 ∷ []) 91 2 2
     ∷ spelling (0 ∷ 1 ∷ 4 ∷ []) 91 9 2
     ∷ reading (65 ∷ 90 ∷ []) 0 0
     ∷ reading (65 ∷ 91 ∷ []) 2 1
+    ∷ reading (97 ∷ 122 ∷ []) 0 0
+    ∷ reading (97 ∷ 96 ∷ []) 2 1
+    ∷ reading (122 ∷ 123 ∷ []) 2 1
     ∷ []
 
 books-hold : Hold books

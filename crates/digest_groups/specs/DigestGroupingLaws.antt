@@ -13,6 +13,7 @@ use Rattle.records.specs.declared.refusal.Tested.the-variants.{Passed}
 use Rattle.records.specs.TestedLaws.{passed-both, passed-first}
 use Rattle.records.specs.SeekingLaws.{none-found, none-tested}
 use Rattle.letters.specs.Letters.{isLetter, noLetter, firstBad}
+use Rattle.letters.specs.CapitalLaws.{letter-from, letter-to}
 use Rattle.catalogue_spec.specs.Names.{nameCount, tooManyNames, wholeNames, namesTested}
 use Rattle.catalogue_spec.specs.Book.{tooManyLetters, boundsOf, boundsTested, lettersTested}
 use Rattle.catalogue_spec.specs.BookLaws.{passed-bounds, bounds-within}
@@ -24,14 +25,14 @@ use Rattle.digest_groups_spec.specs.DigestGrouping.{tooLarge, uneven, needed, g
 -- ---- letters
 
 pub passed-letters : (letters : List ℕ) → length letters ≤ 268435456 → lettersTested letters ≡ Passed → BookLetters letters
-unfolding firstBad isLetter
+unfolding firstBad
 passed-letters letters small e =
     let f : ltb (firstBad letters) (length letters) ≡ false = passed-first (ltb (firstBad letters) (length letters)) (Letter (firstBad letters)) Passed e .0 in
     record {
       small = small;
       spelt = λ j h.
-          let b = both (leb 65 (getD letters j 0)) (leb (getD letters j 0) 90) (not-false _ (none-found (noLetter letters) (length letters) f j h)) in
-          (leb-true 65 (getD letters j 0) (b .0), leb-true (getD letters j 0) 90 (b .1));
+          let b : isLetter (getD letters j 0) ≡ true = not-false _ (none-found (noLetter letters) (length letters) f j h) in
+          (letter-from (getD letters j 0) b, letter-to (getD letters j 0) b);
     }
 
 -- ---- digests

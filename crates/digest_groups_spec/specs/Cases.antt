@@ -24,15 +24,20 @@ digest a e position decoy protein = le 4 a ++ (le 4 e ++ (0 ∷ 0 ∷ position �
 group : List ℕ → ℕ → ℕ → List ℕ
 group reference first count = reference ++ (le 4 first ++ le 4 count)
 
--- the proteins b, a and c: ACAC, AC and CA; so many words of work memory that hold 7, so many bytes 170 for groups and numbers 9 for
--- proteins
-grouping : List (List ℕ) → ℕ → ℕ → ℕ → List ℕ → List ℕ → List ℕ → List ℕ → Case
-grouping ds words bytes places answer work groups proteins = record {
-  got =
-      told (digestGroupsOutcome (name (98 ∷ []) ++ (name (97 ∷ []) ++ name (99 ∷ []))) (0 ∷ 4 ∷ 6 ∷ 8 ∷ []) (65 ∷ 67 ∷ 65 ∷ 67 ∷ 65 ∷ 67 ∷ 67 ∷ 65 ∷ []) (flatten ds) (replicate words 7)
-      (replicate bytes 170) (replicate places 9));
+-- names, boundaries and letters; so many words of work memory that hold 7, so many bytes 170 for groups and numbers 9 for proteins
+groupingIn : List ℕ → List ℕ → List ℕ → List (List ℕ) → ℕ → ℕ → ℕ → List ℕ → List ℕ → List ℕ → List ℕ → Case
+groupingIn names bounds letters ds words bytes places answer work groups proteins = record {
+  got = told (digestGroupsOutcome names bounds letters (flatten ds) (replicate words 7) (replicate bytes 170) (replicate places 9));
   want = answer ∷ work ∷ groups ∷ proteins ∷ [];
 }
+
+-- the proteins b, a and c: ACAC, AC and CA
+grouping : List (List ℕ) → ℕ → ℕ → ℕ → List ℕ → List ℕ → List ℕ → List ℕ → Case
+grouping = groupingIn (name (98 ∷ []) ++ (name (97 ∷ []) ++ name (99 ∷ []))) (0 ∷ 4 ∷ 6 ∷ 8 ∷ []) (65 ∷ 67 ∷ 65 ∷ 67 ∷ 65 ∷ 67 ∷ 67 ∷ 65 ∷ [])
+
+-- the proteins b and B, of three letters each
+masked : List ℕ → List (List ℕ) → List ℕ → List ℕ → List ℕ → List ℕ → Case
+masked letters ds = groupingIn (name (98 ∷ []) ++ name (66 ∷ [])) (0 ∷ 3 ∷ 6 ∷ []) letters ds 20 48 2
 
 pub table : List Case
 table =
@@ -48,6 +53,12 @@ table =
     (group (digest 0 4 3 1 0) 0 1 ++ (group (digest 0 2 3 1 1) 1 1 ++ group (digest 1 4 3 1 0) 2 1)) (0 ∷ 1 ∷ 0 ∷ [])
     -- repeats are kept; more room than needed stays
     ∷ grouping (digest 0 2 3 0 0 ∷ digest 2 4 3 0 0 ∷ []) 24 24 3 (answered 1) (replicate 24 0) (group (digest 0 2 3 0 0) 0 2) (0 ∷ 0 ∷ 9 ∷ [])
+    -- ACK and aCk: one group, of which the reference is the first in input order; the names b and B are two, and B stands before b
+    ∷ masked (65 ∷ 67 ∷ 75 ∷ 97 ∷ 67 ∷ 107 ∷ []) (digest 0 3 2 0 0 ∷ digest 0 3 2 0 1 ∷ []) (answered 1) (replicate 20 0) (group (digest 0 3 2 0 0) 0 2 ++ replicate 24 170) (1 ∷ 0 ∷ [])
+    ∷ masked (65 ∷ 67 ∷ 75 ∷ 97 ∷ 67 ∷ 107 ∷ []) (digest 0 3 2 0 1 ∷ digest 0 3 2 0 0 ∷ []) (answered 1) (replicate 20 0) (group (digest 0 3 2 0 1) 0 2 ++ replicate 24 170) (1 ∷ 0 ∷ [])
+    -- aCK before Cac, though a stands behind C as a byte; 2: the brace behind z
+    ∷ masked (67 ∷ 97 ∷ 99 ∷ 97 ∷ 67 ∷ 75 ∷ []) (digest 0 3 2 0 0 ∷ digest 0 3 2 0 1 ∷ []) (answered 2) (replicate 20 0) (group (digest 0 3 2 0 1) 0 1 ++ group (digest 0 3 2 0 0) 1 1) (1 ∷ 0 ∷ [])
+    ∷ masked (65 ∷ 67 ∷ 75 ∷ 122 ∷ 123 ∷ 107 ∷ []) (digest 0 3 2 0 0 ∷ digest 0 3 2 0 1 ∷ []) (refusedAs 2 4) (replicate 20 7) (replicate 48 170) (9 ∷ 9 ∷ [])
     -- 11: no room for the second group, or for the second protein; both lists hold what fits
     ∷ grouping (digest 0 2 3 0 0 ∷ digest 0 2 0 0 2 ∷ []) 24 47 2 (refusedAs 11 0) (replicate 24 0) (group (digest 0 2 0 0 2) 0 1 ++ replicate 23 170) (2 ∷ 0 ∷ [])
     ∷ grouping (digest 0 2 3 0 0 ∷ digest 0 2 0 0 2 ∷ []) 24 48 1 (refusedAs 11 0) (replicate 24 0) (group (digest 0 2 0 0 2) 0 1 ++ group (digest 0 2 3 0 0) 1 1) (2 ∷ [])
@@ -62,5 +73,5 @@ table =
     ∷ []
 
 pub cases : Hold table
-unfolding seek isLetter firstBad nameLength zerosTo namesTested firstBadBound firstBadDigest flatten numberAt written name digest group grouping table
+unfolding seek isLetter firstBad nameLength zerosTo namesTested firstBadBound firstBadDigest flatten numberAt written name digest group groupingIn grouping masked table
 cases = refl

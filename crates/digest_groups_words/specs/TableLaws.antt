@@ -10,6 +10,7 @@ use lib.ListN.{length, getD, take, drop, set, length-take, length-drop, length-s
 use lib.Seq.{getD-take, getD-drop, getD-set-same, getD-set-other}
 use lib.Dec.{ltb, eqb}
 use Rattle.lists.specs.Tests.{below?, same?}
+use Rattle.letters.specs.Letters.{capital}
 use Rattle.letters.specs.Reversal.{lettersOf}
 use Rattle.letters.specs.ReversalLaws.{length-letters, letter-inner, letter-outer}
 use Rattle.digest_groups_words.specs.declared.spelling.Spelling.{Spelling}
@@ -21,21 +22,22 @@ use Rattle.digest_groups_words.specs.Tables.{BookLetters, DigestTables, 
 
 -- ---- letters are letters, wherever they are taken from
 
-abbrev Each : List ℕ → Type 0
-Each xs = (i : ℕ) → i < length xs → (65 ≤ getD xs i 0) × (getD xs i 0 ≤ 90)
+-- what stands at each place, read in some way, is a capital
+abbrev Each : (ℕ → ℕ) → List ℕ → Type 0
+Each read xs = (i : ℕ) → i < length xs → (65 ≤ read (getD xs i 0)) × (read (getD xs i 0) ≤ 90)
 
-each-spelt : (xs : List ℕ) → Each xs → Spelt xs
+each-spelt : (xs : List ℕ) → Each (λ (b : ℕ). b) xs → Spelt xs
 each-spelt [] h = tt
 each-spelt (x ∷ xs) h = (h 0 (omega arith) .0, h 0 (omega arith) .1, each-spelt xs (λ i l. h (suc i) (omega arith)))
 
-each-part : (n f : ℕ) (letters : List ℕ) → Each letters → Each (take n (drop f letters))
+each-part : (n f : ℕ) (letters : List ℕ) → Each capital letters → Each capital (take n (drop f letters))
 each-part n f letters h i l =
     let m : length (take n (drop f letters)) ≡ min n (length (drop f letters)) = length-take n (drop f letters) in
     let k : i < n = omega (arith, min-le-left n (length (drop f letters))) in
     let j : f + i < length letters = omega (arith, min-le-right n (length (drop f letters)), length-drop f letters) in
     rw (getD-take n (drop f letters) i 0 k ∙ getD-drop f letters i 0) (h (f + i) j)
 
-each-letters : (b : Bool) (part : List ℕ) → Each part → Each (lettersOf b part)
+each-letters : (b : Bool) (part : List ℕ) → Each capital part → Each (λ (b : ℕ). b) (lettersOf b part)
 each-letters b part h i l =
     let k : i < length part = omega (arith, length-letters b part) in
     go (b && ltb 0 i && ltb (i + 1) (length part)) refl k

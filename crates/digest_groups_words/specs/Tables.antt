@@ -3,15 +3,16 @@ use Prim.Native.Nat.{ℕ, _+_, _-_, _*_, _≤_, _<_}
 use mathlib.Core.Path.{_≡_}
 use mathlib.Core.List.{List}
 use lib.ListN.{length, getD}
+use Rattle.letters.specs.Letters.{capital}
 use Rattle.digest_groups_words.specs.declared.spelling.Spelling.{Spelling}
 use Rattle.digest_groups_words.specs.Word.{digestWord}
 use Rattle.enzyme_keep.specs.Digests.{startOf, endOf, positionIn, decoyIn, proteinIn}
 use Rattle.digest_groups_spec.specs.DigestGroups.{digestAt, lettersIn}
 
--- letters, A to Z, and no more than a book has
+-- letters, and no more than a book has
 pub record BookLetters (letters : List ℕ) : Type 0 where
   pub small : length letters ≤ 268435456
-  pub spelt : (j : ℕ) → j < length letters → (65 ≤ getD letters j 0) × (getD letters j 0 ≤ 90)
+  pub spelt : (j : ℕ) → j < length letters → (65 ≤ capital (getD letters j 0)) × (capital (getD letters j 0) ≤ 90)
 
 -- a digest's range lies within the book, and its fields within theirs
 pub record DigestInside (bounds letters d : List ℕ) : Type 0 where

@@ -13,7 +13,7 @@ use Rattle.sorting_spec.specs.Lex.{lexLe}
 use Rattle.sorting_spec.specs.LexLaws.{lex-lt, lex-gt, lex-eq}
 use Rattle.digest_groups_words.specs.Word.{packed, digestWord}
 
--- each is a letter, A to Z
+-- each is a capital
 abbrev pub Spelt : List ℕ → Type 0
 Spelt [] = Unit {0}
 Spelt (x ∷ xs) = (65 ≤ x) × (x ≤ 90) × Spelt xs

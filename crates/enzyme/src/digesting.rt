@@ -14,9 +14,10 @@ ghost use Prim.Native.Nat.{_≤_};
 ghost use lib.ListN.{length};
 ghost use Rattle.records.specs.Outcome.{outcome};
 ghost use Rattle.records.specs.Room.{counted};
+ghost use Rattle.letters.specs.Letters.{capitals};
 ghost use Rattle.enzyme_spec.specs.Digestion.{digestRecords, digestOutcome};
 
-// The digests of letters that are in order.
+// The digests of letters that are in order, as capitals.
 fn digest_passed(
     letters: &[u8],
     enzyme: Enzyme,
@@ -25,9 +26,9 @@ fn digest_passed(
     out: &mut [u8],
 ) -> Counted
     requires { ⌜ (length (now letters) ≤ 65536) × (missed ≤ 16) × (terms .maximum ≤ 65536) ⌝ }
-    ensures { λ r. ⌜ outcome r (now (out .exit) ∷ []) ≡ counted 16 1048576 (now (out .entry)) (digestRecords enzyme missed (terms .minimum) (terms .maximum) (terms .protein) (now (letters .entry))) ⌝ }
+    ensures { λ r. ⌜ outcome r (now (out .exit) ∷ []) ≡ counted 16 1048576 (now (out .entry)) (digestRecords enzyme missed (terms .minimum) (terms .maximum) (terms .protein) (capitals (now (letters .entry)))) ⌝ }
 {
-    let Step::Kept(k) = enzyme_ways::offer_all(letters, enzyme, missed, terms, out) else {
+    let Step::Kept(k) = enzyme_ways::offer_read(letters, enzyme, missed, terms, out) else {
         return Counted::Refused(Refusal::Room);
     };
     let count = k as u32;

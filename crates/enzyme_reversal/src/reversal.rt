@@ -42,7 +42,7 @@ fn stretch_tested(letters: &[u8]) -> Tested
     Tested::Passed
 }
 
-// Reverses all letters of a digest but the first and the last.
+// Reverses all letters of a digest but the first and the last, and makes them capitals.
 pub fn reverse_letters(letters: &mut [u8]) -> Tested
     ensures { λ r. ⌜ outcome r (now (letters .exit) ∷ []) ≡ reverseOutcome (now (letters .entry)) ⌝ }
 {
@@ -50,6 +50,7 @@ pub fn reverse_letters(letters: &mut [u8]) -> Tested
     match found {
         Tested::Refused(why) => Tested::Refused(why),
         Tested::Passed => {
+            letters::raise_all(letters);
             flip(letters);
             Tested::Passed
         }

@@ -12,7 +12,7 @@ ghost use Rattle.letters.specs.Reversal.{lettersOf};
 ghost use Rattle.records.specs.Room.{counted, singly};
 ghost use Rattle.enzyme_spec.specs.Reversal.{spellingTested, lettersOutcome};
 
-// Writes a range's letters, a decoy's reversed, as far as there is room.
+// Writes a range's letters as capitals, a decoy's reversed, as far as there is room.
 fn spell(part: &[u8], decoy: bool, out: &mut [u8]) -> Counted
     requires { ⌜ length (now part) ≤ 65536 ⌝ }
     ensures { λ r. ⌜ outcome r (now (out .exit) ∷ []) ≡ counted 1 65536 (now (out .entry)) (singly (lettersOf decoy (now (part .entry)))) ⌝ }
@@ -53,7 +53,7 @@ fn spelling_tested(letters: &[u8], bytes: &[u8]) -> Tested
     }
 }
 
-// Writes the letters of a digest record, whose range counts from the protein's first letter, into out.
+// Writes the letters of a digest record, whose range counts from the protein's first letter, as capitals into out.
 pub fn digest_letters(letters: &[u8], bytes: &[u8], out: &mut [u8]) -> Counted
     ensures { λ r. ⌜ outcome r (now (out .exit) ∷ []) ≡ lettersOutcome (now (letters .entry)) (now (bytes .entry)) (now (out .entry)) ⌝ }
 {

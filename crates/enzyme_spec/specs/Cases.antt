@@ -14,7 +14,7 @@ use Rattle.records.specs.Cases.{Case, Hold, answered, refusedAs, numbers, told}
 use Rattle.records.specs.Room.{written}
 use Rattle.records.specs.Search.{seek}
 use Rattle.letters.specs.declared.letter_set.LetterSet.{LetterSet}
-use Rattle.letters.specs.Letters.{isLetter, bitSet, has, proper, subset, firstBad}
+use Rattle.letters.specs.Letters.{capital, isLetter, bitSet, has, proper, subset, firstBad}
 use Rattle.enzyme_cuts.specs.declared.kinds.Side.{Side}
 use Rattle.enzyme_cuts.specs.declared.kinds.Side.the-variants.{C, N}
 use Rattle.enzyme_cuts.specs.declared.kinds.Kind.{Kind}
@@ -49,6 +49,14 @@ pub digestCases : List Case
 digestCases =
     -- P1: MAKCRDK, set KR, skip P, C side, missed 1, lengths 2 to 50
     digesting (77 ∷ 65 ∷ 75 ∷ 67 ∷ 82 ∷ 68 ∷ 75 ∷ []) (enzyme (Set (set 132096)) (set 32768) C false) (set 67108863) (settings 1 2 50) 80 (answered 5) (row 0 3 0 0 0 0 9 ∷ row 3 5 0 0 3 0 9 ∷ row 5 7 0 0 1 0 9 ∷ row 0 5 1 0 0 0 9 ∷ row 3 7 1 0 1 0 9 ∷ []) 0
+    -- P1 as makCRDk: small letters read as capitals
+    ∷ digesting (109 ∷ 97 ∷ 107 ∷ 67 ∷ 82 ∷ 68 ∷ 107 ∷ []) (enzyme (Set (set 132096)) (set 32768) C false) (set 67108863) (settings 1 2 50) 80 (answered 5) (row 0 3 0 0 0 0 9 ∷ row 3 5 0 0 3 0 9 ∷ row 5 7 0 0 1 0 9 ∷ row 0 5 1 0 0 0 9 ∷ row 3 7 1 0 1 0 9 ∷ []) 0
+    -- a masked repeat: AKak is kept once
+    ∷ digesting (65 ∷ 75 ∷ 97 ∷ 107 ∷ []) (enzyme (Set (set 1024)) (set 0) C false) (set 67108863) (settings 0 1 50) 32 (answered 1) (row 0 2 0 0 0 0 9 ∷ []) 16
+    -- the skip set with small letters: akpA
+    ∷ digesting (97 ∷ 107 ∷ 112 ∷ 65 ∷ []) (enzyme (Set (set 1024)) (set 32768) C false) (set 67108863) (settings 0 1 50) 32 (answered 1) (row 0 4 0 0 2 0 9 ∷ []) 16
+    -- without an enzyme: aAC, lengths 1 to 2
+    ∷ digesting (97 ∷ 65 ∷ 67 ∷ []) (enzyme None (set 0) C false) (set 67108863) (settings 0 1 2) 64 (answered 4) (row 0 1 0 0 0 0 9 ∷ row 2 3 0 0 1 0 9 ∷ row 0 2 0 0 0 0 9 ∷ row 1 3 0 0 1 0 9 ∷ []) 0
     -- P3: DADA, set D, N side, missed 1, from length 1
     ∷ digesting (68 ∷ 65 ∷ 68 ∷ 65 ∷ []) (enzyme (Set (set 8)) (set 0) N false) (set 67108863) (settings 1 1 50) 32 (answered 2) (row 0 2 0 0 0 0 9 ∷ row 0 4 1 0 2 0 9 ∷ []) 0
     -- P4: ACK, set KR, semi, missed 0, from length 1
@@ -69,18 +77,25 @@ digestCases =
     ∷ digesting (65 ∷ 67 ∷ []) (enzyme (Set (set 0)) (set 0) N true) (set 67108863) (settings 2 0 2) 64 (answered 3) (row 0 1 0 0 0 0 9 ∷ row 1 2 0 0 1 0 9 ∷ row 0 2 0 0 2 0 9 ∷ []) 16
     -- the empty protein
     ∷ digesting [] (enzyme (Set (set 1024)) (set 0) C true) (set 67108863) (settings 2 1 5) 16 (answered 0) [] 16
-    -- 2: AkA
-    ∷ digesting (65 ∷ 107 ∷ 65 ∷ []) (enzyme (Set (set 1024)) (set 0) C false) (set 67108863) (settings 0 1 50) 16 (refusedAs 2 1) [] 16
+    -- 2: A*A
+    ∷ digesting (65 ∷ 42 ∷ 65 ∷ []) (enzyme (Set (set 1024)) (set 0) C false) (set 67108863) (settings 0 1 50) 16 (refusedAs 2 1) [] 16
+    -- 2: the bytes next to the letters: @ [ ` { and A and a with the highest bit set
+    ∷ digesting (65 ∷ 64 ∷ []) (enzyme End (set 0) C false) (set 67108863) (settings 0 1 50) 16 (refusedAs 2 1) [] 16
+    ∷ digesting (90 ∷ 91 ∷ []) (enzyme End (set 0) C false) (set 67108863) (settings 0 1 50) 16 (refusedAs 2 1) [] 16
+    ∷ digesting (97 ∷ 96 ∷ []) (enzyme End (set 0) C false) (set 67108863) (settings 0 1 50) 16 (refusedAs 2 1) [] 16
+    ∷ digesting (122 ∷ 123 ∷ []) (enzyme End (set 0) C false) (set 67108863) (settings 0 1 50) 16 (refusedAs 2 1) [] 16
+    ∷ digesting (65 ∷ 193 ∷ []) (enzyme End (set 0) C false) (set 67108863) (settings 0 1 50) 16 (refusedAs 2 1) [] 16
+    ∷ digesting (97 ∷ 225 ∷ []) (enzyme End (set 0) C false) (set 67108863) (settings 0 1 50) 16 (refusedAs 2 1) [] 16
     -- 3 before 2: the cleave set
-    ∷ digesting (65 ∷ 107 ∷ 65 ∷ []) (enzyme (Set (set 1024)) (set 0) C false) (set 67107839) (settings 0 1 50) 16 (refusedAs 3 0) [] 16
+    ∷ digesting (65 ∷ 42 ∷ 65 ∷ []) (enzyme (Set (set 1024)) (set 0) C false) (set 67107839) (settings 0 1 50) 16 (refusedAs 3 0) [] 16
     -- 3: the skip set, any kind
-    ∷ digesting (65 ∷ 107 ∷ 65 ∷ []) (enzyme End (set 32768) C false) (set 67076095) (settings 0 1 50) 16 (refusedAs 3 0) [] 16
+    ∷ digesting (65 ∷ 42 ∷ 65 ∷ []) (enzyme End (set 32768) C false) (set 67076095) (settings 0 1 50) 16 (refusedAs 3 0) [] 16
     -- 3: alphabet bits above 25
-    ∷ digesting (65 ∷ 107 ∷ 65 ∷ []) (enzyme None (set 0) C false) (set 134217727) (settings 0 1 50) 16 (refusedAs 3 0) [] 16
+    ∷ digesting (65 ∷ 42 ∷ 65 ∷ []) (enzyme None (set 0) C false) (set 134217727) (settings 0 1 50) 16 (refusedAs 3 0) [] 16
     -- 3: a skip set's bit above 25
-    ∷ digesting (65 ∷ 107 ∷ 65 ∷ []) (enzyme None (set 67108864) C false) (set 67108863) (settings 0 1 50) 16 (refusedAs 3 0) [] 16
+    ∷ digesting (65 ∷ 42 ∷ 65 ∷ []) (enzyme None (set 67108864) C false) (set 67108863) (settings 0 1 50) 16 (refusedAs 3 0) [] 16
     -- 1 before 3
-    ∷ digesting (65 ∷ 107 ∷ 65 ∷ []) (enzyme None (set 0) C false) (set 134217727) (settings 17 1 50) 16 (refusedAs 1 0) [] 16
+    ∷ digesting (65 ∷ 42 ∷ 65 ∷ []) (enzyme None (set 0) C false) (set 134217727) (settings 17 1 50) 16 (refusedAs 1 0) [] 16
     ∷ []
 
 -- ---- reversal
@@ -112,8 +127,11 @@ reversalCases =
     ∷ reversing (65 ∷ 75 ∷ []) passed (65 ∷ 75 ∷ [])
     ∷ reversing (75 ∷ []) passed (75 ∷ [])
     ∷ reversing [] (refusedAs 1 0) []
-    -- 2: AkAK
-    ∷ reversing (65 ∷ 107 ∷ 65 ∷ 75 ∷ []) (refusedAs 2 1) (65 ∷ 107 ∷ 65 ∷ 75 ∷ [])
+    -- small letters: acDeK; what is written is capitals
+    ∷ reversing (97 ∷ 99 ∷ 68 ∷ 101 ∷ 75 ∷ []) passed (65 ∷ 69 ∷ 68 ∷ 67 ∷ 75 ∷ [])
+    -- 2: aA*K, and a{, which is no letter either; small letters stay small
+    ∷ reversing (97 ∷ 65 ∷ 42 ∷ 75 ∷ []) (refusedAs 2 2) (97 ∷ 65 ∷ 42 ∷ 75 ∷ [])
+    ∷ reversing (97 ∷ 123 ∷ []) (refusedAs 2 1) (97 ∷ 123 ∷ [])
     -- a record becomes a decoy, a decoy stays
     ∷ marking (row 3 5 0 0 3 0 9) passed (row 3 5 0 0 3 1 9)
     ∷ marking (row 3 5 0 0 3 1 9) passed (row 3 5 0 0 3 1 9)
@@ -123,6 +141,8 @@ reversalCases =
     -- the letters of 1..5 of MACDEK, and of its decoy
     ∷ spelling (77 ∷ 65 ∷ 67 ∷ 68 ∷ 69 ∷ 75 ∷ []) (row 1 5 0 0 3 0 9) 6 (answered 4) (65 ∷ 67 ∷ 68 ∷ 69 ∷ 170 ∷ 170 ∷ [])
     ∷ spelling (77 ∷ 65 ∷ 67 ∷ 68 ∷ 69 ∷ 75 ∷ []) (row 1 5 0 0 3 1 9) 4 (answered 4) (65 ∷ 68 ∷ 67 ∷ 69 ∷ [])
+    -- the same of macdek: capitals
+    ∷ spelling (109 ∷ 97 ∷ 99 ∷ 100 ∷ 101 ∷ 107 ∷ []) (row 1 5 0 0 3 1 9) 4 (answered 4) (65 ∷ 68 ∷ 67 ∷ 69 ∷ [])
     -- no room: the first letters that fit
     ∷ spelling (77 ∷ 65 ∷ 67 ∷ 68 ∷ 69 ∷ 75 ∷ []) (row 1 5 0 0 3 1 9) 3 (refusedAs 11 0) (65 ∷ 68 ∷ 67 ∷ [])
     -- 9: the end is not within the protein
@@ -133,5 +153,5 @@ pub table : List Case
 table = digestCases ++ reversalCases
 
 pub cases : Hold table
-unfolding isLetter bitSet has proper subset firstBad seek numberAt positionOf recordOf flatten written passed toldTested set enzyme settings row digesting digestCases reversing marking spelling reversalCases table
+unfolding capital isLetter bitSet has proper subset firstBad seek numberAt positionOf recordOf flatten written passed toldTested set enzyme settings row digesting digestCases reversing marking spelling reversalCases table
 cases = refl

@@ -1,4 +1,5 @@
--- What a call of `digest` answers, and what its buffer holds then.
+-- What a call of `digest` answers, and what its buffer holds then. Document 02, [2]: "Small letters now read as capitals everywhere:
+-- enzyme rules, sequences, .. and the test for a repeated peptide."
 use Prim.Native.Nat.{ℕ}
 use mathlib.Core.Path.{_≡_}
 use mathlib.Core.Bool.{Bool, cond, not, _&&_, _||_}
@@ -11,7 +12,7 @@ use Rattle.records.specs.declared.refusal.Tested.the-variants.{Passed, Refused}
 use Rattle.records.specs.Outcome.{Outcome, outcome, unlessRefused, only}
 use Rattle.records.specs.Room.{counted}
 use Rattle.letters.specs.declared.letter_set.LetterSet.{LetterSet}
-use Rattle.letters.specs.Letters.{empty, proper, subset, firstBad}
+use Rattle.letters.specs.Letters.{capitals, empty, proper, subset, firstBad}
 use Rattle.enzyme_cuts.specs.declared.kinds.Kind.{Kind}
 use Rattle.enzyme_cuts.specs.declared.kinds.Kind.the-variants.{None, End, Set}
 use Rattle.enzyme_cuts.specs.declared.kinds.Enzyme.{Enzyme}
@@ -39,7 +40,7 @@ cleaveOf (Set cleave) = cleave
 abbrev pub badSets : Enzyme → LetterSet → Bool
 badSets e alphabet = not (proper alphabet && inAlphabet (cleaveOf (e .kind)) alphabet && inAlphabet (e .skip) alphabet)
 
--- 1, then 3, then 2 at the first byte that is not A to Z
+-- 1, then 3, then 2 at the first byte that is no letter
 abbrev pub tested : List ℕ → LetterSet → Enzyme → Settings → Tested
 tested s alphabet e st =
     cond (tooLarge s st) (Refused Size)
@@ -50,10 +51,10 @@ tested s alphabet e st =
 abbrev pub digestRecords : Enzyme → ℕ → ℕ → ℕ → ℕ → List ℕ → List (List ℕ)
 digestRecords e missed minimum maximum protein s = map (recordOf (length s) protein) (digests e missed minimum maximum s)
 
--- then 11: a list of at most 1,048,576 records of 16 bytes
+-- then 11: a list of at most 1,048,576 records of 16 bytes, those of the letters as capitals
 abbrev pub digestOutcome : List ℕ → LetterSet → Enzyme → Settings → ℕ → List ℕ → Outcome Counted
 digestOutcome s alphabet e st protein old =
-    unlessRefused (tested s alphabet e st) No (old ∷ []) (counted 16 1048576 old (digestRecords e (st .missed) (st .minimum) (st .maximum) protein s))
+    unlessRefused (tested s alphabet e st) No (old ∷ []) (counted 16 1048576 old (digestRecords e (st .missed) (st .minimum) (st .maximum) protein (capitals s)))
 
 -- no second answer and no second contents meet the contract of `digest`
 pub digest-only : (s : List ℕ) (alphabet : LetterSet) (e : Enzyme) (st : Settings) (protein : ℕ) (old : List ℕ) (r q : Counted) (k l : List ℕ)

@@ -11,7 +11,7 @@ use Rattle.records.specs.declared.refusal.Tested.{Tested}
 use Rattle.records.specs.declared.refusal.Tested.the-variants.{Passed, Refused}
 use Rattle.records.specs.Outcome.{Outcome, outcome, unlessRefused, only}
 use Rattle.records.specs.Room.{singly, counted}
-use Rattle.letters.specs.Letters.{firstBad}
+use Rattle.letters.specs.Letters.{capitals, firstBad}
 use Rattle.enzyme_keep.specs.Digests.{startOf, endOf, isDecoy, goodRecord}
 use Rattle.letters.specs.Reversal.{reversed, lettersOf}
 use Rattle.records.specs.declared.refusal.Counted.{Counted}
@@ -19,14 +19,15 @@ use Rattle.records.specs.declared.refusal.Counted.the-variants.{Refused as No}
 
 -- ---- of letters
 
--- 1: no letters, or more than a protein's 65,536; then 2 at the first byte that is not A to Z
+-- 1: no letters, or more than a protein's 65,536; then 2 at the first byte that is no letter
 abbrev pub stretchTested : List ℕ → Tested
 stretchTested s =
     cond (eqb (length s) 0 || ltb 65536 (length s)) (Refused Size)
     (cond (ltb (firstBad s) (length s)) (Refused (Letter (firstBad s))) Passed)
 
+-- what is written is capitals
 abbrev pub reverseOutcome : List ℕ → Outcome Tested
-reverseOutcome s = unlessRefused (stretchTested s) Refused (s ∷ []) (outcome Passed (reversed s ∷ []))
+reverseOutcome s = unlessRefused (stretchTested s) Refused (s ∷ []) (outcome Passed (reversed (capitals s) ∷ []))
 
 -- ---- of a record
 

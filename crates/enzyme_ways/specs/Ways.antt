@@ -3,11 +3,15 @@ use Prim.Native.Nat.{ℕ}
 use mathlib.Core.Bool.{true, false, cond}
 use mathlib.Core.List.{List, [], _∷_}
 use lib.ListN.{length}
+use Rattle.letters.specs.Letters.{capitals}
 use Rattle.enzyme_cuts.specs.declared.kinds.Kind.{Kind}
 use Rattle.enzyme_cuts.specs.declared.kinds.Kind.the-variants.{None, End, Set}
 use Rattle.enzyme_cuts.specs.declared.kinds.Enzyme.{Enzyme}
 use Rattle.enzyme_cuts.specs.Cutting.{Range, site, knife, noneSites, meant}
 use Rattle.enzyme_cuts.specs.Work.{setWork}
+use Rattle.enzyme_keep.specs.declared.offering.Step.{Step}
+use Rattle.enzyme_keep.specs.declared.offering.Terms.{Terms}
+use Rattle.enzyme_tables.specs.Listed.{DigestsListed}
 use Rattle.enzyme_once.specs.Once.{eachOnce}
 
 -- all of "none", the whole protein of "end", the windows of a set, or with semi each different range of it once
@@ -29,3 +33,7 @@ abbrev pub looksAgain : Kind → ℕ
 looksAgain None = 0
 looksAgain End = 0
 looksAgain (Set cleave) = 1
+
+-- what is listed of letters that are read as capitals
+abbrev pub DigestsRead : List ℕ → Enzyme → ℕ → Terms → List ℕ → Step → List ℕ → Type 0
+DigestsRead s e missed terms old r new = DigestsListed (capitals s) terms (way e missed (terms .minimum) (terms .maximum) (capitals s)) old r new

@@ -39,7 +39,13 @@ fn knife_of(enzyme: Enzyme, cleave: LetterSet) -> Knife
 // Writes what is kept of the sites of an enzyme, with tables for as many letters. An empty set means "none": said by a call of
 // itself, for into a function that calls itself the compiler joins none that has large tables. So each way has its stack to
 // itself at each size.
-pub fn offer_all(letters: &[u8], enzyme: Enzyme, missed: u8, terms: Terms, out: &mut [u8]) -> Step
+pub(crate) fn offer_all(
+    letters: &[u8],
+    enzyme: Enzyme,
+    missed: u8,
+    terms: Terms,
+    out: &mut [u8],
+) -> Step
     requires { ⌜ (length (now letters) ≤ 65536) × (missed ≤ 16) × (terms .maximum ≤ 65536) ⌝ }
     ensures { λ r. ⌜ DigestsListed (now (letters .entry)) terms (way enzyme missed (terms .minimum) (terms .maximum) (now (letters .entry))) (now (out .entry)) r (now (out .exit)) ⌝ }
 {

@@ -3,7 +3,7 @@ use Prim.Native.Nat.{ℕ, zero, suc, _+_, _-_, _*_, _/_, _%_, _^_, _≤_, _<_}
 use mathlib.Core.Path.{_≡_, refl, sym, ap, _∙_, subst}
 use mathlib.Core.Bool.{Bool, true, false, _&&_, _||_}
 use mathlib.Core.Logic.{_⊎_, inl, inr, ⊎-elim}
-use native.Mathlib.Nat.{div-eq-of-lt, div-self, mul-mod-left, div-one, mul-div-cancel, mod-lt, div-lt-iff-lt-mul}
+use native.Mathlib.Nat.{div-eq-of-lt, div-self, mul-mod-left, div-one, mul-div-cancel, mod-lt, div-lt-iff-lt-mul, lt-trans}
 use native.Mathlib.Omega.{arith}
 use native.Mathlib.Numerals.{add-one}
 use lib.Dec.{eqb}
@@ -87,6 +87,13 @@ bit-low w m k h =
     let e : w ≡ (j + 1) + k = omega arith in
     let f : m % 2 ^ w / 2 ^ k ≡ m / 2 ^ k % 2 ^ (j + 1) = ap (λ (x : ℕ). m % 2 ^ x / 2 ^ k) e ∙ field m (j + 1) k in
     rw (f, mod-mod-pow (m / 2 ^ k) j 1)
+
+-- it has no bit above them
+pub bit-high : (w m k : ℕ) → w ≤ k → bitSet (m % 2 ^ w) k ≡ false
+unfolding bitSet
+bit-high w m k h =
+    let small : m % 2 ^ w < 2 ^ k = ⊎-elim (λ (g : w < k). lt-trans (mod-lt m (pow-pos w)) (pow-lt g)) (λ (g : k ≤ w). let e : w ≡ k = omega arith in subst (λ (x : ℕ). m % 2 ^ w < 2 ^ x) e (mod-lt m (pow-pos w))) (below? w k) in
+    rw (div-eq-of-lt small)
 
 same-digits : (w m n : ℕ) → m < 2 ^ w → n < 2 ^ w → ((k : ℕ) → k < w → digit m k ≡ digit n k) → m ≡ n
 same-digits zero m n hm hn h = omega arith

@@ -5,30 +5,17 @@ use mathlib.Core.Bool.{Bool, true, false, cond, not, _&&_, _||_, and-false, true
 use mathlib.Core.Logic.{⊎-elim}
 use native.Mathlib.Nat.{zero-div, mod-lt}
 use native.Mathlib.Omega.{arith}
-use lib.Dec.{leb, ltb, eqb}
+use lib.Dec.{ltb, eqb}
 use lib.Pow.{pow-pos, pow-lt}
 use lib.Bits.{bitOr, bitAnd, or-lt}
-use borrow.Author.Tests.{le-leb, eq-eqb, ne-eqb, leb-true, eqb-true, eqb-false, ltb-true, lt-ltb, not-false}
+use borrow.Author.Tests.{eq-eqb, ne-eqb, eqb-true, eqb-false, ltb-true, lt-ltb, not-false}
 use Rattle.lists.specs.Tests.{below?, both, truth?}
 use Rattle.records.specs.Search.{seek}
 use Rattle.records.specs.SearchLaws.{seek-to, seek-passes, seek-before}
 use Rattle.letters.specs.declared.letter_set.LetterSet.{LetterSet}
-use Rattle.letters.specs.Letters.{isLetter, bitSet, has, inserted, empty, all, proper, subset}
+use Rattle.letters.specs.Letters.{isCapital, capital, isLetter, bitSet, has, inserted, empty, all, proper, subset}
+use Rattle.letters.specs.CapitalLaws.{capital-within, capital-same, capital-twice, capital-letter, letter-from, letter-to, letter-capital}
 use Rattle.letters.specs.BitLaws.{bit-insert, bit-shared, bit-low, same-bits}
-
--- ---- letters
-
-pub letter-from : (b : ℕ) → isLetter b ≡ true → 65 ≤ b
-unfolding isLetter
-letter-from b e = leb-true 65 b (both (leb 65 b) (leb b 90) e .0)
-
-pub letter-to : (b : ℕ) → isLetter b ≡ true → b ≤ 90
-unfolding isLetter
-letter-to b e = leb-true b 90 (both (leb 65 b) (leb b 90) e .1)
-
-pub letter-within : (b : ℕ) → 65 ≤ b → b ≤ 90 → isLetter b ≡ true
-unfolding isLetter
-letter-within b h k = rw (le-leb 65 b h, le-leb b 90 k)
 
 -- ---- members
 
@@ -40,33 +27,39 @@ has-empty b = simp zero-div (and-false (isLetter b))
 -- a member is a letter
 pub has-letter : (s : LetterSet) (b : ℕ) → has s b ≡ true → isLetter b ≡ true
 unfolding has
-has-letter s b e = both (isLetter b) (bitSet (s .mask) (b - 65)) e .0
+has-letter s b e = both (isLetter b) (bitSet (s .mask) (capital b - 65)) e .0
 
 -- a byte that is no letter is in no set
 pub has-other : (s : LetterSet) (b : ℕ) → isLetter b ≡ false → has s b ≡ false
 unfolding has
 has-other s b e = rw e
 
+-- a set has a small letter where it has its capital
+pub has-capital : (s : LetterSet) (b : ℕ) → has s (capital b) ≡ has s b
+unfolding has
+has-capital s b = rw (letter-capital b, capital-twice b)
+
 -- contains after insert, for all bytes
-pub has-insert : (s : LetterSet) (a b : ℕ) → has (inserted s a) b ≡ ((isLetter a && eqb b a) || has s b)
+pub has-insert : (s : LetterSet) (a b : ℕ) → has (inserted s a) b ≡ ((isLetter a && eqb (capital b) (capital a)) || has s b)
 unfolding has inserted
 has-insert s a b = go (isLetter a) refl (isLetter b) refl
   where
     m : ℕ
     m = s .mask
 
-    same : isLetter a ≡ true → isLetter b ≡ true → eqb (b - 65) (a - 65) ≡ eqb b a
-    same p q = back (eqb b a) refl
+    same : isLetter a ≡ true → isLetter b ≡ true → eqb (capital b - 65) (capital a - 65) ≡ eqb (capital b) (capital a)
+    same p q = back (eqb (capital b) (capital a)) refl
       where
-        back : (t : Bool) → eqb b a ≡ t → eqb (b - 65) (a - 65) ≡ t
-        back true e = eq-eqb (b - 65) (a - 65) (ap (λ (x : ℕ). x - 65) (eqb-true b a e))
-        back false e = ne-eqb (b - 65) (a - 65) (λ (h : b - 65 ≡ a - 65). eqb-false b a e (omega (arith, letter-from a p, letter-from b q)))
+        back : (t : Bool) → eqb (capital b) (capital a) ≡ t → eqb (capital b - 65) (capital a - 65) ≡ t
+        back true e = eq-eqb (capital b - 65) (capital a - 65) (ap (λ (x : ℕ). x - 65) (eqb-true (capital b) (capital a) e))
+        back false e = ne-eqb (capital b - 65) (capital a - 65) (λ (h : capital b - 65 ≡ capital a - 65). eqb-false (capital b) (capital a) e (omega (arith, letter-from a p, letter-from b q)))
 
-    apart : isLetter a ≡ true → isLetter b ≡ false → eqb b a ≡ false
-    apart p q = ne-eqb b a (λ (h : b ≡ a). true≢false (sym p ∙ ap isLetter (sym h) ∙ q))
+    apart : isLetter a ≡ true → isLetter b ≡ false → eqb (capital b) (capital a) ≡ false
+    apart p q = ne-eqb (capital b) (capital a) (λ (h : capital b ≡ capital a). true≢false (sym p ∙ sym (letter-capital a) ∙ ap isLetter (sym h) ∙ letter-capital b ∙ q))
 
-    go : (x : Bool) → isLetter a ≡ x → (t : Bool) → isLetter b ≡ t → (t && bitSet (cond x (bitOr m (2 ^ (a - 65))) m) (b - 65)) ≡ ((x && eqb b a) || (t && bitSet m (b - 65)))
-    go true p true q = bit-insert m (a - 65) (b - 65) ∙ ap (λ (x : Bool). x || bitSet m (b - 65)) (same p q)
+    go : (x : Bool) → isLetter a ≡ x → (t : Bool) → isLetter b ≡ t
+        → (t && bitSet (cond x (bitOr m (2 ^ (capital a - 65))) m) (capital b - 65)) ≡ ((x && eqb (capital b) (capital a)) || (t && bitSet m (capital b - 65)))
+    go true p true q = bit-insert m (capital a - 65) (capital b - 65) ∙ ap (λ (x : Bool). x || bitSet m (capital b - 65)) (same p q)
     go true p false q = simp (apart p q)
     go false p true q = refl
     go false p false q = refl
@@ -76,8 +69,8 @@ pub insert-proper : (s : LetterSet) (a : ℕ) → proper s ≡ true → proper (
 unfolding proper inserted
 insert-proper s a h = go (isLetter a) refl
   where
-    go : (t : Bool) → isLetter a ≡ t → ltb (cond t (bitOr (s .mask) (2 ^ (a - 65))) (s .mask)) (2 ^ 26) ≡ true
-    go true p = lt-ltb _ _ (or-lt 26 (s .mask) (2 ^ (a - 65)) (ltb-true (s .mask) (2 ^ 26) h) (pow-lt {j = 26} (omega (arith, letter-to a p))))
+    go : (t : Bool) → isLetter a ≡ t → ltb (cond t (bitOr (s .mask) (2 ^ (capital a - 65))) (s .mask)) (2 ^ 26) ≡ true
+    go true p = lt-ltb _ _ (or-lt 26 (s .mask) (2 ^ (capital a - 65)) (ltb-true (s .mask) (2 ^ 26) h) (pow-lt {j = 26} (omega (arith, letter-to a p))))
     go false p = h
 
 pub empty-proper : proper empty ≡ true
@@ -88,13 +81,20 @@ pub all-proper : proper all ≡ true
 unfolding proper
 all-proper = refl
 
--- a letter's bit
+-- a capital's bit
 bit-of : (s : LetterSet) (k : ℕ) → k < 26 → has s (65 + k) ≡ bitSet (s .mask) k
 unfolding has
-bit-of s k h = rw (letter-within (65 + k) (omega arith) (omega arith), back k)
+bit-of s k h =
+    let c : isCapital (65 + k) ≡ true = capital-within (65 + k) (omega arith) (omega arith) in
+    rw (capital-letter (65 + k) c, capital-same (65 + k) c, back k)
   where
     back : (i : ℕ) → 65 + i - 65 ≡ i
     back i = omega arith
+
+-- and that of a letter
+bit-of-letter : (s : LetterSet) (b : ℕ) → isLetter b ≡ true → has s b ≡ bitSet (s .mask) (capital b - 65)
+unfolding has
+bit-of-letter s b e = rw e
 
 -- a set without stray bits is known by its members
 pub set-by-members : (s t : LetterSet) → proper s ≡ true → proper t ≡ true → ((b : ℕ) → has s b ≡ has t b) → s ≡ t
@@ -116,8 +116,8 @@ has-all b = ⊎-elim (inside) (λ (e : isLetter b ≡ false). has-other all b e 
 
     inside : isLetter b ≡ true → has all b ≡ isLetter b
     inside e =
-        let f : 65 + (b - 65) ≡ b = omega (arith, letter-from b e) in
-        subst (λ (x : ℕ). has all x ≡ true) f (at (b - 65) (omega (arith, letter-to b e, letter-from b e))) ∙ sym e
+        let f : 65 + (capital b - 65) ≡ capital b = omega (arith, letter-from b e) in
+        sym (has-capital all b) ∙ subst (λ (x : ℕ). has all x ≡ true) f (at (capital b - 65) (omega (arith, letter-to b e, letter-from b e))) ∙ sym e
 
 -- ---- subsets
 
@@ -127,8 +127,8 @@ subset-has s t e b h =
     let p : ℕ → Bool = λ x. has s x && not (has t x) in
     let l : isLetter b ≡ true = has-letter s b h in
     let f : seek p 65 26 ≡ 91 = eqb-true (seek p 65 26) 91 e in
-    let g : p b ≡ false = seek-before p 65 26 b (letter-from b l) (omega (arith, letter-to b l)) in
-    go (has t b) refl (rw h at g)
+    let g : p (capital b) ≡ false = seek-before p 65 26 (capital b) (letter-from b l) (omega (arith, letter-to b l)) in
+    go (has t b) refl (rw (has-capital s b, has-capital t b, h) at g)
   where
     go : (x : Bool) → has t b ≡ x → not (has t b) ≡ false → has t b ≡ true
     go true q r = q
@@ -152,13 +152,11 @@ module _ (s t : LetterSet) where
   shared-has : bitAnd (s .mask) (t .mask) % 2 ^ 26 ≡ s .mask % 2 ^ 26 → (b : ℕ) → has s b ≡ true → has t b ≡ true
   shared-has e b h =
       let l : isLetter b ≡ true = has-letter s b h in
-      let k : ℕ = b - 65 in
+      let k : ℕ = capital b - 65 in
       let g : k < 26 = omega (arith, letter-from b l, letter-to b l) in
-      let f : 65 + k ≡ b = omega (arith, letter-from b l) in
-      let p : bitSet (s .mask) k ≡ true = sym (bit-of s k g) ∙ ap (has s) f ∙ h in
+      let p : bitSet (s .mask) k ≡ true = sym (bit-of-letter s b l) ∙ h in
       let q : bitSet (bitAnd (s .mask) (t .mask)) k ≡ true = sym (bit-low 26 (bitAnd (s .mask) (t .mask)) k g) ∙ ap (λ (x : ℕ). bitSet x k) e ∙ bit-low 26 (s .mask) k g ∙ p in
-      let r : bitSet (t .mask) k ≡ true = both (bitSet (s .mask) k) (bitSet (t .mask) k) (sym (bit-shared (s .mask) (t .mask) k) ∙ q) .1 in
-      ap (has t) (sym f) ∙ bit-of t k g ∙ r
+      bit-of-letter t b l ∙ both (bitSet (s .mask) k) (bitSet (t .mask) k) (sym (bit-shared (s .mask) (t .mask) k) ∙ q) .1
 
   has-shared : subset s t ≡ true → bitAnd (s .mask) (t .mask) % 2 ^ 26 ≡ s .mask % 2 ^ 26
   has-shared e = same-bits 26 (bitAnd (s .mask) (t .mask) % 2 ^ 26) (s .mask % 2 ^ 26) (mod-lt (bitAnd (s .mask) (t .mask)) (pow-pos 26)) (mod-lt (s .mask) (pow-pos 26)) at

@@ -2,5 +2,6 @@
 pub mod Letters
 pub mod Reversal
 pub mod BitLaws
+pub mod CapitalLaws
 pub mod LetterLaws
 pub mod ReversalLaws

@@ -1,4 +1,5 @@
 // Sets of letters.
+use crate::stretch::capital;
 ghost use mathlib.Core.Path.{_≡_};
 ghost use Rattle.letters.specs.Letters.{all, empty, has, inserted, proper, subset};
 
@@ -19,7 +20,7 @@ impl LetterSet {
         LetterSet::EMPTY
     }
 
-    // `ALL`, which holds A to Z.
+    // `ALL`, which holds every letter.
     pub fn all_letters() -> LetterSet
         ensures { λ r. ⌜ r ≡ all ⌝ }
     {
@@ -28,26 +29,27 @@ impl LetterSet {
 
     // Whether the letter is in the set: no byte but a letter is in any.
     // Document 02, [5]: "On our busiest node, asking whether a letter is in a set takes too long." A byte below A wraps to 191 or
-    // more, so that one comparison tells letters from all other bytes, and nothing branches. `% 32` bounds the shift where k is no
-    // letter's; it costs nothing.
+    // more, so that one comparison leaves A to Z, a to z and the six bytes behind each of them; `% 32` lays the small letters over
+    // the capitals, and those six bytes on bits above 25, which are cleared. Nothing branches.
     pub fn contains(self, letter: u8) -> bool
         ensures { λ r. ⌜ r ≡ has self letter ⌝ }
     {
         let k = std::num::wrapping_sub_u8(letter, 65);
-        (k < 26) & ((self.mask >> (k % 32)) % 2 == 1)
+        (k < 64) & (((self.mask % 0x0400_0000) >> (k % 32)) % 2 == 1)
     }
 
     // The set with the letter: any other byte changes nothing.
     pub fn insert(self, letter: u8) -> LetterSet
         ensures { λ r. ⌜ r ≡ inserted self letter ⌝ }
     {
-        if letter < 65 {
+        let b = capital(letter);
+        if b < 65 {
             return self;
         }
-        if 90 < letter {
+        if 90 < b {
             return self;
         }
-        let k = letter - 65;
+        let k = b - 65;
         LetterSet {
             mask: self.mask | (1u32 << k),
         }

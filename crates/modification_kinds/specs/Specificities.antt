@@ -3,7 +3,7 @@
 use Prim.Native.Nat.{ℕ}
 use mathlib.Core.Bool.{Bool, cond, not, _&&_, _||_}
 use lib.Dec.{leb, eqb}
-use Rattle.letters.specs.Letters.{isLetter}
+use Rattle.letters.specs.Letters.{isCapital}
 use Rattle.modification_kinds.specs.declared.specificity.Specificity.{Specificity}
 use Rattle.modification_kinds.specs.declared.specificity.Specificity.the-variants.{Residue, PeptideN, PeptideC, ProteinN, ProteinC}
 
@@ -30,6 +30,6 @@ specificity kind b =
     (cond (eqb kind 4) (ProteinC b)
     (Residue b))))
 
--- a kind and a letter that a rule may have
+-- a kind and a letter that a rule may have: "A rule is always written with a capital" (document 02, [2])
 abbrev pub sound : ℕ → ℕ → Bool
-sound kind b = leb kind 4 && (isLetter b || (eqb b 0 && not (eqb kind 0)))
+sound kind b = leb kind 4 && (isCapital b || (eqb b 0 && not (eqb kind 0)))

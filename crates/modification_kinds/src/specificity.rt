@@ -39,11 +39,11 @@ impl Specificity {
     }
 }
 
-// Whether a rule may have the kind and the letter.
+// Whether a rule may have the kind and the letter, which is a capital.
 pub fn is_sound(kind: u8, letter: u8) -> bool
     ensures { λ r. ⌜ r ≡ sound kind letter ⌝ }
 {
-    (kind <= 4) & (letters::is_letter(letter) | ((letter == 0) & !(kind == 0)))
+    (kind <= 4) & (letters::is_capital(letter) | ((letter == 0) & !(kind == 0)))
 }
 
 // The kind's number and the letter as a value; a number above 4 is read as 0.

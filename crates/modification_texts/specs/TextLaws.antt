@@ -1,19 +1,20 @@
 -- The two round trips of document 01 between rules and their texts, and what a stored text leaves. Assumes nothing.
 use Prim.Native.Nat.{ℕ, suc, _+_, _≤_, _<_}
 use mathlib.Core.Path.{_≡_, refl, sym, ap, ap₂, _∙_, subst}
-use mathlib.Core.Bool.{Bool, true, false, cond, not, true≢false}
-use mathlib.Core.Logic.{_⊎_, inl, inr}
+use mathlib.Core.Bool.{Bool, true, false, cond, not, _&&_, _||_, true≢false}
+use mathlib.Core.Logic.{_⊎_, inl, inr, ⊎-elim}
 use mathlib.Core.List.{List, [], _∷_}
 use native.Mathlib.Omega.{arith}
 use lib.ListN.{length, getD, length-map}
 use lib.Seq.{sets}
-use lib.Dec.{ltb, eqb, eqb·suc-zero}
-use borrow.Author.Tests.{lt-leb, le-leb, lt-ltb, le-ltb, eq-eqb, ne-eqb, ltb-false}
+use lib.Dec.{leb, ltb, eqb, eqb·suc-zero}
+use borrow.Author.Tests.{lt-leb, le-leb, lt-ltb, le-ltb, eq-eqb, ne-eqb, ltb-false, eqb-true}
 use Rattle.records.specs.Room.{counted, singly}
-use Rattle.lists.specs.Tests.{same?}
+use Rattle.lists.specs.Tests.{same?, both}
 use Rattle.letters.specs.declared.letter_set.LetterSet.{LetterSet}
-use Rattle.letters.specs.Letters.{isLetter, has}
-use Rattle.letters.specs.LetterLaws.{letter-from, letter-to, has-letter}
+use Rattle.letters.specs.Letters.{isCapital, capital, capitals, isLetter, has}
+use Rattle.letters.specs.CapitalLaws.{capital-from, capital-to, capital-same, letter-from, letter-is}
+use Rattle.letters.specs.LetterLaws.{has-letter}
 use Rattle.records.specs.declared.refusal.Refusal.{Refusal}
 use Rattle.records.specs.declared.refusal.Refusal.the-variants.{Letter, EmptyText, Outside, LongText, Field, Room}
 use Rattle.records.specs.Search.{seek}
@@ -52,6 +53,7 @@ module _ (s : Specificity) where
 -- b is the mark of kind k
 record Mark (k b : ℕ) : Type 0 where
   reads : markOf b ≡ k
+  itself : capital b ≡ b
   behind : letterPlace k ≡ 1
   plain : ltb b 128 ≡ true
   kind : (l : ℕ) → kindOf (specificity k l) ≡ k
@@ -60,16 +62,20 @@ record Mark (k b : ℕ) : Type 0 where
   writes : markByte k ≡ b
 
 caret : Mark 1 94
-caret = record { reads = refl; behind = refl; plain = refl; kind = λ l. refl; letter = λ l. refl; some = refl; writes = refl }
+unfolding capital
+caret = record { reads = refl; itself = refl; behind = refl; plain = refl; kind = λ l. refl; letter = λ l. refl; some = refl; writes = refl }
 
 dollar : Mark 2 36
-dollar = record { reads = refl; behind = refl; plain = refl; kind = λ l. refl; letter = λ l. refl; some = refl; writes = refl }
+unfolding capital
+dollar = record { reads = refl; itself = refl; behind = refl; plain = refl; kind = λ l. refl; letter = λ l. refl; some = refl; writes = refl }
 
 opening : Mark 3 91
-opening = record { reads = refl; behind = refl; plain = refl; kind = λ l. refl; letter = λ l. refl; some = refl; writes = refl }
+unfolding capital
+opening = record { reads = refl; itself = refl; behind = refl; plain = refl; kind = λ l. refl; letter = λ l. refl; some = refl; writes = refl }
 
 closing : Mark 4 93
-closing = record { reads = refl; behind = refl; plain = refl; kind = λ l. refl; letter = λ l. refl; some = refl; writes = refl }
+unfolding capital
+closing = record { reads = refl; itself = refl; behind = refl; plain = refl; kind = λ l. refl; letter = λ l. refl; some = refl; writes = refl }
 
 -- a byte is a mark, or none
 mark? : (b : ℕ) → ((k : ℕ) × Mark k b) ⊎ (markOf b ≡ 0)
@@ -98,51 +104,60 @@ place-small k = go (eqb k 0)
 
 -- ---- writing, then reading
 
-letter-plain : (b : ℕ) → isLetter b ≡ true → ltb b 128 ≡ true
-letter-plain b h = lt-ltb b 128 (omega (arith, letter-to b h))
+letter-plain : (b : ℕ) → isCapital b ≡ true → ltb b 128 ≡ true
+letter-plain b h = lt-ltb b 128 (omega (arith, capital-to b h))
 
-letter-no-mark : (b : ℕ) → isLetter b ≡ true → markOf b ≡ 0
+letter-no-mark : (b : ℕ) → isCapital b ≡ true → markOf b ≡ 0
 letter-no-mark b h =
-    let f = letter-from b h in
-    let t = letter-to b h in
+    let f = capital-from b h in
+    let t = capital-to b h in
     rw (ne-eqb b 94 (λ e. omega arith), ne-eqb b 36 (λ e. omega arith), ne-eqb b 91 (λ e. omega arith), ne-eqb b 93 (λ e. omega arith))
 
+-- a letter is not 0, and that of a rule is a capital
+letter-some : (b : ℕ) → isLetter b ≡ true → b ≡ 0 → ⊥
+letter-some b h e = ⊎-elim (λ u. omega (arith, u .0)) (λ u. omega (arith, u .0)) (letter-is b h)
+
+sound-capital : (k b : ℕ) → sound k b ≡ true → isLetter b ≡ true → isCapital b ≡ true
+sound-capital k b h l = go (isCapital b) refl (both (leb k 4) _ h .1)
+  where
+    go : (x : Bool) → isCapital b ≡ x → (x || (eqb b 0 && not (eqb k 0))) ≡ true → isCapital b ≡ true
+    go true p q = p
+    go false p q = absurd (letter-some b l (eqb-true b 0 (both (eqb b 0) (not (eqb k 0)) q .0)))
+
 module _ (alphabet : LetterSet) where
-  parse-letter-text : (b : ℕ) → has alphabet b ≡ true → parsed (b ∷ []) alphabet ≡ Parsed.Rule (Residue b)
+  parse-letter-text : (b : ℕ) → isCapital b ≡ true → has alphabet b ≡ true → parsed (b ∷ []) alphabet ≡ Parsed.Rule (Residue b)
   unfolding parsed firstWide seek
-  parse-letter-text b h =
-      let l = has-letter alphabet b h in
-      rw (letter-plain b l, letter-no-mark b l, h)
+  parse-letter-text b c h = rw (letter-plain b c, letter-no-mark b c, h, capital-same b c)
 
   module _ (k m : ℕ) (x : Mark k m) where
     parse-mark : parsed (m ∷ []) alphabet ≡ Parsed.Rule (specificity k 0)
     unfolding parsed firstWide seek
     parse-mark = rw (x .plain, x .reads, x .behind)
 
-    parse-both : (b : ℕ) → has alphabet b ≡ true → parsed (m ∷ b ∷ []) alphabet ≡ Parsed.Rule (specificity k b)
+    parse-both : (b : ℕ) → isCapital b ≡ true → has alphabet b ≡ true → parsed (m ∷ b ∷ []) alphabet ≡ Parsed.Rule (specificity k b)
     unfolding parsed firstWide seek
-    parse-both b h = rw (x .plain, letter-plain b (has-letter alphabet b h), x .reads, x .behind, h)
+    parse-both b c h = rw (x .plain, letter-plain b c, x .reads, x .behind, h, capital-same b c)
 
     -- the text of the mark with a letter or none
-    marked : (b : ℕ) → (b ≡ 0) ⊎ (has alphabet b ≡ true) → parsed (cond (eqb b 0) (m ∷ []) (m ∷ b ∷ [])) alphabet ≡ Parsed.Rule (specificity k b)
-    marked b (inl e) = rw e parse-mark
-    marked b (inr h) =
-        let l : 65 ≤ b = letter-from b (has-letter alphabet b h) in
-        rw (ne-eqb b 0 (λ e. omega arith)) (parse-both b h)
+    marked : (b : ℕ) → sound k b ≡ true → (b ≡ 0) ⊎ (has alphabet b ≡ true) → parsed (cond (eqb b 0) (m ∷ []) (m ∷ b ∷ [])) alphabet ≡ Parsed.Rule (specificity k b)
+    marked b s (inl e) = rw e parse-mark
+    marked b s (inr h) =
+        let l = has-letter alphabet b h in
+        rw (ne-eqb b 0 (letter-some b l)) (parse-both b (sound-capital k b s l) h)
 
 no-letter : (b : ℕ) → b ≡ 0 → sound 0 b ≡ true → ⊥
-unfolding isLetter
+unfolding isCapital
 no-letter b e h = true≢false (sym (subst (λ (x : ℕ). sound 0 x ≡ true) e h))
 
 -- writing then reading gives kind and letter back, where the alphabet has the letter, if any
 pub write-then-parse : (s : Specificity) (alphabet : LetterSet) → sound (kindOf s) (letterOf s) ≡ true
     → (letterOf s ≡ 0) ⊎ (has alphabet (letterOf s) ≡ true) → parsed (textOf s) alphabet ≡ Parsed.Rule s
 write-then-parse (Residue b) alphabet h (inl e) = absurd (no-letter b e h)
-write-then-parse (Residue b) alphabet h (inr g) = parse-letter-text alphabet b g
-write-then-parse (PeptideN b) alphabet h way = marked alphabet 1 94 caret b way
-write-then-parse (PeptideC b) alphabet h way = marked alphabet 2 36 dollar b way
-write-then-parse (ProteinN b) alphabet h way = marked alphabet 3 91 opening b way
-write-then-parse (ProteinC b) alphabet h way = marked alphabet 4 93 closing b way
+write-then-parse (Residue b) alphabet h (inr g) = parse-letter-text alphabet b (sound-capital 0 b h (has-letter alphabet b g)) g
+write-then-parse (PeptideN b) alphabet h way = marked alphabet 1 94 caret b h way
+write-then-parse (PeptideC b) alphabet h way = marked alphabet 2 36 dollar b h way
+write-then-parse (ProteinN b) alphabet h way = marked alphabet 3 91 opening b h way
+write-then-parse (ProteinC b) alphabet h way = marked alphabet 4 93 closing b h way
 
 -- ---- reading, then writing
 
@@ -152,10 +167,10 @@ refused-no-rule r s e = let z : _≡_ {A = ℕ} 0 1 = cc in omega arith
 
 module _ (alphabet : LetterSet) (s : Specificity) where
   -- a letter at its place was read
-  read-letter : (text : List ℕ) (k at : ℕ) → (eqb (length text) at ≡ false) → parsedLetter text k at alphabet ≡ Parsed.Rule s → (has alphabet (getD text at 0) ≡ true) × (specificity k (getD text at 0) ≡ s)
+  read-letter : (text : List ℕ) (k at : ℕ) → (eqb (length text) at ≡ false) → parsedLetter text k at alphabet ≡ Parsed.Rule s → (has alphabet (getD text at 0) ≡ true) × (specificity k (capital (getD text at 0)) ≡ s)
   read-letter text k at n e = go (has alphabet (getD text at 0)) refl (rw n at e)
     where
-      go : (x : Bool) → has alphabet (getD text at 0) ≡ x → cond x (Parsed.Rule (specificity k (getD text at 0))) (Parsed.Refused (Outside at)) ≡ Parsed.Rule s → (has alphabet (getD text at 0) ≡ true) × (specificity k (getD text at 0) ≡ s)
+      go : (x : Bool) → has alphabet (getD text at 0) ≡ x → cond x (Parsed.Rule (specificity k (capital (getD text at 0)))) (Parsed.Refused (Outside at)) ≡ Parsed.Rule s → (has alphabet (getD text at 0) ≡ true) × (specificity k (capital (getD text at 0)) ≡ s)
       go true p q = (p, cc)
       go false p q = absurd (refused-no-rule (Outside at) s q)
 
@@ -184,25 +199,25 @@ module _ (alphabet : LetterSet) (s : Specificity) where
       let q′ : parsedLetter text k (letterPlace k) alphabet ≡ Parsed.Rule s = subst (λ (x : ℕ). parsedLetter text x (letterPlace x) alphabet ≡ Parsed.Rule s) e q in
       subst (λ (x : ℕ). parsedLetter text k x alphabet ≡ Parsed.Rule s) f q′
 
-  write-one : (a : ℕ) → parsedLetter (a ∷ []) (markOf a) (letterPlace (markOf a)) alphabet ≡ Parsed.Rule s → ((k : ℕ) × Mark k a) ⊎ (markOf a ≡ 0) → textOf s ≡ a ∷ []
+  write-one : (a : ℕ) → parsedLetter (a ∷ []) (markOf a) (letterPlace (markOf a)) alphabet ≡ Parsed.Rule s → ((k : ℕ) × Mark k a) ⊎ (markOf a ≡ 0) → textOf s ≡ capitals (a ∷ [])
   write-one a q (inl (k, x)) =
       let r : Parsed.Rule (specificity k 0) ≡ Parsed.Rule s = read-at (a ∷ []) (markOf a) k 1 (x .reads) (x .behind) q in
       let e : specificity k 0 ≡ s = cc in
-      ap textOf (sym e) ∙ mark-text k a x 0
+      ap textOf (sym e) ∙ mark-text k a x 0 ∙ ap (λ (b : ℕ). b ∷ []) (sym (x .itself))
   write-one a q (inr z) =
       let e = read-letter (a ∷ []) 0 0 refl (read-at (a ∷ []) (markOf a) 0 0 z refl q) in
       ap textOf (sym (e .1))
 
   write-two : (a b : ℕ) → ltb (letterPlace (markOf a) + 1) 2 ≡ false → parsedLetter (a ∷ b ∷ []) (markOf a) (letterPlace (markOf a)) alphabet ≡ Parsed.Rule s
-      → ((k : ℕ) × Mark k a) ⊎ (markOf a ≡ 0) → textOf s ≡ a ∷ b ∷ []
+      → ((k : ℕ) × Mark k a) ⊎ (markOf a ≡ 0) → textOf s ≡ capitals (a ∷ b ∷ [])
   write-two a b p q (inl (k, x)) =
       let e = read-letter (a ∷ b ∷ []) k 1 refl (read-at (a ∷ b ∷ []) (markOf a) k 1 (x .reads) (x .behind) q) in
-      let l : 65 ≤ b = letter-from b (has-letter alphabet b (e .0)) in
-      ap textOf (sym (e .1)) ∙ mark-text k a x b ∙ rw (ne-eqb b 0 (λ z. omega arith))
+      let l : 65 ≤ capital b = letter-from b (has-letter alphabet b (e .0)) in
+      ap textOf (sym (e .1)) ∙ mark-text k a x (capital b) ∙ rw (ne-eqb (capital b) 0 (λ z. omega arith), x .itself)
   write-two a b p q (inr z) = absurd (true≢false (subst (λ (x : ℕ). ltb (letterPlace x + 1) 2 ≡ false) z p))
 
-  -- reading then writing gives the text back
-  pub parse-then-write : (text : List ℕ) → parsed text alphabet ≡ Parsed.Rule s → textOf s ≡ text
+  -- reading then writing gives the text back, with its letter as a capital
+  pub parse-then-write : (text : List ℕ) → parsed text alphabet ≡ Parsed.Rule s → textOf s ≡ capitals text
   unfolding parsed
   parse-then-write [] e = absurd (refused-no-rule EmptyText s e)
   parse-then-write (a ∷ []) e = write-one a (read-plain (a ∷ []) refl e .1) (mark? a)

@@ -1,12 +1,13 @@
 -- Document 01, "Rules and the table": "A rule text is `^`, `$`, `[` or `]` with at most one letter, or one letter alone."
 -- Of its refusals the order is 4, 2, 6, 5.
+-- Document 02, [2]: "A rule is always written with a capital, so a written-back text equals the accepted text up to capitals."
 use Prim.Native.Nat.{ℕ, _+_}
 use mathlib.Core.Bool.{Bool, cond, not}
 use mathlib.Core.List.{List, [], _∷_}
 use lib.ListN.{length, getD}
 use lib.Dec.{ltb, eqb}
 use Rattle.letters.specs.declared.letter_set.LetterSet.{LetterSet}
-use Rattle.letters.specs.Letters.{has}
+use Rattle.letters.specs.Letters.{capital, has}
 use Rattle.records.specs.declared.refusal.Refusal.the-variants.{Letter, EmptyText, Outside, LongText, Field}
 use Rattle.records.specs.Search.{seek}
 use Rattle.records.specs.Outcome.{Outcome, outcome}
@@ -35,11 +36,11 @@ markOf b = cond (eqb b 94) 1 (cond (eqb b 36) 2 (cond (eqb b 91) 3 (cond (eqb b 
 abbrev pub letterPlace : ℕ → ℕ
 letterPlace kind = cond (eqb kind 0) 0 1
 
--- the rule of a kind, whose letter, if any, stands at a place; 5: a letter not in the alphabet, its index
+-- the rule of a kind, whose letter, if any, stands at a place and reads as a capital; 5: a letter not in the alphabet, its index
 abbrev pub parsedLetter : List ℕ → ℕ → ℕ → LetterSet → Parsed
 parsedLetter text kind at alphabet =
     cond (eqb (length text) at) (Parsed.Rule (specificity kind 0))
-    (cond (has alphabet (getD text at 0)) (Parsed.Rule (specificity kind (getD text at 0)))
+    (cond (has alphabet (getD text at 0)) (Parsed.Rule (specificity kind (capital (getD text at 0))))
     (Parsed.Refused (Outside at)))
 
 -- 4: an empty text; 2: a byte of 128 or more; 6: more than a mark and a letter, or than a letter

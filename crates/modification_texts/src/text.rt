@@ -57,7 +57,7 @@ fn letter_place(kind: u8) -> usize
     if kind == 0 { 0 } else { 1 }
 }
 
-// The rule of a kind whose letter, if any, stands at a place.
+// The rule of a kind whose letter, if any, stands at a place: it is a capital.
 fn parse_letter(text: &[u8], kind: u8, at: usize, alphabet: LetterSet) -> Parsed
     ensures { λ r. ⌜ r ≡ parsedLetter (now (text .entry)) kind at alphabet ⌝ }
 {
@@ -66,7 +66,7 @@ fn parse_letter(text: &[u8], kind: u8, at: usize, alphabet: LetterSet) -> Parsed
     }
     let letter = records::byte_at(text, at);
     if alphabet.contains(letter) {
-        Parsed::Rule(modification_kinds::specificity_of(kind, letter))
+        Parsed::Rule(modification_kinds::specificity_of(kind, letters::capital(letter)))
     } else {
         Parsed::Refused(Refusal::Outside(at))
     }

@@ -20,7 +20,7 @@ use Rattle.records.specs.Refusals.{numberOf, placeOf}
 use Rattle.records.specs.Room.{written}
 use Rattle.records.specs.declared.refusal.Tested.{Tested}
 use Rattle.records.specs.Search.{seek}
-use Rattle.letters.specs.Letters.{isLetter, firstBad}
+use Rattle.letters.specs.Letters.{capital, isLetter, firstBad}
 use Rattle.modification_rules.specs.Rules.{goodRule, firstBadRule}
 use Rattle.peptide_choices.specs.Choices.{choicesOf, bySize}
 use Rattle.peptide_slots.specs.Mirror.{mirror, allZero}
@@ -37,6 +37,10 @@ MAM = 77 ∷ 65 ∷ 77 ∷ []
 
 abbrev mam : ℕ → Peptide
 mam position = peptideFrom MAM [] position false
+
+-- mam, with small letters
+abbrev small : Peptide
+small = record { letters = 109 ∷ 97 ∷ 109 ∷ replicate 61 0; ids = replicate 64 0; nterm = 0; cterm = 0; len = 3; position = 2; decoy = false }
 
 -- a rule of a kind on a letter, with an id, without limit
 abbrev rule : ℕ → ℕ → ℕ → List ℕ
@@ -110,6 +114,9 @@ formCases =
     -- protein rules at the N end of a protein, and inside it
     ∷ listing 0 (rule 3 0 7 ++ rule 4 77 8) [] 1 noCap (form 0 0 0 0 0 ∷ form 7 0 0 0 0 ∷ [])
     ∷ listing 3 (rule 3 0 7 ++ rule 4 0 8 ++ rule 2 0 9) [] 1 noCap (form 0 0 0 0 0 ∷ form 0 9 0 0 0 ∷ [])
+    -- a rule on M hits m, in a peptide that was made of small letters and in one that has them
+    ∷ forming (peptideFrom (109 ∷ 65 ∷ 109 ∷ []) [] 2 false) (onM 1) [] 2 noCap 300 (answered 4) (form 0 0 0 0 0 ∷ form 0 0 1 0 0 ∷ form 0 0 0 0 1 ∷ form 0 0 1 0 1 ∷ [])
+    ∷ forming small (onM 1) (rule 0 65 4) 1 noCap 300 (answered 3) (form 0 0 0 4 0 ∷ form 0 0 1 4 0 ∷ form 0 0 0 4 1 ∷ [])
     -- ids that the peptide has stay
     ∷ forming (peptideFrom MAM (slots 60 0) 2 false) (onM 3) (rule 0 65 4) 1 noCap 300 (answered 3) (form 7 8 1 4 2 ∷ form 7 8 1 4 2 ∷ form 7 8 1 4 2 ∷ [])
     -- the greatest sizes
@@ -130,16 +137,18 @@ formCases =
     ∷ refusing (mam 2) (onM 1 ++ (0 ∷ [])) [] 2 8 0
     ∷ refusing (mam 2) [] (take 7 (onM 1)) 2 8 0
     -- 2: the second byte is no letter; 9: a slot past the length is filled, a position that is none
-    ∷ refusing (peptideFrom (77 ∷ 97 ∷ 97 ∷ []) [] 2 false) (onM 1) [] 2 2 1
+    ∷ refusing (peptideFrom (77 ∷ 42 ∷ 42 ∷ []) [] 2 false) (onM 1) [] 2 2 1
     ∷ refusing (peptideFrom MAM (slots 60 1) 2 false) (onM 1) [] 2 9 0
     ∷ refusing (mam 4) (onM 1) [] 2 9 0
+    -- 9: a rule on m, which no rule has: the letter of a record is a capital
+    ∷ refusing (mam 2) (rule 0 109 1) [] 2 9 0
     -- 9: the second variable rule is none, nor is the third; the third fixed rule has a limit
     ∷ refusing (mam 2) (onM 1 ++ none ++ none) (onM 2) 2 9 1
     ∷ refusing (mam 2) onceM (onM 1 ++ onM 2 ++ onceM) 2 9 2
     -- 1 before 8; 8 before 2; 2 before 9
     ∷ refusing (mam 2) (0 ∷ []) [] 9 1 0
-    ∷ refusing (peptideFrom (97 ∷ []) [] 2 false) (0 ∷ []) [] 2 8 0
-    ∷ refusing (peptideFrom (77 ∷ 97 ∷ []) [] 4 false) none none 2 2 1
+    ∷ refusing (peptideFrom (42 ∷ []) [] 2 false) (0 ∷ []) [] 2 8 0
+    ∷ refusing (peptideFrom (77 ∷ 42 ∷ []) [] 4 false) none none 2 2 1
     -- 9 of the peptide before that of the rules, of the variable before that of the fixed; 9 before 11
     ∷ refusing (mam 4) (onM 1 ++ none) none 2 9 0
     ∷ refusing (mam 2) (onM 1 ++ none) none 2 9 1
@@ -152,9 +161,9 @@ formCases =
     -- a form of 65 bytes, of 67, of none, also where a byte is no letter
     ∷ making MAM (slots 59 0) 2 (refusedAs 8 0)
     ∷ making MAM (slots 61 0) 2 (refusedAs 8 0)
-    ∷ making (97 ∷ []) [] 2 (refusedAs 8 0)
+    ∷ making (42 ∷ []) [] 2 (refusedAs 8 0)
     -- a byte that is no letter, also where a slot past the length is filled
-    ∷ making (77 ∷ 97 ∷ []) (slots 60 1) 2 (refusedAs 2 1)
+    ∷ making (77 ∷ 42 ∷ []) (slots 60 1) 2 (refusedAs 2 1)
     -- a slot past the length is filled: the last one, or the third of two letters; a position that is none
     ∷ making MAM (slots 60 1) 2 (refusedAs 9 0)
     ∷ making (77 ∷ 65 ∷ []) (slots 60 0) 2 (refusedAs 9 0)
@@ -201,22 +210,26 @@ digestCases =
     cutting protein (digest 1 5 0 0 3 0) masses (0 ∷ 0 ∷ 3 ∷ 0 ∷ 65 ∷ 66 ∷ 67 ∷ 65 ∷ []) (0 ∷ 0 ∷ 16777216 ∷ [])
     ∷ cutting protein (digest 1 5 16 1 3 1) masses (0 ∷ 0 ∷ 3 ∷ 1 ∷ 65 ∷ 67 ∷ 66 ∷ 65 ∷ []) (0 ∷ 0 ∷ 16777220 ∷ [])
     ∷ cutting protein (digest 3 4 0 0 2 1) masses (0 ∷ 0 ∷ 2 ∷ 1 ∷ 67 ∷ []) (0 ∷ 0 ∷ 1 ∷ [])
+    -- the same of zabcaz: capitals, and their masses
+    ∷ cutting (122 ∷ 97 ∷ 98 ∷ 99 ∷ 97 ∷ 122 ∷ []) (digest 1 5 0 0 3 0) masses (0 ∷ 0 ∷ 3 ∷ 0 ∷ 65 ∷ 66 ∷ 67 ∷ 65 ∷ []) (0 ∷ 0 ∷ 16777216 ∷ [])
+    ∷ cutting (122 ∷ 97 ∷ 98 ∷ 99 ∷ 97 ∷ 122 ∷ []) (digest 1 5 16 1 3 1) masses (0 ∷ 0 ∷ 3 ∷ 1 ∷ 65 ∷ 67 ∷ 66 ∷ 65 ∷ []) (0 ∷ 0 ∷ 16777220 ∷ [])
     -- 64 letters up to the end; 65, also past the end and where the masses are none
     ∷ cutting (90 ∷ replicate 64 65) (digest 1 65 0 0 1 0) masses (0 ∷ 0 ∷ 1 ∷ 0 ∷ replicate 64 65) (0 ∷ 0 ∷ 64 ∷ [])
     ∷ without (replicate 65 65) (digest 0 65 0 0 2 0) masses 1 0
     ∷ without protein (digest 1 66 0 0 2 0) [] 1 0
     -- 8: 15 bytes, 17 bytes, no masses for Z, also where the first byte is no letter; 15 bytes have no range
     ∷ without protein (take 15 (digest 1 5 0 0 3 0)) masses 8 0
-    ∷ without (97 ∷ protein) (digest 1 5 0 0 3 0 ++ (0 ∷ [])) masses 8 0
+    ∷ without (42 ∷ protein) (digest 1 5 0 0 3 0 ++ (0 ∷ [])) masses 8 0
     ∷ without protein (digest 1 5 0 0 3 0) (take 25 masses) 8 0
     ∷ without protein (take 15 (digest 1 66 0 0 3 0)) masses 8 0
     -- 2: no letter before the range, behind it; a letter of mass zero inside, of which the place counts from the first letter
-    ∷ without (97 ∷ protein) (digest 2 5 0 0 3 0) masses 2 0
-    ∷ without (protein ++ (97 ∷ [])) (digest 1 5 0 0 3 0) masses 2 6
+    ∷ without (42 ∷ protein) (digest 2 5 0 0 3 0) masses 2 0
+    ∷ without (protein ++ (42 ∷ [])) (digest 1 5 0 0 3 0) masses 2 6
     ∷ without protein (digest 1 6 0 0 1 0) masses 2 5
+    ∷ without (65 ∷ 122 ∷ 65 ∷ []) (digest 0 3 0 0 2 0) masses 2 1
     ∷ without protein (digest 0 5 0 0 1 1) masses 2 0
     -- also where the record is bad; inside a range that ends past the letters
-    ∷ without (protein ++ (97 ∷ [])) (digest 1 5 0 0 4 0) masses 2 6
+    ∷ without (protein ++ (42 ∷ [])) (digest 1 5 0 0 4 0) masses 2 6
     ∷ without protein (digest 2 9 0 0 3 0) masses 2 5
     -- 9: an end past the letters, an empty range, one that falls, missed, semi, position, decoy
     ∷ without MAM (digest 1 4 0 0 3 0) masses 9 0
@@ -232,11 +245,11 @@ digestCases =
 -- ---- in one table
 
 formCases-hold : Hold formCases
-unfolding flatten numberAt written seek isLetter firstBad goodRule firstBadRule choicesOf bySize allZero upToCap clear testedContents testedForm ruleSites passes filled testedLists testedForms choices formOf formsOf formsOutcome
+unfolding flatten numberAt written seek capital isLetter firstBad goodRule firstBadRule choicesOf bySize allZero upToCap clear testedContents testedForm ruleSites passes filled testedLists testedForms choices formOf formsOf formsOutcome
 formCases-hold = refl
 
 digestCases-hold : Hold digestCases
-unfolding numberAt seek isLetter mirror sum add round units odd size span climb trailingZeros eq toUnsigned addAll noMass unfit firstUnfit testedDigest digested madeOfDigest weighedDigest digestCases
+unfolding numberAt seek capital isLetter mirror sum add round units odd size span climb trailingZeros eq toUnsigned addAll noMass unfit firstUnfit testedDigest digested madeOfDigest weighedDigest digestCases
 digestCases-hold = refl
 
 pub table : List Case

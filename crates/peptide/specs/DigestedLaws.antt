@@ -5,13 +5,13 @@ use mathlib.Core.Bool.{Bool, true, false, not, true≢false}
 use mathlib.Core.Logic.{_⊎_, inl, inr, ⊎-elim}
 use mathlib.Core.List.{List, [], _∷_, _++_}
 use native.Mathlib.Omega.{arith}
-use lib.ListN.{length, getD, take, drop, replicate, length-replicate, getD-replicate, length-append, length-drop, List·getD-append}
+use lib.ListN.{length, getD, take, drop, replicate, length-replicate, getD-replicate, length-append, length-drop, length-map, List·getD-append}
 use lib.Seq.{getD-take, getD-drop, getD-append-add, length-take-le}
 use lib.Ieee.{Float}
 use borrow.Author.Tests.{le-leb, le-ltb, ne-eqb}
 use Rattle.peptide_mass.specs.declared.mass.Weighed.{Weighed}
 use Rattle.peptide_mass.specs.Masses.{wrongSize, addAll, noMass, firstNoMass, testedLetters, weighed, weighedOr}
-use Rattle.peptide_mass.specs.MassLaws.{noMassAt, has-mass-letter, letters-passed, weighed-passed}
+use Rattle.peptide_mass.specs.MassLaws.{noMassAt, has-mass-letter, no-mass-capital, letters-passed, weighed-passed}
 use Rattle.enzyme_keep.specs.Digests.{startOf, endOf, positionIn, isDecoy}
 use Rattle.peptide_digests.specs.DigestTests.{testedDigest}
 use Rattle.lists.specs.Tests.{below?}
@@ -19,7 +19,8 @@ use Rattle.records.specs.declared.refusal.Refusal.{Refusal}
 use Rattle.records.specs.declared.refusal.Tested.{Tested}
 use Rattle.records.specs.Search.{seek}
 use Rattle.records.specs.SearchLaws.{seek-passes}
-use Rattle.letters.specs.Letters.{isLetter, noLetter, firstBad}
+use Rattle.letters.specs.Letters.{capital, capitals, isLetter, noLetter, firstBad}
+use Rattle.letters.specs.CapitalLaws.{other-reads, letter-capital, getD-capitals}
 use Rattle.peptide_slots.specs.Mirror.{mirror, allZero}
 use Rattle.peptide_slots.specs.MirrorLaws.{MirroredTo, until, mirror-turned}
 use Rattle.peptide_slots.specs.Windows.{window}
@@ -65,19 +66,27 @@ module _ (n : ℕ) (xs : List ℕ) (some : 1 ≤ n) (fits : n ≤ 64) (l : lengt
   mirror-past z k h g = turn .outer k (inr (omega arith)) ∙ z k h g
 
 module _ (part : List ℕ) (some : 1 ≤ length part) (fits : length part ≤ 64) where
-  held-length : length (window 64 0 part) ≡ 64
-  held-length = length-take-le 64 (part ++ replicate 64 0) (omega (arith, length-append part (replicate 64 0), length-replicate {A = ℕ} 64 0))
+  abbrev held : List ℕ
+  held = capitals (window 64 0 part)
 
-  held-in : (k : ℕ) → k < length part → getD (window 64 0 part) k 0 ≡ getD part k 0
-  held-in k h = getD-take 64 (part ++ replicate 64 0) k 0 (omega arith) ∙ List·getD-append part (replicate 64 0) 0 k h
+  held-length : length held ≡ 64
+  held-length =
+      length-map (window 64 0 part) capital
+      ∙ length-take-le 64 (part ++ replicate 64 0) (omega (arith, length-append part (replicate 64 0), length-replicate {A = ℕ} 64 0))
 
-  held-past : ZeroFrom (length part) (window 64 0 part)
+  held-in : (k : ℕ) → k < length part → getD held k 0 ≡ capital (getD part k 0)
+  held-in k h = getD-capitals (window 64 0 part) k ∙ ap capital (getD-take 64 (part ++ replicate 64 0) k 0 (omega arith) ∙ List·getD-append part (replicate 64 0) 0 k h)
+
+  held-past : ZeroFrom (length part) held
   held-past k h g =
       let e : length part + (k - length part) ≡ k = omega arith in
-      getD-take 64 (part ++ replicate 64 0) k 0 g
+      getD-capitals (window 64 0 part) k
+      ∙ ap capital
+      (getD-take 64 (part ++ replicate 64 0) k 0 g
       ∙ ap (λ (i : ℕ). getD (part ++ replicate 64 0) i 0) (sym e)
       ∙ getD-append-add part (replicate 64 0) (k - length part) 0
-      ∙ getD-replicate 64 (k - length part) 0 0 (omega arith)
+      ∙ getD-replicate 64 (k - length part) 0 0 (omega arith))
+      ∙ other-reads 0 (inl (omega arith))
 
 -- ---- the peptide of a range
 
@@ -104,22 +113,25 @@ module _ (part : List ℕ) (some : 1 ≤ length part) (fits : length part ≤ 64
   abbrev plain : Peptide
   plain = peptideFrom part [] position false
 
-  held-turned : MirroredTo (length part) (until (length part)) (window 64 0 part) (mirror (length part) (window 64 0 part))
-  held-turned = turn (length part) (window 64 0 part) some fits (held-length part some fits)
+  abbrev letters : List ℕ
+  letters = held part some fits
+
+  held-turned : MirroredTo (length part) (until (length part)) letters (mirror (length part) letters)
+  held-turned = turn (length part) letters some fits (held-length part some fits)
 
   pub range-length : (decoy : Bool) → length (residuesOf (ofRange part position decoy)) ≡ length part
-  range-length false = length-take-le (length part) (window 64 0 part) (omega (arith, held-length part some fits))
-  range-length true = length-take-le (length part) (mirror (length part) (window 64 0 part)) (omega (arith, held-length part some fits, held-turned .len))
+  range-length false = length-take-le (length part) letters (omega (arith, held-length part some fits))
+  range-length true = length-take-le (length part) (mirror (length part) letters) (omega (arith, held-length part some fits, held-turned .len))
 
-  range-letter : (decoy : Bool) (k : ℕ) → k < length part → (j : ℕ) × (j < length part) × (getD (residuesOf (ofRange part position decoy)) k 0 ≡ getD part j 0)
-  range-letter false k h = (k, h, getD-take (length part) (window 64 0 part) k 0 h ∙ held-in part some fits k h)
+  range-letter : (decoy : Bool) (k : ℕ) → k < length part → (j : ℕ) × (j < length part) × (getD (residuesOf (ofRange part position decoy)) k 0 ≡ capital (getD part j 0))
+  range-letter false k h = (k, h, getD-take (length part) letters k 0 h ∙ held-in part some fits k h)
   range-letter true k h =
-      let m = mirror-in (length part) (window 64 0 part) some fits (held-length part some fits) k h in
-      (m .0, m .1, getD-take (length part) (mirror (length part) (window 64 0 part)) k 0 h ∙ m .2 ∙ held-in part some fits (m .0) (m .1))
+      let m = mirror-in (length part) letters some fits (held-length part some fits) k h in
+      (m .0, m .1, getD-take (length part) (mirror (length part) letters) k 0 h ∙ m .2 ∙ held-in part some fits (m .0) (m .1))
 
-  -- what no letter of the range passes, no letter of the peptide does
-  pub range-each : (p : ℕ → Bool) → ((k : ℕ) → k < length part → p (getD part k 0) ≡ false) → (decoy : Bool) (k : ℕ) → k < length part → p (getD (residuesOf (ofRange part position decoy)) k 0) ≡ false
-  range-each p h decoy k g = let m = range-letter decoy k g in ap p (m .2) ∙ h (m .0) (m .1)
+  -- what no letter of the range passes, no letter of the peptide does, where small letters pass as capitals do
+  pub range-each : (p : ℕ → Bool) → ((b : ℕ) → p (capital b) ≡ p b) → ((k : ℕ) → k < length part → p (getD part k 0) ≡ false) → (decoy : Bool) (k : ℕ) → k < length part → p (getD (residuesOf (ofRange part position decoy)) k 0) ≡ false
+  range-each p f h decoy k g = let m = range-letter decoy k g in ap p (m .2) ∙ f (getD part (m .0) 0) ∙ h (m .0) (m .1)
 
   no-ids : ZeroFrom (length part) (window 64 2 [])
   no-ids k h g = getD-take 64 (replicate 64 0) k 0 g ∙ getD-replicate 64 k 0 0 g
@@ -128,12 +140,12 @@ module _ (part : List ℕ) (some : 1 ≤ length part) (fits : length part ≤ 64
   range-clear h false = clear-of plain (held-length part some fits) refl (held-past part some fits) no-ids h
   range-clear h true =
       clear-of (reversedPeptide plain) (held-turned .len ∙ held-length part some fits) (turn (length part) (window 64 2 []) some fits refl .len)
-      (mirror-past (length part) (window 64 0 part) some fits (held-length part some fits) (held-past part some fits))
+      (mirror-past (length part) letters some fits (held-length part some fits) (held-past part some fits))
       (mirror-past (length part) (window 64 2 []) some fits refl no-ids) h
 
   pub range-passes : position ≤ 3 → ((k : ℕ) → k < length part → noLetter part k ≡ false) → (decoy : Bool) → testedPeptide (ofRange part position decoy) ≡ Tested.Passed
-  range-passes h l false = passes-of plain some fits (range-length false) (range-each (λ (b : ℕ). not (isLetter b)) l false) (range-clear h false)
-  range-passes h l true = passes-of (reversedPeptide plain) some fits (range-length true) (range-each (λ (b : ℕ). not (isLetter b)) l true) (range-clear h true)
+  range-passes h l false = passes-of plain some fits (range-length false) (range-each (λ (b : ℕ). not (isLetter b)) (λ b. ap not (letter-capital b)) l false) (range-clear h false)
+  range-passes h l true = passes-of (reversedPeptide plain) some fits (range-length true) (range-each (λ (b : ℕ). not (isLetter b)) (λ b. ap not (letter-capital b)) l true) (range-clear h true)
 
   module _ (masses : List Float) (whole : length masses ≡ 26) where
     pub range-weighed : ((k : ℕ) → k < length part → noMass masses (getD part k 0) ≡ false) → (decoy : Bool) → Tested.Passed ≡ testedLetters (residuesOf (ofRange part position decoy)) masses
@@ -141,7 +153,7 @@ module _ (part : List ℕ) (some : 1 ≤ length part) (fits : length part ≤ 64
     range-weighed h decoy =
         let q : List ℕ = residuesOf (ofRange part position decoy) in
         let l : length q ≡ length part = range-length decoy in
-        let low = none-found (noMassAt masses q) (length q) (λ k g. range-each (noMass masses) h decoy k (omega arith)) in
+        let low = none-found (noMassAt masses q) (length q) (λ k g. range-each (noMass masses) (no-mass-capital masses) h decoy k (omega arith)) in
         let sized : wrongSize (length q) ≡ false = rw (ne-eqb (length q) 0 (λ x. omega arith), le-ltb 64 (length q) (omega arith)) in
         letters-passed q masses sized whole (firstNoMass masses q) refl low
 

@@ -9,6 +9,7 @@ use lib.Dec.{leb, eqb}
 use native.Mathlib.Nat.{zero-add}
 use borrow.Author.Tests.{leb-true, le-leb, lt-leb, ltb-false, eqb-true, eqb-false, eq-eqb, ne-eqb, not-false, not-true}
 use Rattle.peptide_listing.specs.FormTests.{testedLists}
+use Rattle.letters.specs.Letters.{capitals}
 use Rattle.lists.specs.InLaws.{keep-alike, map-alike}
 use Rattle.lists.specs.Tests.{both}
 use Rattle.lists.specs.Lists.{upFrom, keep, bit, count}
@@ -36,7 +37,7 @@ use Rattle.peptide.specs.Forms.{bare, chosen, choices, formOf, formsOf}
 -- ---- the forms by numbers
 
 abbrev pub packedSites : Peptide → List ℕ → List ℕ
-packedSites p rules = allSites (p .letters) (p .len) (p .position) rules
+packedSites p rules = allSites (capitals (p .letters)) (p .len) (p .position) rules
 
 unfoldable pub packedForms : Peptide → List ℕ → List ℕ → ℕ → ℕ → List (List ℕ)
 packedForms p variable fixed limit cap =
@@ -102,7 +103,7 @@ residues r hit j (suc c) h = go (hit (suc (suc j))) (residues r hit (suc j) c (o
     go false e = e
 
 -- of one rule: the slots of both ends, then those of the residues
-rule-sites : (p : Peptide) (r kind letter : ℕ) → p .len ≤ 64 → map (ruleSite r) (keep (hits p kind letter) (upFrom 0 (p .len + 2))) ≡ map unpack (slotNumbers (p .letters) (p .len) kind (p .position) letter (r * 128))
+rule-sites : (p : Peptide) (r kind letter : ℕ) → p .len ≤ 64 → map (ruleSite r) (keep (hits p kind letter) (upFrom 0 (p .len + 2))) ≡ map unpack (slotNumbers (capitals (p .letters)) (p .len) kind (p .position) letter (r * 128))
 unfolding slotNumbers placesOf ifHit
 rule-sites p r kind letter h =
     ap (λ (n : ℕ). map (ruleSite r) (keep (hits p kind letter) (upFrom 0 n))) (let e : p .len + 2 ≡ suc (suc (p .len)) = omega arith in e)
@@ -132,7 +133,7 @@ rule-sites p r kind letter h =
     go false c e = second c e
 
 sites-from : (p : Peptide) (rules : List ℕ) → p .len ≤ 64 → Kinds rules → (r k : ℕ) → r + k ≤ length rules / 8
-    → flatten (map (λ (i : ℕ). map (ruleSite i) (slotsOf p (ruleAt rules i))) (upFrom r k)) ≡ map unpack (sitesFrom (p .letters) (p .len) (p .position) rules r k)
+    → flatten (map (λ (i : ℕ). map (ruleSite i) (slotsOf p (ruleAt rules i))) (upFrom r k)) ≡ map unpack (sitesFrom (capitals (p .letters)) (p .len) (p .position) rules r k)
 unfolding sitesFrom flatten
 sites-from p rules h good r zero l = refl
 sites-from p rules h good r (suc k) l =
@@ -140,7 +141,7 @@ sites-from p rules h good r (suc k) l =
     (ap₂ (λ (kind letter : ℕ). map (ruleSite r) (keep (hits p kind letter) (upFrom 0 (p .len + 2)))) (kind-back (kindAt rules r) (letterAt rules r) (good r (omega arith))) (letter-back (kindAt rules r) (letterAt rules r))
     ∙ rule-sites p r (kindAt rules r) (letterAt rules r) h)
     (sites-from p rules h good (suc r) k (omega arith))
-    ∙ sym (map-append unpack (slotNumbers (p .letters) (p .len) (kindAt rules r) (p .position) (letterAt rules r) (r * 128)) (sitesFrom (p .letters) (p .len) (p .position) rules (suc r) k))
+    ∙ sym (map-append unpack (slotNumbers (capitals (p .letters)) (p .len) (kindAt rules r) (p .position) (letterAt rules r) (r * 128)) (sitesFrom (capitals (p .letters)) (p .len) (p .position) rules (suc r) k))
 
 sites-packed : (p : Peptide) (rules : List ℕ) → p .len ≤ 64 → Kinds rules → ruleSites p rules ≡ map unpack (packedSites p rules)
 unfolding ruleSites allSites

@@ -1,6 +1,7 @@
 -- Document 01: "A peptide is a struct that holds its letters and ids in arrays of 64, places past the length 0 (else 9, place
 -- 0, after its letters)." "`Peptide::reverse` does so for letters and residue ids, terminals stay, and the decoy flag flips
--- each time."
+-- each time." Document 02, [2]: "Small letters now read as capitals everywhere": a peptide that is made has capitals; reversal moves
+-- letters and makes none.
 use Prim.Native.Nat.{ℕ}
 use mathlib.Core.Bool.{Bool, false, cond, not, _&&_}
 use mathlib.Core.List.{List, []}
@@ -9,7 +10,7 @@ use lib.Dec.{leb, ltb}
 use Rattle.records.specs.declared.refusal.Refusal.the-variants.{Size, Letter, Field}
 use Rattle.records.specs.declared.refusal.Tested.{Tested}
 use Rattle.records.specs.Tested.{andThen}
-use Rattle.letters.specs.Letters.{firstBad}
+use Rattle.letters.specs.Letters.{capitals, firstBad}
 use Rattle.peptide_slots.specs.Mirror.{mirror, allZero}
 use Rattle.peptide_slots.specs.Windows.{window}
 use Rattle.peptide_mass.specs.Masses.{wrongSize}
@@ -50,7 +51,7 @@ madeOr (Tested.Refused why) new other = record { tested = Tested.Refused why; pe
 abbrev pub peptideFrom : List ℕ → List ℕ → ℕ → Bool → Peptide
 peptideFrom letters form position decoy =
     record {
-      letters = window 64 0 letters;
+      letters = capitals (window 64 0 letters);
       ids = window 64 2 form;
       nterm = getD form 0 0;
       cterm = getD form 1 0;

@@ -7,6 +7,7 @@ use mathlib.Core.List.{List, [], _∷_, map, flatten}
 use lib.ListN.{length, getD}
 use lib.Dec.{leb, eqb}
 use Rattle.lists.specs.Lists.{count, upFrom, keep}
+use Rattle.letters.specs.Letters.{capitals}
 use Rattle.modification_rules.specs.declared.rule.Rule.{Rule}
 use Rattle.modification_kinds.specs.Specificities.{kindOf, letterOf}
 use Rattle.modification_rules.specs.Rules.{ruleAt}
@@ -21,11 +22,11 @@ pub record Site : Type 0 where
 abbrev pub ruleSite : ℕ → ℕ → Site
 ruleSite rule slot = record { rule = rule; slot = slot }
 
--- a rule of a kind without a letter hits the slot of an end, one with a letter those of residues
+-- a rule of a kind without a letter hits the slot of an end, one with a letter those of residues, whose letters read as capitals
 abbrev pub hits : Peptide → ℕ → ℕ → ℕ → Bool
 hits p kind letter zero = eqb letter 0 && atFirst kind (p .position)
 hits p kind letter (suc zero) = eqb letter 0 && atLast kind (p .position)
-hits p kind letter (suc (suc k)) = hitsAt kind (p .position) letter (p .len) k (getD (p .letters) k 0)
+hits p kind letter (suc (suc k)) = hitsAt kind (p .position) letter (p .len) k (getD (capitals (p .letters)) k 0)
 
 -- the slots that a rule hits, ascending
 abbrev pub slotsOf : Peptide → Rule → List ℕ

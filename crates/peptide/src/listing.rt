@@ -19,7 +19,8 @@ fn run(p: Peptide, variable: &[u8], fixed: &[u8], limit: u32, cap: u32, out: &mu
     ensures { λ r. ⌜ outcome r (now (out .exit) ∷ []) ≡ counted 66 mostForms (now (out .entry)) (packedForms p (now (variable .entry)) (now (fixed .entry)) limit cap) ⌝ }
 {
     let n = p.len as usize;
-    let letters = p.letters;
+    let held = p.letters;
+    let letters = peptide_slots::raised(held);
     let ids = p.ids;
     let position = p.position;
     let table = peptide_listing::fixed_table(letters, n, position, fixed);

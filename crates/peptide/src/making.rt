@@ -28,12 +28,12 @@ pub struct Made {
     pub peptide: Peptide,
 }
 
-// The peptide of some letters with the ids of a form, its contents untested.
+// The peptide of some letters, as capitals, with the ids of a form, its contents untested.
 pub(crate) fn given(letters: &[u8], form: &[u8], position: u8, decoy: bool) -> Peptide
     requires { ⌜ length (now letters) ≤ 64 ⌝ }
     ensures { λ r. ⌜ r ≡ peptideFrom (now (letters .entry)) (now (form .entry)) position decoy ⌝ }
 {
-    let held = peptide_slots::window(letters, 0);
+    let held = peptide_slots::raised(peptide_slots::window(letters, 0));
     let ids = peptide_slots::window(form, 2);
     let nterm = records::byte_at(form, 0);
     let cterm = records::byte_at(form, 1);

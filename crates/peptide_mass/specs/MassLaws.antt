@@ -19,8 +19,8 @@ use Rattle.records.specs.declared.refusal.Refusal.the-variants.{Size, Letter, L
 use Rattle.records.specs.declared.refusal.Tested.{Tested}
 use Rattle.records.specs.SearchLaws.{seek-before}
 use Rattle.records.specs.TestedLaws.{passed-both, passed-first}
-use Rattle.letters.specs.Letters.{isLetter}
-use Rattle.letters.specs.LetterLaws.{letter-from, letter-to}
+use Rattle.letters.specs.Letters.{capital, isLetter}
+use Rattle.letters.specs.CapitalLaws.{capital-twice, letter-from, letter-to, letter-capital}
 
 pub size-fits : (n : ℕ) → wrongSize n ≡ false → n ≤ 64
 size-fits n h = ltb-false 64 n (neither (eqb n 0) (ltb 64 n) h .1)
@@ -36,6 +36,11 @@ mass-of-other masses b e = rw e
 pub has-mass-letter : (masses : List Float) (b : ℕ) → noMass masses b ≡ false → isLetter b ≡ true
 unfolding noMass
 has-mass-letter masses b e = not-false (isLetter b) (neither (not (isLetter b)) (eq (massOf masses b) (fin false 0 (pos 0))) e .0)
+
+-- a small letter has the mass of its capital
+pub no-mass-capital : (masses : List Float) (b : ℕ) → noMass masses (capital b) ≡ noMass masses b
+unfolding noMass
+no-mass-capital masses b = rw (letter-capital b, capital-twice b)
 
 -- the test at a place
 abbrev pub noMassAt : List Float → List ℕ → ℕ → Bool
@@ -66,7 +71,7 @@ module _ (letters : List ℕ) (masses : List Float) where
   pub record Weighable : Type 0 where
     pub few : length letters ≤ 64
     pub whole : length masses ≡ 26
-    pub good : (i : ℕ) → i < length letters → (65 ≤ getD letters i 0) × (getD letters i 0 ≤ 90)
+    pub good : (i : ℕ) → i < length letters → (65 ≤ capital (getD letters i 0)) × (capital (getD letters i 0) ≤ 90)
 
   pub passed-weighable : testedLetters letters masses ≡ Tested.Passed → Weighable
   unfolding testedLetters firstNoMass
@@ -79,7 +84,7 @@ module _ (letters : List ℕ) (masses : List Float) where
       let c = passed-first (ltb bad (length letters)) (Letter bad) Tested.Passed (b .1) in
       record { few = size-fits (length letters) (a .0); whole = eqb-true (length masses) 26 (not-false (eqb (length masses) 26) (b .0)); good = good-at (ltb-false bad (length letters) (c .0)) }
     where
-      good-at : length letters ≤ firstNoMass masses letters → (i : ℕ) → i < length letters → (65 ≤ getD letters i 0) × (getD letters i 0 ≤ 90)
+      good-at : length letters ≤ firstNoMass masses letters → (i : ℕ) → i < length letters → (65 ≤ capital (getD letters i 0)) × (capital (getD letters i 0) ≤ 90)
       good-at l i g =
           let e : isLetter (getD letters i 0) ≡ true = has-mass-letter masses (getD letters i 0) (seek-before (noMassAt masses letters) 0 (length letters) i (omega arith) (omega arith)) in
           (letter-from (getD letters i 0) e, letter-to (getD letters i 0) e)

@@ -1,5 +1,6 @@
 -- Document 01: "Base mass: water, then each residue's mass, added left to right in f32, one rounding for each addition." Of the
--- letters 2 is said "in a peptide also [of] a letter of mass zero": minus zero counts, not-a-number does not.
+-- letters 2 is said "in a peptide also [of] a letter of mass zero": minus zero counts, not-a-number does not. Document 02, [2]: "the
+-- zero-mass test reads the capital's entry".
 use Prim.Native.Nat.{ℕ, _-_}
 use mathlib.Core.Bool.{Bool, false, cond, not, _||_}
 use mathlib.Core.List.{List, [], _∷_}
@@ -11,12 +12,12 @@ use Rattle.peptide_mass.specs.declared.mass.Weighed.{Weighed}
 use Rattle.records.specs.declared.refusal.Refusal.the-variants.{Size, Letter, Length, Field}
 use Rattle.records.specs.declared.refusal.Tested.{Tested}
 use Rattle.records.specs.Search.{seek}
-use Rattle.letters.specs.Letters.{isLetter}
+use Rattle.letters.specs.Letters.{capital, isLetter}
 use Rattle.records.specs.Tested.{andThen}
 
--- the mass of a letter, of the 26 from A on
+-- the mass of a letter, of the 26 from A on: that of its capital
 abbrev pub massOf : List Float → ℕ → Float
-massOf masses b = getD masses (b - 65) nan
+massOf masses b = getD masses (capital b - 65) nan
 
 -- the sum so far, and the letters still to come
 unfoldable pub addAll : List Float → Float → List ℕ → Float
@@ -31,7 +32,7 @@ wrongSize n = eqb n 0 || ltb 64 n
 
 -- a byte that is no letter, or a letter of mass zero
 unfoldable pub noMass : List Float → ℕ → Bool
-unfolding isLetter
+unfolding isLetter capital
 noMass masses b = not (isLetter b) || eq (massOf masses b) (fin false 0 (pos 0))
 
 -- the index of the first such byte, or the length

@@ -5,7 +5,7 @@ ghost use mathlib.Core.Path.{_≡_};
 ghost use Prim.Native.Nat.{ℕ, _≤_, _<_};
 ghost use lib.ListN.{length, getD};
 ghost use Rattle.peptide_mass.specs.Masses.{noMass, firstNoMass, addAll, testedLetters, testedPart, weighed};
-ghost use Rattle.letters.specs.Letters.{isLetter};
+ghost use Rattle.letters.specs.Letters.{capital, isLetter};
 
 pub enum Weighed {
     Mass(f32),
@@ -18,7 +18,7 @@ pub fn has_no_mass(masses: &[f32], b: u8) -> bool
     ensures { λ r. ⌜ r ≡ noMass (now (masses .entry)) b ⌝ }
 {
     if letters::is_letter(b) {
-        let k = (b - 65) as usize;
+        let k = (letters::capital(b) - 65) as usize;
         return masses[k] == 0.0;
     }
     true
@@ -74,13 +74,13 @@ pub fn test_part(part: &[u8], masses: &[f32], position: u8) -> Tested
 // Water, then each letter's mass, added left to right in f32.
 fn sum(letters: &[u8], masses: &[f32], water: f32) -> f32
     requires { ⌜ length (now masses) ≡ 26 ⌝ }
-    requires { ⌜ ((i : ℕ) → i < length (now letters) → (65 ≤ getD (now letters) i 0) × (getD (now letters) i 0 ≤ 90)) ⌝ }
+    requires { ⌜ ((i : ℕ) → i < length (now letters) → (65 ≤ capital (getD (now letters) i 0)) × (capital (getD (now letters) i 0) ≤ 90)) ⌝ }
     ensures { λ r. ⌜ r ≡ addAll (now (masses .entry)) water (now (letters .entry)) ⌝ }
 {
     let mut mass = water;
     let mut i = 0;
     while i < letters.len() {
-        let k = (letters[i] - 65) as usize;
+        let k = (letters::capital(letters[i]) - 65) as usize;
         mass = mass + masses[k];
         i += 1;
     }

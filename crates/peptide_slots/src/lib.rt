@@ -17,4 +17,5 @@ pub use mirror::zero_from;
 pub use sites::collect;
 pub use sites::collect_used;
 pub use sites::site_at;
+pub use windows::raised;
 pub use windows::window;

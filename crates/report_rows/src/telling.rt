@@ -155,12 +155,7 @@ pub(crate) fn tell(text: &[u8]) {
     let end = line_end(text, 0);
     let tag = &text[0..end];
     let s = &text[end..];
-    if report_rows_print::refuses(
-        s,
-        Sought::BadPeptide,
-        2,
-        b"a peptide that is not letters A to Z",
-    ) {
+    if report_rows_print::refuses(s, Sought::BadPeptide, 2, b"a peptide that is not letters") {
         return;
     }
     if report_rows_print::refuses(s, Sought::LongName, 12, b"a name of more than 64 bytes") {

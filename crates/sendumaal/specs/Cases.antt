@@ -10,7 +10,7 @@ use Rattle.lists.specs.Lists.{keep}
 use Rattle.records.specs.Cases.{Case, Hold}
 use Rattle.records.specs.CaseLaws.{Table, holding, allOf}
 use Rattle.records.specs.Search.{seek}
-use Rattle.letters.specs.Letters.{isLetter, bitSet, has}
+use Rattle.letters.specs.Letters.{capital, isLetter, bitSet, has, inserted}
 use Rattle.catalogue_spec.specs.Names.{nameLength, zerosTo, namesTested}
 use Rattle.cover_spec.specs.Cover.{markForced, coverMarked, stays, pass, trimPasses, greatest, mark, choose, turn, turns, cover, listed, coverList}
 use Rattle.protein_groups_members.specs.Members.{Member}
@@ -54,6 +54,10 @@ whole-holds = refl
 asked : ℕ → ℕ → ℕ → Case
 asked set byte want = record { got = (cond (has (setOf set) byte) 1 0 ∷ []) ∷ []; want = (want ∷ []) ∷ [] }
 
+-- a set and a byte, and the set with it
+put : ℕ → ℕ → ℕ → Case
+put set byte want = record { got = (inserted (setOf set) byte .mask ∷ []) ∷ []; want = (want ∷ []) ∷ [] }
+
 sets : List Case
 sets =
     -- K and R: both, and neighbours of each
@@ -67,18 +71,34 @@ sets =
     -- bits above 25 are no letters: bit 26 is not the byte behind Z, bit 31 not the byte before a
     ∷ asked 67108864 91 0
     ∷ asked 2147483648 96 0
-    -- every bit: neither the bytes next to A and Z, nor a and z, nor bytes 32 before a letter, nor the first and the last byte
+    -- small letters read as capitals: k and r, and neighbours of each; a alone and z alone
+    ∷ asked 132096 107 1
+    ∷ asked 132096 114 1
+    ∷ asked 132096 106 0
+    ∷ asked 132096 115 0
+    ∷ asked 1 97 1
+    ∷ asked 33554432 122 1
+    -- every bit: none of the bytes next to A and Z or to a and z, nor A and a with the highest bit set, nor bytes 32 before a letter,
+    -- nor the first and the last byte
     ∷ asked 4294967295 64 0
     ∷ asked 4294967295 91 0
-    ∷ asked 4294967295 97 0
-    ∷ asked 4294967295 122 0
+    ∷ asked 4294967295 96 0
+    ∷ asked 4294967295 123 0
+    ∷ asked 4294967295 193 0
+    ∷ asked 4294967295 225 0
     ∷ asked 4294967295 33 0
     ∷ asked 4294967295 0 0
     ∷ asked 4294967295 255 0
+    -- insertion: k as K, and again; bytes that are no letters change nothing
+    ∷ put 131072 107 132096
+    ∷ put 132096 107 132096
+    ∷ put 132096 96 132096
+    ∷ put 132096 123 132096
+    ∷ put 132096 91 132096
     ∷ []
 
 sets-hold : Hold sets
-unfolding isLetter bitSet has asked sets
+unfolding isLetter capital bitSet has inserted asked put sets
 sets-hold = refl
 
 -- a name of these bytes

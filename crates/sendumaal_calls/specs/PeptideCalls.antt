@@ -12,6 +12,7 @@ use Rattle.enzyme_keep.specs.Digests.{positionIn}
 use Rattle.peptide_listing.specs.FormTests.{tooLarge}
 use Rattle.peptide.specs.declared.making.Peptide.{Peptide}
 use Rattle.records.specs.Tested.{andThen}
+use Rattle.letters.specs.Letters.{capitals}
 use Rattle.peptide_slots.specs.Windows.{window}
 use Rattle.peptide.specs.Peptides.{testedPeptide, reversedPeptide}
 use Rattle.peptide.specs.Digested.{weighedDigest}
@@ -64,12 +65,12 @@ digest-mass-only letters bytes masses water oldMass oldPosition n m p q i j x y 
     let g = equal-only (digestWeight n p x i) (digestWeight m q y j) (digestMassCall letters bytes masses water oldMass oldPosition) e f in
     (ap (λ (w : DigestWeight). w .number) g, ap (λ (w : DigestWeight). w .place) g, ap (λ (w : DigestWeight). w .mass) g, ap (λ (w : DigestWeight). w .position) g)
 
--- ---- a peptide of 1 to 64 lent letters and their ids
+-- ---- a peptide of 1 to 64 lent letters, as capitals, and their ids
 
 abbrev pub peptideOf : List ℕ → List ℕ → ℕ → ℕ → ℕ → Bool → Peptide
 peptideOf letters ids nterm cterm position decoy =
     record {
-      letters = window 64 0 letters;
+      letters = capitals (window 64 0 letters);
       ids = window 64 0 ids;
       nterm = nterm;
       cterm = cterm;

@@ -10,7 +10,7 @@ ghost use Rattle.records.specs.declared.refusal.Tested.the-variants.{Passed};
 ghost use Rattle.peptide.specs.Peptides.{testedPeptide, reversedPeptide};
 ghost use Rattle.sendumaal_calls.specs.PeptideCalls.{peptideOf, testedLengths, turning, testedTurn, testedReverse, otherFlag};
 
-// The peptide of lent letters and ids, its contents untested.
+// The peptide of lent letters, as capitals, and ids, its contents untested.
 pub fn peptide_of(
     letters: &[u8],
     ids: &[u8],
@@ -22,7 +22,7 @@ pub fn peptide_of(
     requires { ⌜ length (now letters) ≤ 64 ⌝ }
     ensures { λ r. ⌜ r ≡ peptideOf (now (letters .entry)) (now (ids .entry)) nterm cterm position decoy ⌝ }
 {
-    let held = peptide_slots::window(letters, 0);
+    let held = peptide_slots::raised(peptide_slots::window(letters, 0));
     let worn = peptide_slots::window(ids, 0);
     let len = letters.len() as u8;
     Peptide {

@@ -9,7 +9,8 @@ returns : tie.Need-returns
 returns c = rw (c .specificity-of .ensures, eq-eqb _ _ (c .before .if1 .taken))
 
 returns-2 : tie.Need-returns-2
-returns-2 c = rw (ne-eqb _ _ (c .before .before .before .before .if1 .left), ← c .before .before .before .byte-at .ensures, ← c .before .before .contains .ensures, c .before .if2 .taken) (cc)
+returns-2 c =
+    rw (ne-eqb _ _ (c .before .before .before .before .before .if1 .left), ← c .before .before .before .before .byte-at .ensures, ← c .before .before .before .contains .ensures, c .before .before .if2 .taken, ← c .before .capital .ensures) (cc)
 
 returns-3 : tie.Need-returns-3
 returns-3 c = rw (ne-eqb _ _ (c .before .before .before .if1 .left), ← c .before .before .byte-at .ensures, ← c .before .contains .ensures, c .if2 .left) refl
@@ -17,4 +18,4 @@ returns-3 c = rw (ne-eqb _ _ (c .before .before .before .if1 .left), ← c .befo
 pub parse-letter-spec : {M : Type 1} → statement M
 parse-letter-spec =
     tie.close (tie.spec (λ c κs. search needs) returns (λ c κs. search needs) (λ c κs. search needs)
-    (λ c κs. search needs) returns-2 returns-3)
+    (λ c κs. search needs) (λ c κs. search needs) returns-2 returns-3)

@@ -24,18 +24,20 @@ part-list-all-end c =
 
 returns : tie.Need-returns
 returns c =
-    let a = c .before .before .before .before .before .before .before .before .before .before .before .before .before .before .before .before .before .args in
+    let s = c .before .before .before .before .before .before .before .before .before .before .before .before .before .before .before .before .before .before in
+    let a = s .args in
     let k = c .before .before .before .before .before .before .before .collect-used in
-    let table = c .before .before .before .before .before .before .before .before .before .before .fixed-table .result .slots in
+    let read = c .before .before .before .before .before .before .before .before .before .before .before .before .raised .ensures in
+    let table = c .before .before .before .before .before .before .before .before .before .before .fixed-table in
     let sites = take (k .result - 0) (k .last .1 .1 .1 .1 .0) in
-    let n : length (a .p .ids) ≡ 64 = search (needs, c .before .before .before .before .before .before .before .before .before .before .before .before .before .before .before .before .before .good .0) in
-    let e : sites ≡ used (now (a .variable)) (packedSites (a .p) (now (a .variable))) = ap (λ (z : ℕ). take z (k .last .1 .1 .1 .1 .0)) (sub-zero (k .result)) ∙ k .ensures .1 in
+    let n : length (a .p .ids) ≡ 64 = search (needs, s .good .0) in
+    let e : sites ≡ used (now (a .variable)) (packedSites (a .p) (now (a .variable))) = ap (λ (z : ℕ). take z (k .last .1 .1 .1 .1 .0)) (sub-zero (k .result)) ∙ rw read at (k .ensures .1) in
     c .before .before .list-all .ensures
-    ∙ ap (λ (z : List ℕ). counted 66 mostForms (now (a .out)) (map (quick z table sites (now (a .variable))) (packedChoices sites (now (a .variable)) (a .limit) (a .cap)))) (c .before .before .before .before .before .before .before .before .before .bare .ensures)
-    ∙ ap (counted 66 mostForms (now (a .out))) (by-table (a .p) (now (a .variable)) (now (a .fixed)) sites table (a .limit) (a .cap) n e (c .before .before .before .before .before .before .before .before .before .before .fixed-table .ensures))
+    ∙ ap (λ (z : List ℕ). counted 66 mostForms (now (a .out)) (map (quick z (table .result .slots) sites (now (a .variable))) (packedChoices sites (now (a .variable)) (a .limit) (a .cap)))) (c .before .before .before .before .before .before .before .before .before .bare .ensures)
+    ∙ ap (counted 66 mostForms (now (a .out))) (by-table (a .p) (now (a .variable)) (now (a .fixed)) sites (table .result .slots) (a .limit) (a .cap) n e (rw read at (table .ensures)))
 
 pub run-spec : {M : Type 1} → statement M
 run-spec =
-    tie.close (tie.spec (λ c. search needs) (λ c κs. search needs) (λ c κs. search needs) (λ c. search needs)
+    tie.close (tie.spec (λ c. search needs) (λ c κs. search needs) (λ c κs. search needs) (λ c κs. search needs) (λ c. search needs)
     (λ c κs. search needs) (λ c. search needs) (λ c. search needs) part-list-all-end (λ c κs. search needs)
     (λ c. search needs) returns)

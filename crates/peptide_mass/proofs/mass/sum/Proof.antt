@@ -4,6 +4,7 @@ use Prim.Native.Nat.{_-_, _≤_}
 use mathlib.Core.Path.{_≡_, refl, sym, _∙_}
 use native.Mathlib.Omega.{arith}
 use denote.Ref.{now}
+use borrow.Author.Needs.{needs}
 use lib.ListN.{length, drop}
 use Rattle.peptide_mass.specs.Masses.{addAll}
 use Rattle.peptide_mass.specs.MassLaws.{add-on, add-end}
@@ -19,31 +20,26 @@ abbrev μ-loop : tie.MeasureT-loop
 loop-holds : tie.Need-loop-holds Inv-loop μ-loop
 loop-holds c = (omega arith, refl)
 
-sub-k : tie.Need-sub-k Inv-loop μ-loop
-sub-k c = omega (arith, c .before .before .before .pre .1 (c .before .before .loop .i) (c .before .loop-test .taken))
-
-cast-k : tie.Need-cast-k Inv-loop μ-loop
-cast-k c = omega (arith, c .shared-slice-known .given (c .before .before .loop .i))
-
-mul-mass : tie.Need-mul-mass Inv-loop μ-loop
-mul-mass c = omega (arith, c .shared-slice-known .given (c .before .before .loop .i))
+-- the letter's place among the masses
+near : (c : tie.After-capital Inv-loop μ-loop) → (65 ≤ c .capital .result) × (c .capital .result ≤ 90)
+near c = rw (c .capital .ensures) (c .before .before .before .before .before .before .pre .1 (c .before .before .before .loop .i) (c .before .before .loop-test .taken))
 
 shared-slice-read-mass : tie.Need-shared-slice-read-mass Inv-loop μ-loop
-shared-slice-read-mass c = omega (arith, c .before .before .before .before .pre .1 (c .before .before .before .loop .i) (c .before .before .loop-test .taken))
+shared-slice-read-mass c = omega (arith, near (c .before) .0, near (c .before) .1, c .before .before .before .before .before .before .before .pre .0)
 
 loop-again : tie.Need-loop-again Inv-loop μ-loop
 loop-again c =
-    let a = c .before .before .before .before .args in
-    let l = c .before .before .before .loop in
-    (omega arith, add-on (now (a .masses)) (l .mass) (now (a .letters)) (l .i) (c .before .before .loop-test .taken) ∙ l .inv .1)
+    let a = c .before .before .before .before .before .before .before .args in
+    let l = c .before .before .before .before .loop in
+    (omega arith, rw (c .before .capital .ensures) (add-on (now (a .masses)) (l .mass) (now (a .letters)) (l .i) (c .before .before .before .loop-test .taken)) ∙ l .inv .1)
 
 returns : tie.Need-returns Inv-loop μ-loop
 returns c =
-    let a = c .before .before .args in
+    let a = c .before .before .before .before .args in
     let l = c .before .loop in
     sym (add-end (now (a .masses)) (l .mass) (now (a .letters)) (l .i) (c .loop-test .left)) ∙ l .inv .1
 
 pub sum-spec : {M : Type 1} → statement M
 sum-spec =
-    tie.close (tie.spec Inv-loop μ-loop loop-holds (λ c. omega arith) sub-k cast-k mul-mass shared-slice-read-mass
-    (λ c. omega arith) (λ c. omega arith) loop-again returns)
+    tie.close (tie.spec Inv-loop μ-loop loop-holds (λ c. omega arith) (λ c κs. search needs) (λ c. near c .0) (λ c. omega arith) (λ c. omega arith)
+    shared-slice-read-mass (λ c. omega arith) (λ c. omega arith) loop-again returns)

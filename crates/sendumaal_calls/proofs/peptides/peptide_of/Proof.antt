@@ -4,7 +4,7 @@ use Rattle.sendumaal_calls.proofs.peptides.peptide_of.Statement.{statem
 use Rattle.sendumaal_calls.proofs.peptides.peptide_of.Tie as tie
 
 returns : tie.Need-returns
-returns c = rw (c .before .window .ensures, c .window2 .ensures)
+returns c = rw (c .before .raised .ensures, c .before .before .window .ensures, c .window2 .ensures)
 
 pub peptide-of-spec : {M : Type 1} → statement M
-peptide-of-spec = tie.close (tie.spec (λ c κs. search needs) (λ c κs. search needs) (λ c. search needs) returns)
+peptide-of-spec = tie.close (tie.spec (λ c κs. search needs) (λ c κs. search needs) (λ c κs. search needs) (λ c. search needs) returns)
