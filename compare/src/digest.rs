@@ -11,10 +11,12 @@ use crate::answer::*;
 use crate::asked::Asked;
 use crate::calls;
 use crate::entry::{Against, Context, Tally};
+use crate::model::capitals;
 use crate::oracle::in_batches;
 use crate::rng::Rng;
 use crate::room;
 use crate::shown::common;
+use crate::small_letters::all_with_small;
 use cases::*;
 use model::{Call, DIGEST};
 use said::{ask_digests, ask_sites, read_digests, read_sites, Seen};
@@ -29,7 +31,8 @@ struct Outcome<'a> {
 }
 
 impl<'a> Outcome<'a> {
-    fn ours(call: &'a Call, out: &[u8]) -> Checked<Outcome<'a>> {
+    /// Digests are shown by the capitals of the call.
+    fn ours(call: &Call, capitals: &'a [u8], out: &[u8]) -> Checked<Outcome<'a>> {
         let Filled { answer, buffer } = calls::digest(call, out)?;
         let records = match answer {
             Ok(count) => count as usize,
@@ -38,7 +41,7 @@ impl<'a> Outcome<'a> {
         };
         let wrong = || Fault(format!("it wrote {records} records"));
         let (records, rest) = buffer.split_at_checked(records * DIGEST).ok_or_else(wrong)?;
-        Ok(Outcome { answer, digests: Seen::all(records, &call.letters)?, rest: rest.to_vec() })
+        Ok(Outcome { answer, digests: Seen::all(records, capitals)?, rest: rest.to_vec() })
     }
 
     /// That all of these stand in the buffer, or those that fit.
@@ -58,10 +61,15 @@ fn narrow<T: PartialEq>(ours: &mut Vec<T>, wanted: &mut Vec<T>) {
     }
 }
 
-/// Holds one call against the digests that the original has.
+/// Holds one call against the digests that the original has; the records are also those of ours with capitals, as ranges cannot
+/// be held against the original.
 fn hold(tally: &mut Tally, call: &Call, all: &[Seen<'_>], out: &[u8]) {
+    let capitals = Call { letters: capitals(&call.letters), ..call.clone() };
+    if *call != capitals && calls::digest(call, out) != calls::digest(&capitals, out) {
+        return tally.fail(&(call, out.len()), "other records than with capitals");
+    }
     let mut wanted = Outcome::wanted(all, out);
-    let mut ours = Outcome::ours(call, out);
+    let mut ours = Outcome::ours(call, &capitals.letters, out);
     if let Ok(ours) = &mut ours {
         narrow(&mut ours.digests, &mut wanted.digests);
         narrow(&mut ours.rest, &mut wanted.rest);
@@ -88,8 +96,8 @@ pub fn small_proteins(context: &Context) -> Tally {
     let mut tally = Tally::new("digest: all small proteins", Against::Rust);
     let rng = &mut context.rng("small proteins");
     let enzymes = small_enzymes(rng);
-    PROTEINS.hold_all(&mut tally, context, crossed(rng, &enzymes, &all_proteins(SMALL_LETTERS, 7)));
-    PROTEINS.hold_all(&mut tally, context, crossed(rng, &few_enzymes(), &all_proteins(SMALL_LETTERS, 9)));
+    PROTEINS.hold_all(&mut tally, context, crossed(rng, &enzymes, &all_proteins(FEW_LETTERS, 7)));
+    PROTEINS.hold_all(&mut tally, context, crossed(rng, &few_enzymes(), &all_proteins(FEW_LETTERS, 9)));
     tally
 }
 
@@ -126,11 +134,36 @@ pub fn hostile_proteins(context: &Context) -> Tally {
     tally
 }
 
+/// Small proteins in which letters stand both as capitals and small, and random ones.
+pub fn small_letters(context: &Context) -> Tally {
+    let mut tally = Tally::new("digest: small letters", Against::Rust);
+    let rng = &mut context.rng("digest, small letters");
+    let enzymes = small_enzymes(rng);
+    PROTEINS.hold_all(&mut tally, context, crossed(rng, &enzymes, &all_proteins(b"AaKp", 4)));
+    PROTEINS.hold_all(&mut tally, context, crossed(rng, &few_enzymes(), &all_proteins(b"AaKkPp", 5)));
+    let calls = all_with_small(context.rng("digest, letters made small"), random_calls(rng, 1500, 40));
+    PROTEINS.hold_all(&mut tally, context, calls);
+    tally
+}
+
+/// Long, repetitive and hostile proteins with small letters.
+pub fn long_small_letters(context: &Context) -> Tally {
+    let mut tally = Tally::new("digest: small letters, long", Against::Rust);
+    let rng = &mut context.rng("digest, long small letters");
+    let calls = [repetitive_calls(rng), long_calls(rng), hostile_calls(rng), greatest_calls(rng)].concat();
+    let rooms = &mut context.rng("digest, long small letters, rooms");
+    for call in all_with_small(context.rng("digest, long letters made small"), calls) {
+        PROTEINS.hold_in(&mut tally, context, rooms, [call]);
+    }
+    tally
+}
+
 /// Calls that the model is quick with.
 fn model_calls(rng: &mut Rng) -> Vec<Call> {
     let enzymes = small_enzymes(rng);
-    let mut calls: Vec<Call> = crossed(rng, &enzymes, &all_proteins(SMALL_LETTERS, 5)).collect();
+    let mut calls: Vec<Call> = crossed(rng, &enzymes, &all_proteins(FEW_LETTERS, 5)).collect();
     calls.extend(random_calls(rng, 3000, 20));
+    calls.extend(crossed(rng, &few_enzymes(), &all_proteins(b"AaKkP", 4)));
     calls
 }
 
@@ -165,7 +198,7 @@ pub fn model_digests(context: &Context) -> Tally {
         for (call, answer) in batch.iter().zip(ask_digests(&context.oracle, batch)) {
             let wanted = read_digests(&answer, call.protein);
             let filled = model::digest(call, &vec![0; wanted.len() * DIGEST]);
-            tally.case(call, &Seen::all(&filled.buffer, &call.letters), &wanted);
+            tally.case(call, &Seen::all(&filled.buffer, &capitals(&call.letters)), &wanted);
         }
     });
     tally

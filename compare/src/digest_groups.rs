@@ -14,6 +14,7 @@ use crate::oracle::panicked;
 use crate::rng::Rng;
 use crate::room;
 use crate::shown::{common, part};
+use crate::small_letters::{at_times_small, make_half_small, with_small};
 use cases::STABLE;
 use model::{filled, Call, Grouped, Lists, GROUP};
 use said::{ask, read, Read};
@@ -117,8 +118,16 @@ pub fn long_lists(context: &Context) -> Tally {
     CALLS.entry(context, "digest groups: long lists").drawn(10_000, cases::long)
 }
 
+pub fn small_letters(context: &Context) -> Tally {
+    let long = |rng: &mut Rng| with_small(rng, cases::long);
+    let short = |rng: &mut Rng| with_small(rng, cases::small);
+    let calls = |rng| with_larger(rng, 60_000, 30, long, short);
+    CALLS.entry(context, "digest groups: small letters").made(calls)
+}
+
 pub fn model_lists(context: &Context) -> Tally {
-    let calls = |rng| with_larger(rng, 60_000, 30, cases::long, cases::small);
+    let short = |rng: &mut Rng| at_times_small(rng, cases::small);
+    let calls = |rng| with_larger(rng, 60_000, 30, cases::long, short);
     CALLS.entry(context, "model: digest groups").model(calls, |tally, call, answer| {
         match lists_of(call, &answer) {
             Ok(read) => tally.case(call, &Ok(model::lists(call)), &read.lists),
@@ -127,12 +136,16 @@ pub fn model_lists(context: &Context) -> Tally {
     })
 }
 
-/// The greatest sizes, with room exact and one short.
+/// The greatest sizes, with room exact and one short, at last with small letters: the lists stay the same.
 pub fn greatest_lists(context: &Context) -> Tally {
     let mut tally = Tally::new("digest groups: the most", Against::Model);
-    let call = cases::most(&mut context.rng("digest groups, the most"));
+    let rng = &mut context.rng("digest groups, the most");
+    let mut call = cases::most(rng);
     let lists = model::lists(&call);
-    for (fewer_groups, fewer_proteins) in [(0, 0), (1, 0), (0, 1)] {
+    for (fewer_groups, fewer_proteins, small) in [(0, 0, false), (1, 0, false), (0, 1, true)] {
+        if small {
+            make_half_small(rng, &mut call.letters);
+        }
         let groups = vec![0xee; (lists.groups.len() - fewer_groups) * GROUP];
         let proteins = vec![7; lists.proteins.len() - fewer_proteins];
         hold(&mut tally, &call, &groups, &proteins, &filled(&lists, &groups, &proteins));

@@ -3,12 +3,15 @@ pub mod cases;
 pub mod model;
 
 use crate::answer::*;
+use crate::asked::drawn;
 use crate::calls::peptides as calls;
 use crate::entry::{Against, Context, Tally};
 use crate::masses::{as_number, ask};
-use crate::refusals::{spoil, Turns};
+use crate::refusals::{spoil, Spoil, Turns};
 use crate::reversal::cases::Shown;
 use crate::reversal::model::letters_of;
+use crate::rng::Rng;
+use crate::small_letters::with_small;
 use cases::*;
 use model::Call;
 
@@ -28,10 +31,8 @@ fn hold_to_model(tally: &mut Tally, call: &Call) {
 }
 
 /// The original weighs the letters of each record, a decoy's in their own order.
-pub fn of_the_rust(context: &Context) -> Tally {
-    let mut tally = Tally::new("digest masses: the original's", Against::Rust);
-    let rng = &mut context.rng("digest masses, the original's");
-    let calls: Vec<Call> = (0..60_000).map(|_| cases::of_the_rust(rng)).collect();
+fn hold_to_rust(mut tally: Tally, context: &Context, calls: impl Iterator<Item = Call>) -> Tally {
+    let calls: Vec<Call> = calls.collect();
     let spelled = |call: &Call| letters_of(&call.letters, &call.record).expect("a good record");
     let texts: Vec<Vec<u8>> = calls.iter().map(spelled).collect();
     for (call, said) in calls.iter().zip(ask(&context.oracle, &texts)) {
@@ -41,14 +42,33 @@ pub fn of_the_rust(context: &Context) -> Tally {
     tally
 }
 
+pub fn of_the_rust(context: &Context) -> Tally {
+    let calls = drawn(context.rng("digest masses, the original's"), 60_000, cases::of_the_rust);
+    hold_to_rust(Tally::new("digest masses: the original's", Against::Rust), context, calls)
+}
+
+pub fn small_letters(context: &Context) -> Tally {
+    let draw = |rng: &mut Rng| with_small(rng, cases::of_the_rust);
+    let calls = drawn(context.rng("digest masses, small letters"), 30_000, draw);
+    hold_to_rust(Tally::new("digest masses: small letters", Against::Rust), context, calls)
+}
+
+fn hold_spoiled(tally: &mut Tally, rng: &mut Rng, reasons: &[Spoil<Call>], _: bool) {
+    let mut call = good(rng);
+    spoil(rng, &mut call, reasons);
+    hold_to_model(tally, &call);
+}
+
 /// Every refusal, alone and with each other.
 pub fn single_reasons(context: &Context) -> Tally {
     let turns = Turns::new(context, "digest masses: every reason", "digest masses, every reason", 80_000);
-    turns.every_choice(&SPOILS, |tally, rng, reasons, _| {
-        let mut call = good(rng);
-        spoil(rng, &mut call, reasons);
-        hold_to_model(tally, &call);
-    })
+    turns.every_choice(&SPOILS, hold_spoiled)
+}
+
+pub fn any_small_letters(context: &Context) -> Tally {
+    let stream = "digest masses, every reason, small letters";
+    let turns = Turns::new(context, "digest masses: small letters, any call", stream, 40_000);
+    turns.every_choice_small(&SPOILS, hold_spoiled)
 }
 
 pub fn any_call(context: &Context) -> Tally {

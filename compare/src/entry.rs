@@ -20,7 +20,8 @@ impl Context {
 /// A comparison of one function, or of a few that belong together.
 pub type Entry = fn(&Context) -> Tally;
 
-/// Who else answers the cases. The model is document 01 written in Rust anew, for what the original does not have.
+/// Who else answers the cases. The original is asked about letters as capitals; the model is document 01 written in Rust anew,
+/// for what the original does not have.
 #[derive(Clone, Copy)]
 pub enum Against {
     Rust,
@@ -106,7 +107,7 @@ impl Display for Tally {
     fn fmt(&self, f: &mut fmt::Formatter<'_>) -> fmt::Result {
         write!(
             f,
-            "{:32} {:5} {:>9} cases {:>7} differences",
+            "{:38} {:5} {:>9} cases {:>7} differences",
             self.name, self.against, self.cases, self.differences
         )?;
         for (place, (reason, count)) in self.intended.iter().enumerate() {

@@ -1,6 +1,7 @@
 //! The fields of a line, as the original and the gate read them.
 use crate::cover::model::Edge;
 use crate::digest_groups::model::{name, NAME};
+use crate::model::capitals;
 use crate::oracle::{hex, or_dash};
 use crate::protein_groups::model::Member;
 
@@ -35,4 +36,9 @@ pub fn text(bytes: &[u8]) -> &str {
 
 pub fn letters_field(letters: &[u8]) -> String {
     or_dash(text(letters).into())
+}
+
+/// Letters as the original is asked about them: "on the input with capitals" (document 02, [2]).
+pub fn capitals_field(letters: &[u8]) -> String {
+    letters_field(&capitals(letters))
 }

@@ -7,13 +7,14 @@ pub mod said;
 pub mod vectors;
 
 use crate::answer::*;
-use crate::asked::{drawn, Asked};
+use crate::asked::{drawn, with_larger, Asked};
 use crate::calls::peptides as calls;
 use crate::entry::{Against, Context, Tally};
 use crate::model::NO_LIMIT;
 use crate::rng::Rng;
 use crate::room;
 use crate::shown::common;
+use crate::small_letters::{at_times_small, with_small};
 use model::{listed, Call, Form, FORM, NO_CAP};
 use said::{ask, read};
 
@@ -66,8 +67,15 @@ pub fn long_peptides(context: &Context) -> Tally {
     PEPTIDES.entry(context, "forms: long peptides").drawn(8000, cases::long)
 }
 
+pub fn small_letters(context: &Context) -> Tally {
+    let long = |rng: &mut Rng| with_small(rng, cases::long);
+    let random = |rng: &mut Rng| with_small(rng, cases::random);
+    let calls = |rng| with_larger(rng, 80_000, 80, long, random);
+    PEPTIDES.entry(context, "forms: small letters").made(calls)
+}
+
 pub fn model_forms(context: &Context) -> Tally {
-    let calls = |rng| drawn(rng, 60_000, cases::random);
+    let calls = |rng| drawn(rng, 60_000, |rng| at_times_small(rng, cases::random));
     PEPTIDES.entry(context, "model: forms").model(calls, |tally, call, answer| {
         tally.case(call, &Ok(model::list(call)), &read(&answer));
     })

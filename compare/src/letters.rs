@@ -3,6 +3,7 @@ use crate::calls;
 use crate::entry::{Against, Context, Tally};
 use crate::model;
 use crate::rng::Rng;
+use crate::small_letters::make_small;
 
 /// Empty, full, each single letter, bits above 25, and random ones.
 pub fn sets(rng: &mut Rng, random: usize) -> Vec<u32> {
@@ -26,12 +27,16 @@ pub fn set_operations(context: &Context) -> Tally {
 }
 
 fn random_letters(rng: &mut Rng, count: usize) -> Vec<u8> {
-    (0..count).map(|_| b'A' + rng.below(26) as u8).collect()
+    let mut letters: Vec<u8> = (0..count).map(|_| b'A' + rng.below(26) as u8).collect();
+    if rng.once_in(2) {
+        make_small(rng, &mut letters);
+    }
+    letters
 }
 
-/// The bytes next to the letters, the ends of the range, and the bytes that a signed or a 7-bit comparison gets wrong.
-pub const NEAR_LETTERS: [u8; 14] =
-    [0, 1, b'@', b'[', b'`', b'a', b'z', b'{', 127, 128, b'A' | 128, b'Z' | 128, 254, 255];
+/// Bytes that are no letters: the ends of the range, those as far below A and Z as these are below a and z, those next to the
+/// letters, and those that a signed or a 7-bit comparison gets wrong.
+pub const NEAR_LETTERS: [u8; 16] = *b"\0\x01!:@[`{\x7f\x80\xc1\xda\xe1\xfa\xfe\xff";
 
 /// Good stretches, and ones with a bad byte at one place and bytes of all kinds behind it.
 fn stretches(rng: &mut Rng) -> Vec<Vec<u8>> {
@@ -62,15 +67,16 @@ pub fn first_bad_byte(context: &Context) -> Tally {
     tally
 }
 
-/// As many letters as a book may have, and one more, each without a bad byte, with one in front and with one at the end. A case is
-/// shown by its length and by where the bad byte stands.
+/// As many letters as a book may have, and one more, each without a bad byte, with one in front and with one at the end; every
+/// second letter is small. A case is shown by its length and by where the bad byte stands.
 pub fn longest(_: &Context) -> Tally {
     let mut tally = Tally::new("letters: the longest", Against::Model);
     for len in [model::MOST_BOOK, model::MOST_BOOK + 1] {
         for place in [None, Some(0), Some(len - 1)] {
-            let mut letters = vec![b'Q'; len];
+            let mut letters = b"Qq".repeat(len.div_ceil(2));
+            letters.truncate(len);
             if let Some(place) = place {
-                letters[place] = b'q';
+                letters[place] = b'{';
             }
             tally.case(&(len, place), &calls::letters_test(&letters), &model::letters_alone(&letters));
         }

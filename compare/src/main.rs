@@ -34,6 +34,7 @@ mod rule_records;
 mod rule_texts;
 mod sample;
 mod shown;
+mod small_letters;
 mod stack;
 mod table;
 mod update;
@@ -51,6 +52,7 @@ const SUBJECTS: &[(&str, &[Entry])] = &[
         "rule texts",
         &[
             rule_texts::parse,
+            rule_texts::small_letters,
             rule_texts::parse_alphabets,
             rule_texts::write,
             rule_texts::write_fields,
@@ -68,11 +70,14 @@ const SUBJECTS: &[(&str, &[Entry])] = &[
         "reversal",
         &[
             reversal::of_letters,
+            reversal::of_small_letters,
             reversal::of_records,
+            reversal::of_small_records,
             reversal::beyond_the_rust,
             reversal::any_letters,
             reversal::any_record,
             reversal::any_digest_letters,
+            reversal::any_small_letters,
             reversal::model_letters,
         ],
     ),
@@ -81,11 +86,14 @@ const SUBJECTS: &[(&str, &[Entry])] = &[
         &[
             digest::ranges,
             digest::refusals::any_call,
+            digest::refusals::any_small_letters,
+            digest::small_letters,
             digest::beyond::beyond_the_rust,
             digest::small_proteins,
             digest::random_proteins,
             digest::repetitive_proteins,
             digest::long_proteins,
+            digest::long_small_letters,
             digest::hostile_proteins,
             digest::model_sites,
             digest::model_digests,
@@ -95,8 +103,10 @@ const SUBJECTS: &[(&str, &[Entry])] = &[
         "masses",
         &[
             masses::any_call,
+            masses::any_small_letters,
             masses::rust_table,
             masses::any_table,
+            masses::small_letters,
             masses::beyond_the_rust,
             masses::model_sums,
         ],
@@ -106,16 +116,21 @@ const SUBJECTS: &[(&str, &[Entry])] = &[
         &[
             digest_masses::any_call,
             digest_masses::single_reasons,
+            digest_masses::any_small_letters,
             digest_masses::greatest,
             digest_masses::of_the_rust,
+            digest_masses::small_letters,
         ],
     ),
     (
         "peptides",
         &[
             peptides::any_test,
+            peptides::small_test,
             peptides::any_reversal,
+            peptides::any_small_letters,
             peptides::reversal,
+            peptides::small_letters,
             peptides::beyond_the_rust,
             peptides::model_reversal,
         ],
@@ -125,9 +140,11 @@ const SUBJECTS: &[(&str, &[Entry])] = &[
         &[
             forms::examples,
             forms::refusals::any_call,
+            forms::refusals::any_small_letters,
             forms::beyond::beyond_the_rust,
             forms::beyond::rules_without_use,
             forms::small_peptides,
+            forms::small_letters,
             forms::random_peptides,
             forms::long_peptides,
             forms::model_forms,
@@ -139,6 +156,8 @@ const SUBJECTS: &[(&str, &[Entry])] = &[
         &[
             digest_groups::refusals::single_reasons,
             digest_groups::refusals::any_call,
+            digest_groups::refusals::any_small_letters,
+            digest_groups::small_letters,
             digest_groups::small_lists,
             digest_groups::random_lists,
             digest_groups::long_lists,

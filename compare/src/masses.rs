@@ -6,10 +6,11 @@ pub mod vectors;
 use crate::answer::*;
 use crate::calls::peptides as calls;
 use crate::entry::{Against, Context, Tally};
-use crate::fields::letters_field;
+use crate::fields::capitals_field;
 use crate::oracle::Oracle;
 use crate::peptide_letters::{any_letter, any_letters, len, size_reason};
 use crate::rng::Rng;
+use crate::small_letters::{all_with_small, make_small, with_small};
 use cases::*;
 use std::fmt::Debug;
 
@@ -17,7 +18,7 @@ use std::fmt::Debug;
 pub type Said = Option<u32>;
 
 fn line(letters: &[u8]) -> String {
-    format!("MASS\t{}", letters_field(letters))
+    format!("MASS\t{}", capitals_field(letters))
 }
 
 fn read(answer: &str) -> Said {
@@ -56,26 +57,29 @@ fn hold(tally: &mut Tally, input: &dyn Debug, ours: Checked<Answer<u32>>, wanted
     }
 }
 
+fn hold_to_rust(tally: &mut Tally, context: &Context, texts: &[Vec<u8>]) {
+    let masses = rust_masses();
+    for (letters, said) in texts.iter().zip(ask(&context.oracle, texts)) {
+        let ours = calls::base_mass(letters, &masses, rust_water());
+        hold(tally, letters, ours, wanted(said, letters, &masses));
+    }
+}
+
 pub fn rust_table(context: &Context) -> Tally {
     let mut tally = Tally::new("masses: the original's", Against::Rust);
-    let texts = weighed_by_rust(&mut context.rng("masses, the original's"));
-    let masses = rust_masses();
-    for (letters, said) in texts.iter().zip(ask(&context.oracle, &texts)) {
-        let ours = calls::base_mass(letters, &masses, rust_water());
-        hold(&mut tally, letters, ours, wanted(said, letters, &masses));
-    }
+    hold_to_rust(&mut tally, context, &weighed_by_rust(&mut context.rng("masses, the original's")));
     tally
 }
 
 /// A table, letters to be weighed with it, and what the original says of these.
 type Weighed = (Vec<u32>, Vec<(Vec<u8>, Said)>);
 
-fn weighed(context: &Context, tables: usize) -> Vec<Weighed> {
+fn weighed(context: &Context, tables: usize, make: fn(&mut Rng) -> Vec<Vec<u8>>) -> Vec<Weighed> {
     let rng = &mut context.rng("masses, any table");
     let mut lines = Vec::new();
     let mut asked: Vec<(Vec<u32>, Vec<Vec<u8>>)> = Vec::new();
     for _ in 0..tables {
-        let (table, texts) = (table(rng), texts_for_table(rng));
+        let (table, texts) = (table(rng), make(rng));
         let bits: Vec<String> = table.iter().map(|mass| format!("{mass:08x}")).collect();
         lines.push(format!("SETMASS\t{}", bits.join(",")));
         lines.extend(texts.iter().map(|letters| line(letters)));
@@ -101,20 +105,41 @@ fn texts_for_table(rng: &mut Rng) -> Vec<Vec<u8>> {
     texts
 }
 
-pub fn any_table(context: &Context) -> Tally {
-    let mut tally = Tally::new("masses: any table", Against::Rust);
-    for (masses, texts) in weighed(context, 4000) {
+fn small_texts_for_table(rng: &mut Rng) -> Vec<Vec<u8>> {
+    let mut texts = texts_for_table(rng);
+    texts.iter_mut().for_each(|letters| make_small(rng, letters));
+    texts
+}
+
+fn hold_weighed(tally: &mut Tally, weighed: Vec<Weighed>) {
+    for (masses, texts) in weighed {
         for (letters, said) in texts {
             let ours = calls::base_mass(&letters, &masses, rust_water());
-            hold(&mut tally, &(&letters, &masses), ours, wanted(said, &letters, &masses));
+            hold(tally, &(&letters, &masses), ours, wanted(said, &letters, &masses));
         }
     }
+}
+
+pub fn any_table(context: &Context) -> Tally {
+    let mut tally = Tally::new("masses: any table", Against::Rust);
+    hold_weighed(&mut tally, weighed(context, 4000, texts_for_table));
+    tally
+}
+
+/// With the original's masses and with any.
+pub fn small_letters(context: &Context) -> Tally {
+    let mut tally = Tally::new("masses: small letters", Against::Rust);
+    let texts = weighed_by_rust(&mut context.rng("masses, small letters"));
+    let texts: Vec<_> = all_with_small(context.rng("masses, letters made small"), texts).collect();
+    hold_to_rust(&mut tally, context, &texts);
+    hold_weighed(&mut tally, weighed(context, 1000, small_texts_for_table));
     tally
 }
 
 pub fn model_sums(context: &Context) -> Tally {
     let mut tally = Tally::new("model: masses, sums", Against::Rust);
-    for (masses, texts) in weighed(context, 1000) {
+    let small = weighed(context, 300, small_texts_for_table);
+    for (masses, texts) in weighed(context, 1000, texts_for_table).into_iter().chain(small) {
         for (letters, said) in texts {
             let ours = model::base_mass(&letters, &masses, rust_water());
             hold(&mut tally, &(&letters, &masses), Ok(ours), wanted(said, &letters, &masses));
@@ -141,14 +166,29 @@ pub fn beyond_the_rust(context: &Context) -> Tally {
 }
 
 /// Any water, and every refusal.
+fn hold_any(tally: &mut Tally, rng: &mut Rng, letters: Vec<u8>) {
+    let (masses, water) = (cases::any_table(rng), water(rng));
+    let ours = calls::base_mass(&letters, &masses, water);
+    let wanted = model::base_mass(&letters, &masses, water);
+    hold(tally, &(&letters, &masses, water), ours, wanted);
+}
+
 pub fn any_call(context: &Context) -> Tally {
     let mut tally = Tally::new("masses: any call", Against::Model);
     let rng = &mut context.rng("calls of base mass");
     for _ in 0..150_000 {
-        let (letters, masses, water) = (any_letters(rng), cases::any_table(rng), water(rng));
-        let ours = calls::base_mass(&letters, &masses, water);
-        let wanted = model::base_mass(&letters, &masses, water);
-        hold(&mut tally, &(&letters, &masses, water), ours, wanted);
+        let letters = any_letters(rng);
+        hold_any(&mut tally, rng, letters);
+    }
+    tally
+}
+
+pub fn any_small_letters(context: &Context) -> Tally {
+    let mut tally = Tally::new("masses: small letters, any call", Against::Model);
+    let rng = &mut context.rng("calls of base mass, small letters");
+    for _ in 0..60_000 {
+        let letters = with_small(rng, any_letters);
+        hold_any(&mut tally, rng, letters);
     }
     tally
 }

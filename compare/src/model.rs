@@ -1,5 +1,5 @@
-//! Document 01's sentences as plain Rust, for what the original does not have. Where it does have a counterpart, the
-//! model is itself held against the original (the entries named `model: ...`).
+//! Document 01's sentences as plain Rust, for what the original does not have, with what document 02 changes in them. Where
+//! the original does have a counterpart, the model is itself held against it (the entries named `model: ...`).
 use crate::answer::*;
 
 /// A letter is 0 where there is none.
@@ -26,23 +26,45 @@ pub const RECORD: usize = 8;
 /// The marks of kinds 1 to 4.
 pub const MARKS: [u8; 4] = *b"^$[]";
 
-pub fn is_letter(number: u32) -> bool {
+/// "Small letters now read as capitals everywhere" (document 02, [2]): the byte as which a byte is read.
+pub fn capital(byte: u8) -> u8 {
+    match byte {
+        b'a'..=b'z' => byte - b'a' + b'A',
+        _ => byte,
+    }
+}
+
+pub fn capitals(letters: &[u8]) -> Vec<u8> {
+    letters.iter().map(|byte| capital(*byte)).collect()
+}
+
+/// The letters of rules, which are always written with a capital.
+pub fn is_capital(number: u32) -> bool {
     (b'A'.into()..=b'Z'.into()).contains(&number)
 }
 
+pub fn is_letter(byte: u8) -> bool {
+    is_capital(capital(byte).into())
+}
+
+/// The bit of a letter in a set.
+fn bit(letter: u8) -> u8 {
+    capital(letter) - b'A'
+}
+
 pub fn insert(set: u32, letter: u8) -> u32 {
-    match is_letter(letter.into()) {
-        true => set | 1 << (letter - b'A'),
+    match is_letter(letter) {
+        true => set | 1 << bit(letter),
         false => set,
     }
 }
 
 pub fn contains(set: u32, letter: u8) -> bool {
-    is_letter(letter.into()) && set >> (letter - b'A') & 1 == 1
+    is_letter(letter) && set >> bit(letter) & 1 == 1
 }
 
 pub fn letters_test(letters: &[u8]) -> Answer<()> {
-    match letters.iter().position(|byte| !is_letter((*byte).into())) {
+    match letters.iter().position(|byte| !is_letter(*byte)) {
         Some(place) => refuse(LETTER, place),
         None => Ok(()),
     }
@@ -69,7 +91,7 @@ pub fn parse(text: &[u8], alphabet: u32) -> Answer<Rule> {
     };
     match rest {
         [] => Ok(Rule { kind, letter: 0 }),
-        [letter] if contains(alphabet, *letter) => Ok(Rule { kind, letter: (*letter).into() }),
+        [letter] if contains(alphabet, *letter) => Ok(Rule { kind, letter: capital(*letter).into() }),
         [_] => refuse(OUTSIDE, text.len() - 1),
         _ => refuse(LONG_TEXT, 0),
     }
@@ -77,8 +99,8 @@ pub fn parse(text: &[u8], alphabet: u32) -> Answer<Rule> {
 
 pub fn is_rule(rule: Rule) -> bool {
     match rule.kind {
-        0 => is_letter(rule.letter),
-        1..=4 => is_letter(rule.letter) || rule.letter == 0,
+        0 => is_capital(rule.letter),
+        1..=4 => is_capital(rule.letter) || rule.letter == 0,
         _ => false,
     }
 }

@@ -5,23 +5,40 @@ pub mod model;
 use crate::answer::*;
 use crate::calls::peptides as calls;
 use crate::entry::{Against, Context, Tally};
-use crate::fields::letters_field;
+use crate::fields::capitals_field;
 use crate::masses;
 use crate::oracle::{hex, unhex, Oracle};
 use crate::peptide_letters::{any_letters, size_reason};
-use crate::refusals::{spoil, Turns};
+use crate::refusals::{spoil, Spoil, Turns};
+use crate::rng::Rng;
+use crate::small_letters::{all_with_small, with_small};
 use cases::{any_good, good, wrong_sizes, SPOILS};
 use model::Peptide;
+
+fn hold_test(tally: &mut Tally, rng: &mut Rng, letters: Vec<u8>) {
+    let masses = masses::cases::any_table(rng);
+    let position = if rng.once_in(2) { rng.byte() } else { rng.below(6) as u8 };
+    let ours = calls::peptide_test(&letters, &masses, position);
+    let wanted = masses::model::peptide_test(&letters, &masses, position);
+    tally.case(&(&letters, &masses, position), &ours, &wanted);
+}
 
 pub fn any_test(context: &Context) -> Tally {
     let mut tally = Tally::new("peptides: test", Against::Model);
     let rng = &mut context.rng("tests of peptides");
     for _ in 0..150_000 {
-        let (letters, masses) = (any_letters(rng), masses::cases::any_table(rng));
-        let position = if rng.once_in(2) { rng.byte() } else { rng.below(6) as u8 };
-        let ours = calls::peptide_test(&letters, &masses, position);
-        let wanted = masses::model::peptide_test(&letters, &masses, position);
-        tally.case(&(&letters, &masses, position), &ours, &wanted);
+        let letters = any_letters(rng);
+        hold_test(&mut tally, rng, letters);
+    }
+    tally
+}
+
+pub fn small_test(context: &Context) -> Tally {
+    let mut tally = Tally::new("peptides: small letters, test", Against::Model);
+    let rng = &mut context.rng("tests of peptides, small letters");
+    for _ in 0..60_000 {
+        let letters = with_small(rng, any_letters);
+        hold_test(&mut tally, rng, letters);
     }
     tally
 }
@@ -32,7 +49,7 @@ const ENDS: [u8; 2] = [7, 200];
 /// What the original makes of each peptide.
 fn ask(oracle: &Oracle, peptides: &[Peptide]) -> Vec<Peptide> {
     let line = |peptide: &Peptide| {
-        let letters = letters_field(&peptide.letters);
+        let letters = capitals_field(&peptide.letters);
         let [nterm, cterm] = ENDS;
         format!("REVP\t{letters}\t{}\t{nterm}\t{cterm}\t{}", peptide.decoy, hex(&peptide.ids))
     };
@@ -49,22 +66,43 @@ fn read(answer: &str) -> Peptide {
     Peptide { letters: letters.into(), ids: form[2..].to_vec(), decoy: decoy.parse().expect("a flag") }
 }
 
-pub fn reversal(context: &Context) -> Tally {
-    let mut tally = Tally::new("peptides: reversal", Against::Rust);
-    let peptides = good(&mut context.rng("peptides to reverse"));
-    for (peptide, said) in peptides.iter().zip(ask(&context.oracle, &peptides)) {
-        tally.case(peptide, &calls::peptide_reverse(peptide), &(Ok(()), said));
+type Reversed = Checked<(Answer<()>, Peptide)>;
+
+/// Holds what reverses peptides against the original.
+fn compare_reversal(
+    mut tally: Tally,
+    context: &Context,
+    peptides: &[Peptide],
+    ours: fn(&Peptide) -> Reversed,
+) -> Tally {
+    for (peptide, said) in peptides.iter().zip(ask(&context.oracle, peptides)) {
+        tally.case(peptide, &ours(peptide), &(Ok(()), said));
     }
     tally
 }
 
+fn peptides(context: &Context) -> Vec<Peptide> {
+    good(&mut context.rng("peptides to reverse"))
+}
+
+fn small_peptides(context: &Context) -> Vec<Peptide> {
+    all_with_small(context.rng("peptides to reverse, made small"), peptides(context)).collect()
+}
+
+pub fn reversal(context: &Context) -> Tally {
+    let tally = Tally::new("peptides: reversal", Against::Rust);
+    compare_reversal(tally, context, &peptides(context), calls::peptide_reverse)
+}
+
+pub fn small_letters(context: &Context) -> Tally {
+    let tally = Tally::new("peptides: small letters", Against::Rust);
+    compare_reversal(tally, context, &small_peptides(context), calls::peptide_reverse)
+}
+
 pub fn model_reversal(context: &Context) -> Tally {
-    let mut tally = Tally::new("model: peptides, reversal", Against::Rust);
-    let peptides = good(&mut context.rng("peptides to reverse"));
-    for (peptide, said) in peptides.iter().zip(ask(&context.oracle, &peptides)) {
-        tally.case(peptide, &Ok(model::reverse(peptide)), &(Ok(()), said));
-    }
-    tally
+    let tally = Tally::new("model: peptides, reversal", Against::Rust);
+    let peptides = [peptides(context), small_peptides(context)].concat();
+    compare_reversal(tally, context, &peptides, |peptide| Ok(model::reverse(peptide)))
 }
 
 /// The sizes that only the original takes.
@@ -79,11 +117,19 @@ pub fn beyond_the_rust(context: &Context) -> Tally {
     tally
 }
 
+fn hold_spoiled(tally: &mut Tally, rng: &mut Rng, reasons: &[Spoil<Peptide>], _: bool) {
+    let mut peptide = any_good(rng);
+    spoil(rng, &mut peptide, reasons);
+    tally.case(&peptide, &calls::peptide_reverse(&peptide), &model::reverse(&peptide));
+}
+
 pub fn any_reversal(context: &Context) -> Tally {
     let turns = Turns::new(context, "peptides: reversal, any call", "calls of reversal", 80_000);
-    turns.every_choice(&SPOILS, |tally, rng, reasons, _| {
-        let mut peptide = any_good(rng);
-        spoil(rng, &mut peptide, reasons);
-        tally.case(&peptide, &calls::peptide_reverse(&peptide), &model::reverse(&peptide));
-    })
+    turns.every_choice(&SPOILS, hold_spoiled)
+}
+
+pub fn any_small_letters(context: &Context) -> Tally {
+    let stream = "calls of reversal of peptides, small letters";
+    let turns = Turns::new(context, "peptides: small letters, any call", stream, 40_000);
+    turns.every_choice_small(&SPOILS, hold_spoiled)
 }

@@ -2,6 +2,7 @@
 //! these calls are held against the model, which says what is refused, at which place, and what stays as it was.
 use crate::entry::{Against, Context, Tally};
 use crate::rng::Rng;
+use crate::small_letters::{make_small, Lettered};
 
 /// Gives a call a reason for a refusal.
 pub type Spoil<C> = fn(&mut Rng, &mut C);
@@ -28,11 +29,21 @@ impl Turns {
     }
 
     /// Every choice of reasons, with room enough and without.
-    pub fn every_choice<C>(mut self, reasons: &[Spoil<C>], hold: Hold<C>) -> Tally {
+    pub fn every_choice<C>(self, reasons: &[Spoil<C>], hold: Hold<C>) -> Tally {
+        self.choices(reasons, &[], hold)
+    }
+
+    /// The same of calls with small letters, which are no reason for a refusal.
+    pub fn every_choice_small<C: Lettered>(self, reasons: &[Spoil<C>], hold: Hold<C>) -> Tally {
+        self.choices(reasons, &[make_small], hold)
+    }
+
+    fn choices<C>(mut self, reasons: &[Spoil<C>], always: &[Spoil<C>], hold: Hold<C>) -> Tally {
         for number in 0..self.count {
             let chosen = |bit: &usize| number >> bit & 1 == 1;
-            let some: Vec<Spoil<C>> = (0..reasons.len()).filter(chosen).map(|bit| reasons[bit]).collect();
-            hold(&mut self.tally, &mut self.rng, &some, chosen(&reasons.len()));
+            let some = (0..reasons.len()).filter(chosen).map(|bit| reasons[bit]);
+            let all: Vec<Spoil<C>> = some.chain(always.iter().copied()).collect();
+            hold(&mut self.tally, &mut self.rng, &all, chosen(&reasons.len()));
         }
         self.tally
     }

@@ -7,7 +7,7 @@ use crate::entry::{Against, Context, Tally};
 use crate::letters;
 use crate::model::{self, Rule, MARKS};
 use crate::oracle::{hex, unhex, Oracle};
-use cases::{accepted_texts, field_values, rules, rust_alphabet, texts, texts_for_alphabets};
+use cases::*;
 
 /// What the original says of a text.
 pub enum Said {
@@ -31,8 +31,8 @@ impl Said {
         }
     }
 
-    /// Document 01's answer for a text of bytes below 128. The original says which character is invalid and not where:
-    /// it is the one behind the mark, or the only one.
+    /// Document 01's answer for a text of bytes below 128, of whose capitals the original was asked. It says which character
+    /// is invalid and not where: it is the one behind the mark, or the only one.
     pub fn answer(&self, text: &[u8]) -> Answer<Rule> {
         match self {
             Said::Rule(rule, _) => Ok(*rule),
@@ -40,7 +40,8 @@ impl Said {
             Said::TooLong => refuse(LONG_TEXT, 0),
             Said::InvalidResidue(character) => {
                 let place = usize::from(MARKS.contains(&text[0]));
-                assert_eq!(*character, u32::from(text[place]), "what the original says of {text:x?}");
+                let asked = u32::from(model::capital(text[place]));
+                assert_eq!(*character, asked, "what the original says of {text:x?}");
                 refuse(OUTSIDE, place)
             }
             Said::NotUtf8 => panic!("{text:x?} is UTF-8"),
@@ -62,8 +63,10 @@ impl Said {
     }
 }
 
+/// The original is asked about the texts with capitals.
 pub fn ask(oracle: &Oracle, texts: &[Vec<u8>]) -> Vec<Said> {
-    let lines: Vec<String> = texts.iter().map(|text| format!("PARSE\t{}", hex(text))).collect();
+    let line = |text: &Vec<u8>| format!("PARSE\t{}", hex(&model::capitals(text)));
+    let lines: Vec<String> = texts.iter().map(line).collect();
     oracle.ask(&lines).iter().map(|answer| Said::read(answer)).collect()
 }
 
@@ -71,10 +74,8 @@ fn first_high_byte(text: &[u8]) -> Option<usize> {
     text.iter().position(|byte| *byte >= 128)
 }
 
-pub fn parse(context: &Context) -> Tally {
-    let mut tally = Tally::new("rule texts: parse", Against::Rust);
-    let texts = texts(context);
-    for (text, said) in texts.iter().zip(ask(&context.oracle, &texts)) {
+fn compare_parse(mut tally: Tally, context: &Context, texts: &[Vec<u8>]) -> Tally {
+    for (text, said) in texts.iter().zip(ask(&context.oracle, texts)) {
         let ours = calls::rule_parse(text, rust_alphabet());
         match (first_high_byte(text), said.reason()) {
             (None, _) => tally.case(text, &ours, &said.answer(text)),
@@ -88,10 +89,18 @@ pub fn parse(context: &Context) -> Tally {
     tally
 }
 
+pub fn parse(context: &Context) -> Tally {
+    compare_parse(Tally::new("rule texts: parse", Against::Rust), context, &texts(context))
+}
+
+pub fn small_letters(context: &Context) -> Tally {
+    compare_parse(Tally::new("rule texts: small letters", Against::Rust), context, &small_texts(context))
+}
+
 /// The model of parse, on what the original can be asked.
 pub fn model_parse(context: &Context) -> Tally {
     let mut tally = Tally::new("model: rule texts, parse", Against::Rust);
-    let mut texts = texts(context);
+    let mut texts = [texts(context), small_texts(context)].concat();
     texts.retain(|text| first_high_byte(text).is_none());
     for (text, said) in texts.iter().zip(ask(&context.oracle, &texts)) {
         tally.case(text, &Ok(model::parse(text, rust_alphabet())), &said.answer(text));
@@ -153,15 +162,16 @@ fn written(rule: Rule) -> Checked<Answer<Vec<u8>>> {
     }
 }
 
-/// Text to rule to text: each accepted text comes back, as it does from the original.
+/// Text to rule to text: each accepted text comes back with capitals, as it does from the original.
 pub fn text_round_trip(context: &Context) -> Tally {
     let mut tally = Tally::new("rule texts: text, rule, text", Against::Rust);
-    let texts = accepted_texts();
+    let texts = distinct([accepted_texts(), accepted_small_texts()].concat());
     for (text, said) in texts.iter().zip(ask(&context.oracle, &texts)) {
         let Said::Rule(_, wanted) = said else {
             tally.fail(text, "the Rust refuses it");
             continue;
         };
+        assert_eq!(wanted, model::capitals(text), "what the original writes for {text:x?}");
         match calls::rule_parse(text, rust_alphabet()) {
             Ok(Ok(rule)) => tally.case(text, &written(rule), &Ok(wanted)),
             other => tally.case(text, &other.map(|answer| answer.map(model::text)), &Ok(wanted)),

@@ -11,6 +11,7 @@ use crate::entry::{Against, Context, Tally};
 use crate::forms::cases::{rules_on_m, unmodified};
 use crate::model::{Record, Rule};
 use crate::rng::Rng;
+use crate::small_letters::make_half_small;
 use crate::{cover, digest_groups, forms, peptides, protein_groups, report_lines, reversal, update};
 use painted::used;
 
@@ -48,16 +49,24 @@ fn ways() -> Vec<(&'static str, Enzyme)> {
     vec![("set", set), ("semi", semi), ("none", none), ("end", Enzyme { kind: END, maximum: 65_536, ..set })]
 }
 
-/// Every way of cutting, of letters that repeat much and little.
+/// Letters that repeat much and little, capitals and small ones.
+const POOLS: [(&str, &[u8]); 4] = [
+    ("letters", b"ACDEFGHIKLMNPQRSTVWY"),
+    ("letters", b"AK"),
+    ("small letters", b"ACDEFGHIKLMNPQRSTVWYacdefghiklmnpqrstvwy"),
+    ("small letters", b"AKak"),
+];
+
+/// Every way of cutting.
 fn digests(rng: &mut Rng) -> Vec<Run> {
     let mut runs = Vec::new();
     for len in [8, 1_000, 8_000, MOST_LETTERS] {
         for (way, enzyme) in ways() {
-            for pool in [&b"ACDEFGHIKLMNPQRSTVWY"[..], b"AK"] {
+            for (sort, pool) in POOLS {
                 let letters = (0..len).map(|_| rng.pick(pool)).collect();
                 let call = Call { letters, alphabet: ALL_LETTERS, enzyme, protein: 7 };
                 let out = vec![0; MOST_DIGESTS * DIGEST];
-                runs.push(run(&format!("digest, {way}, {len} letters"), move || {
+                runs.push(run(&format!("digest, {way}, {len} {sort}"), move || {
                     calls::digest(&call, &out).is_ok_and(|filled| served(&filled.answer))
                 }));
             }
@@ -76,7 +85,8 @@ fn digest_lists(rng: &mut Rng) -> Vec<Run> {
         })
     };
     let small = digest_groups::cases::small(rng);
-    let most = digest_groups::cases::most(rng);
+    let mut most = digest_groups::cases::most(rng);
+    make_half_small(rng, &mut most.letters);
     vec![of("group_digests, small", small), of("group_digests, the most", most)]
 }
 
@@ -127,18 +137,22 @@ fn protein_lists(rng: &mut Rng) -> Vec<Run> {
     runs
 }
 
+/// So many letters, every second one small.
+fn letters(count: usize) -> Vec<u8> {
+    b"Mm".iter().copied().cycle().take(count).collect()
+}
+
 fn of_peptides(rng: &mut Rng) -> Vec<Run> {
     let mut runs = Vec::new();
     for (name, len, limit) in [("forms, small", 2, 1), ("forms, the most", 64, 8)] {
-        let call = unmodified(&vec![b'M'; len], rules_on_m(&[1; 16]), limit);
+        let call = unmodified(&letters(len), rules_on_m(&[1; 16]), limit);
         let out = vec![0; forms::model::MOST_FORMS * forms::model::FORM];
         runs.push(run(name, move || {
             calls::peptides::forms(&call, &out).is_ok_and(|said| served(&said.answer))
         }));
     }
-    let letters = vec![b'M'; 64];
-    let (masses, long) = (vec![0x42f0_0000; 26], vec![b'M'; MOST_LETTERS]);
-    let (of_mass, of_test) = (letters.clone(), letters);
+    let (masses, long) = (vec![0x42f0_0000; 26], letters(MOST_LETTERS));
+    let (of_mass, of_test) = (letters(64), letters(64));
     let (of_tests, of_digest) = (masses.clone(), masses.clone());
     let (protein, record) = (long.clone(), reversal::cases::record_of(rng, 0..64, 1));
     runs.push(run("base_mass", move || is_served(calls::peptides::base_mass(&of_mass, &masses, 0))));
@@ -165,7 +179,7 @@ fn of_rules() -> Vec<Run> {
     let rule = Rule { kind: 0, letter: b'M'.into() };
     let record = Record { rule, id: 1, limit: u32::MAX };
     vec![
-        run("rule_parse", || is_served(calls::rule_parse(b"^M", ALL_LETTERS))),
+        run("rule_parse", || is_served(calls::rule_parse(b"^m", ALL_LETTERS))),
         run("rule_write", move || calls::rule_write(rule, &[0; 2]).is_ok_and(|said| served(&said.answer))),
         run("variable_rules_test", || is_served(calls::variable_rules_test(&rules(16)))),
         run("fixed_rules_test", || is_served(calls::fixed_rules_test(&rules(32)))),
@@ -190,11 +204,11 @@ fn catalogues(rng: &mut Rng) -> Vec<Run> {
 
 fn of_records() -> Vec<Run> {
     let record = [0, 0, 0, 0, 0, 0, 1, 0, 0, 0, 2, 0, 0, 0, 0, 0].to_vec();
-    let (again, letters, out) = (record.clone(), vec![b'M'; MOST_LETTERS], vec![0; MOST_LETTERS]);
+    let (again, letters, out) = (record.clone(), letters(MOST_LETTERS), vec![0; MOST_LETTERS]);
     vec![
         run("set_insert", || calls::set_insert(0, b'M') == 1 << 12),
         run("set_contains", || calls::set_contains(1 << 12, b'M') == 1),
-        run("letters_test", || is_served(calls::letters_test(&[b'M'; 64]))),
+        run("letters_test", || is_served(calls::letters_test(&self::letters(64)))),
         run("digest_reverse", move || calls::digest_reverse(&record).is_ok_and(|said| served(&said.answer))),
         run("digest_letters", move || {
             calls::digest_letters(&letters, &again, &out).is_ok_and(|said| served(&said.answer))

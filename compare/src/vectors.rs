@@ -24,6 +24,9 @@
 //! are generated, the number of groups, which is the `;` of the line plus one, without those in names, and the line in hexadecimal.
 //! passes.txt: the names, the flags of the peptides, the pairs, the tag, whether decoys are generated, the lines of all peptides
 //! in hexadecimal, divided by `;`, and their numbers of groups, divided by `.`. `-` stands for none.
+//!
+//! The original is asked about letters as capitals. A text of rules.txt keeps its small letters and has the answer for its
+//! capitals; the letters of all other files are capitals.
 use crate::answer::Answer;
 use crate::entry::Context;
 use crate::model::{Modification, Rule, MARKS};

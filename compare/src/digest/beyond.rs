@@ -29,7 +29,7 @@ fn plain(rng: &mut Rng) -> Call {
 fn no_letter(rng: &mut Rng) -> Call {
     let mut call = plain(rng);
     let place = rng.below(call.letters.len());
-    call.letters[place] = rng.pick(b"@[`az{*0 !~");
+    call.letters[place] = rng.pick(b"@[`:}{*0 !~");
     call
 }
 

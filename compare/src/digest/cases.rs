@@ -27,7 +27,7 @@ pub fn all_proteins(letters: &[u8], longest: usize) -> Vec<Vec<u8>> {
 }
 
 /// The letters of `all_proteins`: one that cuts, one that forbids it, one that does neither, and what else these can be.
-pub const SMALL_LETTERS: &[u8; 3] = b"AKP";
+pub const FEW_LETTERS: &[u8; 3] = b"AKP";
 const SMALL_SETS: [(&[u8], &[u8]); 7] =
     [(b"K", b""), (b"K", b"P"), (b"KP", b""), (b"KP", b"P"), (b"K", b"K"), (b"AKP", b""), (b"K", b"AP")];
 const SMALL_MISSED: [u32; 5] = [0, 1, 2, 5, 16];

@@ -2,6 +2,7 @@
 use crate::answer::*;
 use crate::model::{self, put_word};
 use crate::room;
+use crate::small_letters::Lettered;
 use std::fmt;
 
 pub const NONE: u32 = 0;
@@ -53,6 +54,12 @@ pub struct Call {
     pub alphabet: u32,
     pub enzyme: Enzyme,
     pub protein: u32,
+}
+
+impl Lettered for Call {
+    fn letters(&mut self) -> &mut [u8] {
+        &mut self.letters
+    }
 }
 
 /// Letters as text, and of long ones the front.
@@ -138,12 +145,13 @@ pub fn sites(letters: &[u8], enzyme: &Enzyme) -> Vec<Site> {
     sites
 }
 
-/// The sites whose letters become a digest.
+/// The sites whose letters become a digest. Two peptides have the same letters if their capitals are the same.
 pub fn kept(letters: &[u8], enzyme: &Enzyme) -> Vec<Site> {
+    let letters = model::capitals(letters);
     let peptide = |site: &Site| &letters[site.start..site.end];
     let bounds = enzyme.minimum.max(1) as usize..=enzyme.maximum as usize;
     let mut kept: Vec<Site> = Vec::new();
-    for site in sites(letters, enzyme) {
+    for site in sites(&letters, enzyme) {
         let long = bounds.contains(&(site.end - site.start));
         if long && kept.iter().all(|earlier| peptide(earlier) != peptide(&site)) {
             kept.push(site);

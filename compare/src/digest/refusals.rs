@@ -85,3 +85,9 @@ fn hold_spoiled(tally: &mut Tally, rng: &mut Rng, reasons: &[Spoil<Call>], short
 pub fn any_call(context: &Context) -> Tally {
     Turns::new(context, "digest: any call", "calls of digest", 160_000).every_choice(&SPOILS, hold_spoiled)
 }
+
+pub fn any_small_letters(context: &Context) -> Tally {
+    let stream = "calls of digest, small letters";
+    let turns = Turns::new(context, "digest: small letters, any call", stream, 80_000);
+    turns.every_choice_small(&SPOILS, hold_spoiled)
+}

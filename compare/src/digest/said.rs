@@ -1,7 +1,7 @@
 //! What the original says of a protein: its digests, of which it keeps the letters and no range, and its sites.
 use super::model::{Call, Enzyme, Site, DIGEST, END, N_SIDE, SET};
 use crate::answer::{Checked, Fault};
-use crate::fields::letters_field;
+use crate::fields::capitals_field;
 use crate::model::word;
 use crate::oracle::{answered, or_dash, Oracle};
 
@@ -24,7 +24,7 @@ impl std::fmt::Debug for Seen<'_> {
 }
 
 impl Seen<'_> {
-    /// What a record of ours shows of its letters.
+    /// What a record of ours shows of the letters of its protein, which are capitals here.
     pub fn of<'a>(record: &[u8], letters: &'a [u8]) -> Checked<Seen<'a>> {
         let range = word(record, 0) as usize..word(record, 4) as usize;
         let letters = letters.get(range.clone()).ok_or(Fault(format!("it wrote the range {range:?}")))?;
@@ -55,7 +55,7 @@ fn enzyme_fields(enzyme: &Enzyme) -> String {
 
 fn ask(oracle: &Oracle, word: &str, calls: &[Call]) -> Vec<String> {
     let line =
-        |call: &Call| format!("{word}\t{}\t{}", letters_field(&call.letters), enzyme_fields(&call.enzyme));
+        |call: &Call| format!("{word}\t{}\t{}", capitals_field(&call.letters), enzyme_fields(&call.enzyme));
     oracle.ask(&calls.iter().map(line).collect::<Vec<_>>())
 }
 

@@ -4,6 +4,7 @@ use crate::digest::model::{shown, DIGEST, MOST_DIGESTS, MOST_LETTERS, MOST_MISSE
 use crate::model::{self, put_word, word};
 use crate::reversal::model::reversed;
 use crate::room;
+use crate::small_letters::Lettered;
 use std::collections::{BTreeMap, HashSet};
 use std::fmt;
 
@@ -20,6 +21,12 @@ pub struct Call {
     pub letters: Vec<u8>,
     pub digests: Vec<u8>,
     pub work: Vec<u32>,
+}
+
+impl Lettered for Call {
+    fn letters(&mut self) -> &mut [u8] {
+        &mut self.letters
+    }
 }
 
 /// The fields of a record.
@@ -52,7 +59,7 @@ impl Digest {
     }
 }
 
-/// What the digests of a group have in common, and what groups are sorted by.
+/// What the digests of a group have in common, and what groups are sorted by: position, decoy and letters as capitals.
 pub type Key = (u8, u8, Vec<u8>);
 
 impl Call {
@@ -74,8 +81,9 @@ impl Call {
     }
 
     pub fn key(&self, digest: &Digest) -> Key {
-        let letters = &self.protein(digest.protein)[digest.start as usize..digest.end as usize];
-        let letters = if digest.decoy == 1 { reversed(letters) } else { letters.to_vec() };
+        let range = digest.start as usize..digest.end as usize;
+        let letters = model::capitals(&self.protein(digest.protein)[range]);
+        let letters = if digest.decoy == 1 { reversed(&letters) } else { letters };
         (digest.position, digest.decoy, letters)
     }
 }

@@ -121,13 +121,21 @@ fn hold_spoiled(tally: &mut Tally, rng: &mut Rng, good: Call, reasons: &[Spoil<C
     hold(tally, &call, &groups, &proteins, &model::group_digests(&call, &groups, &proteins));
 }
 
+fn hold_any(tally: &mut Tally, rng: &mut Rng, reasons: &[Spoil<Call>], short: bool) {
+    let call = cases::random(rng, 5, 8);
+    hold_spoiled(tally, rng, call, reasons, short);
+}
+
 /// Every choice of reasons but sizes.
 pub fn any_call(context: &Context) -> Tally {
     let turns = Turns::new(context, "digest groups: any call", "calls of group_digests", 192_000);
-    turns.every_choice(&SPOILS, |tally, rng, reasons, short| {
-        let call = cases::random(rng, 5, 8);
-        hold_spoiled(tally, rng, call, reasons, short);
-    })
+    turns.every_choice(&SPOILS, hold_any)
+}
+
+pub fn any_small_letters(context: &Context) -> Tally {
+    let stream = "calls of group_digests, small letters";
+    let turns = Turns::new(context, "digest groups: small letters, any call", stream, 96_000);
+    turns.every_choice_small(&SPOILS, hold_any)
 }
 
 pub fn single_reasons(context: &Context) -> Tally {

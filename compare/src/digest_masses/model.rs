@@ -5,6 +5,7 @@ use crate::masses::model::{base_mass, mass, MASSES};
 use crate::model::{is_letter, word};
 use crate::peptide_letters::MOST_LETTERS as MOST_OF_PEPTIDE;
 use crate::reversal::model::letters_of;
+use crate::small_letters::Lettered;
 use std::ops::Range;
 
 /// What is weighed: a record of a protein, whose letters are lent.
@@ -16,6 +17,12 @@ pub struct Call {
     pub water: u32,
 }
 
+impl Lettered for Call {
+    fn letters(&mut self) -> &mut [u8] {
+        &mut self.letters
+    }
+}
+
 /// The range that a record names, whatever its fields are.
 fn named(record: &[u8; DIGEST]) -> Range<usize> {
     word(record, 0) as usize..word(record, 4) as usize
@@ -25,7 +32,7 @@ fn named(record: &[u8; DIGEST]) -> Range<usize> {
 fn first_bad(letters: &[u8], inside: Range<usize>, masses: &[u32]) -> Option<usize> {
     let bad = |place: &usize| {
         let letter = letters[*place];
-        !is_letter(letter.into()) || inside.contains(place) && mass(masses, letter) == 0.0
+        !is_letter(letter) || inside.contains(place) && mass(masses, letter) == 0.0
     };
     (0..letters.len()).find(bad)
 }

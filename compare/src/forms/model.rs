@@ -3,6 +3,7 @@ use crate::answer::*;
 use crate::model::{self, Record, NO_LIMIT, RECORD};
 use crate::peptide_letters::wrong_size;
 use crate::room;
+use crate::small_letters::Lettered;
 
 /// The bytes of a form, and the most that a list has.
 pub const FORM: usize = 66;
@@ -26,6 +27,12 @@ pub struct Call {
     pub cap: u32,
 }
 
+impl Lettered for Call {
+    fn letters(&mut self) -> &mut [u8] {
+        &mut self.letters
+    }
+}
+
 pub type Form = [u8; FORM];
 
 /// A slot that a rule hits: 0 the N terminus, 1 the C terminus, then the residues.
@@ -40,10 +47,15 @@ pub fn records(rules: &[u8]) -> Vec<Record> {
     rules.chunks(RECORD).map(|bytes| model::record_of(bytes).expect("a rule record")).collect()
 }
 
+/// Whether a residue reads as the letter of a rule.
+fn is_at(call: &Call, residue: usize, letter: u8) -> bool {
+    model::capital(call.letters[residue]) == letter
+}
+
 fn terminal(letter: u8, bare: usize, residue: usize, call: &Call) -> Vec<usize> {
     match letter {
         0 => vec![bare],
-        _ if call.letters[residue] == letter => vec![2 + residue],
+        _ if is_at(call, residue, letter) => vec![2 + residue],
         _ => vec![],
     }
 }
@@ -54,7 +66,7 @@ fn hits(call: &Call, record: Record) -> Vec<usize> {
     let first = || terminal(letter, 0, 0, call);
     let last = || terminal(letter, 1, call.letters.len() - 1, call);
     match record.rule.kind {
-        0 => (0..call.letters.len()).filter(|at| call.letters[*at] == letter).map(|at| 2 + at).collect(),
+        0 => (0..call.letters.len()).filter(|at| is_at(call, *at, letter)).map(|at| 2 + at).collect(),
         1 => first(),
         2 => last(),
         3 if [N_TERMINAL, FULL].contains(&call.position) => first(),

@@ -78,3 +78,9 @@ fn hold_spoiled(tally: &mut Tally, rng: &mut Rng, reasons: &[Spoil<Call>], short
 pub fn any_call(context: &Context) -> Tally {
     Turns::new(context, "forms: any call", "calls of forms", 128_000).every_choice(&SPOILS, hold_spoiled)
 }
+
+pub fn any_small_letters(context: &Context) -> Tally {
+    let stream = "calls of forms, small letters";
+    let turns = Turns::new(context, "forms: small letters, any call", stream, 64_000);
+    turns.every_choice_small(&SPOILS, hold_spoiled)
+}

@@ -1,6 +1,6 @@
 //! What the original says of forms.
 use super::model::{records, Call, Form, FORM, NO_CAP};
-use crate::fields::{letters_field, list_field};
+use crate::fields::{capitals_field, list_field};
 use crate::model::{Record, NO_LIMIT};
 use crate::oracle::{hex, unhex, Oracle};
 
@@ -13,7 +13,7 @@ fn rules(bytes: &[u8]) -> String {
 }
 
 fn line(call: &Call) -> String {
-    let letters = letters_field(&call.letters);
+    let letters = capitals_field(&call.letters);
     let Call { nterm, cterm, position, limit, .. } = call;
     let cap = if call.cap == NO_CAP { "-".into() } else { call.cap.to_string() };
     let (ids, variable, fixed) = (hex(&call.ids), rules(&call.variable), rules(&call.fixed));

@@ -75,7 +75,7 @@ pub fn weighed_by_rust(rng: &mut Rng) -> Vec<Vec<u8>> {
         let mut text = of_len(rng, len, &pool);
         if rng.once_in(8) {
             let place = rng.below(len);
-            text[place] = rng.pick(b"BJXZ@[`am{ ~0!\0");
+            text[place] = rng.pick(b"BJXZ@[`:}{ ~0!\0");
         }
         texts.push(text);
     }

@@ -1,17 +1,17 @@
 //! The base mass and the test of letters that are weighed, as document 01 says them. Masses are bit patterns.
 use crate::answer::*;
-use crate::model::is_letter;
+use crate::model::{capital, is_letter};
 use crate::peptide_letters::wrong_size;
 
 pub const MASSES: usize = 26;
 
 pub fn mass(masses: &[u32], letter: u8) -> f32 {
-    f32::from_bits(masses[usize::from(letter - b'A')])
+    f32::from_bits(masses[usize::from(capital(letter) - b'A')])
 }
 
-/// The first byte that is no letter, or a letter of mass zero: minus zero counts.
+/// The first byte that is no letter, or a letter of mass zero: minus zero counts, and of a small letter its capital's mass.
 pub fn first_without_mass(letters: &[u8], masses: &[u32]) -> Option<usize> {
-    letters.iter().position(|letter| !is_letter((*letter).into()) || mass(masses, *letter) == 0.0)
+    letters.iter().position(|letter| !is_letter(*letter) || mass(masses, *letter) == 0.0)
 }
 
 fn letters_test(letters: &[u8], masses: &[u32]) -> Answer<()> {

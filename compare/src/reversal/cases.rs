@@ -2,6 +2,7 @@
 use crate::digest::model::{shown, DIGEST};
 use crate::letters::NEAR_LETTERS;
 use crate::rng::Rng;
+use crate::small_letters::Lettered;
 use std::fmt;
 use std::ops::Range;
 
@@ -11,6 +12,13 @@ pub struct Shown<'a>(pub &'a [u8]);
 impl fmt::Debug for Shown<'_> {
     fn fmt(&self, f: &mut fmt::Formatter<'_>) -> fmt::Result {
         f.write_str(&shown(self.0))
+    }
+}
+
+/// Letters and a record.
+impl Lettered for (Vec<u8>, Vec<u8>) {
+    fn letters(&mut self) -> &mut [u8] {
+        &mut self.0
     }
 }
 
@@ -88,7 +96,7 @@ pub fn single_fields(rng: &mut Rng) -> Vec<Vec<u8>> {
 pub fn with_other_byte(rng: &mut Rng) -> Vec<u8> {
     let len = 1 + rng.below(30);
     let mut letters = exactly(rng, len);
-    letters[rng.below(len)] = rng.pick(b"@[`az{*0 !~");
+    letters[rng.below(len)] = rng.pick(b"@[`:}{*0 !~");
     letters
 }
 

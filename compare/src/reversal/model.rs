@@ -1,4 +1,4 @@
-//! Document 01's reversal of letters and of digest records as plain Rust.
+//! Document 01's reversal of letters and of digest records as plain Rust. What is written as letters is capitals.
 use crate::answer::*;
 use crate::digest::model::{DIGEST, MOST_LETTERS, MOST_MISSED};
 use crate::model::{self, word};
@@ -18,7 +18,7 @@ pub fn letters_reverse(letters: &[u8]) -> Filled<()> {
         1..=MOST_LETTERS => model::letters_test(letters),
         _ => refuse(SIZE, 0),
     };
-    let buffer = if answer.is_ok() { reversed(letters) } else { letters.to_vec() };
+    let buffer = if answer.is_ok() { reversed(&model::capitals(letters)) } else { letters.to_vec() };
     Filled { answer, buffer }
 }
 
@@ -56,11 +56,11 @@ pub fn letters_of(letters: &[u8], record: &[u8]) -> Answer<Vec<u8>> {
         return refuse(LENGTH, 0);
     };
     model::letters_test(letters)?;
-    match range(record, letters.len()) {
-        None => refuse(FIELD, 0),
-        Some(range) if is_decoy(record) => Ok(reversed(&letters[range])),
-        Some(range) => Ok(letters[range].to_vec()),
-    }
+    let Some(range) = range(record, letters.len()) else {
+        return refuse(FIELD, 0);
+    };
+    let letters = model::capitals(&letters[range]);
+    Ok(if is_decoy(record) { reversed(&letters) } else { letters })
 }
 
 /// The answer is the number of letters; a record of theirs is a byte.

@@ -2,6 +2,7 @@
 use crate::entry::Context;
 use crate::model::{self, Rule, MARKS};
 use crate::rng::Rng;
+use crate::small_letters::all_with_small;
 use std::collections::HashSet;
 
 /// The letters of the original's `VALID_AA`: the one alphabet that it knows.
@@ -36,6 +37,11 @@ pub fn accepted_texts() -> Vec<Vec<u8>> {
         texts.extend(RUST_LETTERS.iter().map(|letter| vec![mark, *letter]));
     }
     texts
+}
+
+/// The same texts with small letters.
+pub fn accepted_small_texts() -> Vec<Vec<u8>> {
+    accepted_texts().iter().map(|text| text.to_ascii_lowercase()).collect()
 }
 
 fn likely_byte(rng: &mut Rng) -> u8 {
@@ -109,6 +115,17 @@ pub fn texts(context: &Context) -> Vec<Vec<u8>> {
     texts.extend((0..60_000).map(|_| wide_text(rng)));
     texts.extend(high_texts(rng));
     distinct(texts)
+}
+
+/// Accepted texts and other ones, with small letters.
+pub fn small_texts(context: &Context) -> Vec<Vec<u8>> {
+    let rng = &mut context.rng("rule texts, small letters");
+    let accepted = accepted_texts();
+    let mut texts = accepted_small_texts();
+    texts.extend((0..40_000).map(|_| near_miss(rng, &accepted)));
+    texts.extend((0..5_000).map(|_| long_text(rng)));
+    texts.extend((0..5_000).map(|_| wide_text(rng)));
+    distinct(all_with_small(context.rng("rule texts, letters made small"), texts).collect())
 }
 
 /// Texts that depend on the alphabet, and some that do not.
