@@ -1,5 +1,5 @@
 //! Times asking whether a letter is in a set: by itself, in digests that ask of every letter and find none, and in digests as
-//! people make them. Ours alone: the original has no sets of letters.
+//! people make them, of capitals and of masked letters. Ours alone: the original has no sets of letters and reads no small ones.
 use crate::clock::least;
 use crate::digest::{name_of, set_of, Cutting, Ours, MOST, SET};
 use crate::ffi::sendumaal_set_contains;
@@ -20,7 +20,8 @@ fn print_row(name: &str, letters: usize, call: impl FnMut()) {
 
 fn print_asking(name: &str, bytes: &[u8]) {
     let set = set_of(SET.cleave);
-    let wanted = bytes.iter().filter(|byte| SET.cleave.as_bytes().contains(byte)).count();
+    let in_set = |byte: &&u8| SET.cleave.as_bytes().contains(&byte.to_ascii_uppercase());
+    let wanted = bytes.iter().filter(in_set).count();
     print_row(&format!("`sendumaal_set_contains`, {}, {name}", SET.cleave), bytes.len(), || {
         let members: u32 = bytes.iter().map(|byte| unsafe { sendumaal_set_contains(set, *byte) }).sum();
         assert_eq!(members as usize, wanted, "ours finds other members");
@@ -44,6 +45,15 @@ fn uncut(rng: &mut Rng, cutting: Cutting) -> String {
     protein
 }
 
+/// Every second letter small.
+fn masked(protein: &str) -> String {
+    let small = |(place, letter): (usize, char)| match place % 2 {
+        0 => letter,
+        _ => letter.to_ascii_lowercase(),
+    };
+    protein.chars().enumerate().map(small).collect()
+}
+
 pub fn print() {
     println!("| call | letters | ours, ns/letter |");
     println!("|---|--:|--:|");
@@ -51,9 +61,19 @@ pub fn print() {
     let mut ours = Ours::new();
     print_asking("letters at random", letters(&mut rng, ASKED).as_bytes());
     print_asking("bytes at random", &rng.bytes(ASKED));
-    for cutting in [SET, Cutting { cleave: THIRTEEN, ..SET }] {
-        print_digests(&mut ours, "no letter cuts", cutting, &[uncut(&mut rng, cutting)]);
-    }
+    let long = [SET, Cutting { cleave: THIRTEEN, ..SET }].map(|cutting| (cutting, uncut(&mut rng, cutting)));
     let proteins: Vec<String> = (0..25).map(|_| protein(&mut rng, 450)).collect();
+    for (cutting, protein) in &long {
+        print_digests(&mut ours, "no letter cuts", *cutting, std::slice::from_ref(protein));
+    }
     print_digests(&mut ours, "25 proteins of about 450 letters", SET, &proteins);
+    let small = |proteins: &[String]| proteins.iter().map(|protein| masked(protein)).collect::<Vec<String>>();
+    let [(cutting, protein), _] = &long;
+    print_digests(
+        &mut ours,
+        "no letter cuts, every second small",
+        *cutting,
+        &small(std::slice::from_ref(protein)),
+    );
+    print_digests(&mut ours, "25 proteins of about 450 letters, every second small", SET, &small(&proteins));
 }
