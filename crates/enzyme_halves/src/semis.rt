@@ -187,12 +187,12 @@ pub fn semi_large(letters: &[u8], knife: Knife, missed: u8, terms: Terms, out: &
     let mut far = [0 as u32; 65536];
     let mut count = [0 as u8; 131071];
     let mut marks = [0 as u32; 40960];
-    let mut order = [0 as u16; 13312];
-    let mut other = [0 as u16; 13312];
-    let mut name = [0 as u16; 13312];
-    let mut rank = [0 as u16; 13312];
-    let mut share = [0 as u8; 13312];
-    let mut seen = [0 as u8; 13312];
+    let mut order = [0 as u16; 12288];
+    let mut other = [0 as u16; 12288];
+    let mut name = [0 as u16; 12288];
+    let mut rank = [0 as u16; 12288];
+    let mut share = [0 as u8; 12288];
+    let mut seen = [0 as u8; 16384];
     semi_over(
         letters,
         knife,

@@ -3,7 +3,8 @@
 // Standard input has on its first line, parted by single blanks,
 //     CLEAVE SKIP SIDE SEMI MISSED MINIMUM MAXIMUM PROTEIN
 // and behind it the protein's letters, on as many lines as you like. CLEAVE is a set of letters, $ for the end alone or -
-// for none; SKIP is a set of letters or -; SIDE is C or N; SEMI is 1 or 0; the others are numbers. The alphabet is A to Z.
+// for none; SKIP is a set of letters or -; SIDE is C or N; SEMI is 1 or 0; the others are numbers. The alphabet is A to Z;
+// small letters read as capitals, in sets and in the protein.
 // A refusal is written with document 01's number and place. It holds 131,071 bytes of input and 131,072 digests, and
 // says so where that is too little: the library itself writes into whatever buffer it is lent.
 mod page;

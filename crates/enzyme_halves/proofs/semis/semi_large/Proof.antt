@@ -14,7 +14,7 @@ most k m h = rw (length-replicate {0} {A = ℕ} k 0) h
 semi-over-requires : tie.Need-semi-over-requires
 semi-over-requires c κs = let s = c .before .before .before .before .before .before .before .before .before .before .before .before .before in
     let n = length (now (s .args .letters)) in
-    (omega arith, s .pre .1, longer 65537 n (omega arith), as-long 65536 n (omega arith), longer 131071 0 (omega arith), most 131071 _ (omega arith), zeros 131071, omega arith, omega arith, omega arith, omega arith, zeros 13312)
+    (omega arith, s .pre .1, longer 65537 n (omega arith), as-long 65536 n (omega arith), longer 131071 0 (omega arith), most 131071 _ (omega arith), zeros 131071, omega arith, omega arith, omega arith, omega arith, zeros 12288)
 
 pub semi-large-spec : {M : Type 1} → statement M
 semi-large-spec =
