@@ -9,6 +9,9 @@
  * - *place is written by every call that has it: the refusal's place, or 0 where there is none. A refusal writes
  *   nothing else, neither to results nor to slices. Only "no room" (11) differs: the records that fit stand in order, and
  *   work memory is 0.
+ * - A letter is a byte from 'A' to 'Z', or from 'a' to 'z', which reads as its capital: in sets, proteins, books, peptides
+ *   and rule texts, and where letters are compared. What is written as letters is capitals. Names and tags are bytes, and
+ *   the letter of a rule record is a capital.
  * - A set of letters is a number: bit 0 is A, bit 25 is Z.
  */
 #ifndef SENDUMAAL_H
@@ -20,8 +23,8 @@
 
 /* docs/CHANGES.md says what each version changed. The second number rises where a declaration, an answer or a refusal does. */
 #define SENDUMAAL_VERSION_MAJOR 0
-#define SENDUMAAL_VERSION_MINOR 4
-#define SENDUMAAL_VERSION_PATCH 1
+#define SENDUMAAL_VERSION_MINOR 5
+#define SENDUMAAL_VERSION_PATCH 0
 
 #ifdef __cplusplus
 extern "C" {
@@ -31,7 +34,7 @@ extern "C" {
 enum {
     SENDUMAAL_ACCEPTED = 0,
     SENDUMAAL_SIZE = 1,        /* a size above its limit, or an empty peptide: 0 */
-    SENDUMAAL_LETTER = 2,      /* in letters a byte that is not A to Z, or where masses are lent a letter of mass zero; in
+    SENDUMAAL_LETTER = 2,      /* in letters a byte that is no letter, or where masses are lent a letter of mass zero; in
                                   a rule text a byte of 128 or more: its index */
     SENDUMAAL_ALPHABET = 3,    /* alphabet bits above 25, or a letter of a set outside the alphabet: 0 */
     SENDUMAAL_EMPTY_TEXT = 4,  /* an empty rule text: 0 */
@@ -54,13 +57,13 @@ enum {
 
 /* ---- letters ---- */
 
-/* The set with the letter; any byte that is not A to Z changes nothing. */
+/* The set with the letter; a byte that is no letter changes nothing. */
 uint32_t sendumaal_set_insert(uint32_t set, uint8_t letter);
 
-/* 1 if the letter is in the set, else 0; no byte that is not A to Z is in any set. */
+/* 1 if the letter is in the set, else 0; a byte that is no letter is in no set. */
 uint32_t sendumaal_set_contains(uint32_t set, uint8_t letter);
 
-/* Tests letters alone, of a protein or of a book. Refuses with 1 (more than 268435456), 2 at the first byte that is not A to Z. */
+/* Tests letters alone, of a protein or of a book. Refuses with 1 (more than 268435456), 2 at the first byte that is no letter. */
 uint32_t sendumaal_letters_test(const uint8_t *letters, size_t letters_len, size_t *place);
 
 /* ---- names ----
@@ -76,7 +79,7 @@ uint32_t sendumaal_names_test(const uint8_t *names, size_t names_len, size_t *pl
  * A kind is 0 for a residue, 1 for ^, 2 for $, 3 for [, 4 for ]. A letter is 'A' to 'Z', or 0 for none, which kind 0
  * does not take. A rule record is 8 bytes: kind, letter, id (not 0), zero, limit as a little-endian number. */
 
-/* Reads a rule text. Refuses with 4, 2, 6, 5, in that order. Accepted: *kind and *letter are written. */
+/* Reads a rule text. Refuses with 4, 2, 6, 5, in that order. Accepted: *kind and *letter, a capital, are written. */
 uint32_t sendumaal_rule_parse(const uint8_t *text, size_t text_len, uint32_t alphabet,
                               uint32_t *kind, uint32_t *letter, size_t *place);
 
@@ -126,37 +129,39 @@ static inline uint32_t sendumaal_mass_bits(float mass)
  * semi: 0 or 1. missed is at most 16, minimum, maximum and letters_len at most 65536, protein is any number.
  * Refuses with 1; 3 (alphabet bits above 25, or a member of cleave, for kind 2, or of skip that is not in alphabet); 2; 9
  * (a kind, side or semi that is none: 0); 11: the records that fit stand in order. Accepted: *count is their number.
- * It takes up to 1 MB of stack: 75 KB for 1024 letters, 370 KB for 8192. */
+ * It takes up to 1 MB of stack: 76 KB for 1024 letters, 375 KB for 8192. */
 uint32_t sendumaal_digest(const uint8_t *letters, size_t letters_len, uint32_t alphabet,
                           uint32_t kind, uint32_t cleave, uint32_t skip, uint32_t side, uint32_t semi,
                           uint32_t missed, uint32_t minimum, uint32_t maximum, uint32_t protein,
                           uint8_t *out, size_t out_len, uint32_t *count, size_t *place);
 
-/* Reverses letters in place: all but the first and the last. Refuses with 1 (none, or more than 65536), 2. */
+/* Reverses letters in place, all but the first and the last, and makes all of them capitals. Refuses with 1 (none, or more
+ * than 65536), 2. */
 uint32_t sendumaal_letters_reverse(uint8_t *letters, size_t letters_len, size_t *place);
 
 /* Makes a digest record that of its decoy; a decoy's stays. Refuses with 8 (not 16 bytes), 9 (a field out of range: 0). */
 uint32_t sendumaal_digest_reverse(uint8_t *record, size_t record_len, size_t *place);
 
-/* Writes the letters of a digest, reversed inside for a decoy, to the front of out; the rest of out stays. letters are
- * those of its protein. Refuses with 1 (letters_len above 65536), 8 (the record is not 16 bytes), 2, 9 (a field out of
+/* Writes the letters of a digest as capitals, reversed inside for a decoy, to the front of out; the rest of out stays.
+ * letters are those of its protein. Refuses with 1 (letters_len above 65536), 8 (the record is not 16 bytes), 2, 9 (a field out of
  * range, or an end past the letters: 0), 11: the letters that fit stand in order. Accepted: *count is their number. */
 uint32_t sendumaal_digest_letters(const uint8_t *letters, size_t letters_len, const uint8_t *record, size_t record_len,
                                   uint8_t *out, size_t out_len, uint32_t *count, size_t *place);
 
 /* ---- peptides ----
  * A peptide passes as its letters, 1 to 64 of them, the ids of its residues, one for each letter, and the ids of its two
- * ends; an id of 0 is none. position is that of a digest record, 0 to 3. masses are those of A to Z. */
+ * ends; an id of 0 is none. position is that of a digest record, 0 to 3. masses are those of A to Z; a small
+ * letter has its capital's. */
 
 /* Adds water, then the mass of each letter, left to right in float, one rounding for each addition. Refuses with 1 (no
- * letters, or more than 64), 8 (masses are not 26), 2 (not A to Z, or a letter whose mass is zero). Accepted: *mass. */
+ * letters, or more than 64), 8 (masses are not 26), 2 (no letter, or one whose mass is zero). Accepted: *mass. */
 uint32_t sendumaal_base_mass(const uint8_t *letters, size_t letters_len, const float *masses, size_t masses_len,
                              float water, float *mass, size_t *place);
 
 /* The same of a digest's peptide, from the letters of its protein and its record: the letters are not copied out. A decoy's
  * are added in their own order. Refuses with 1 (letters_len above 65536, or, in a record of 16 bytes, a range of more than
- * 64 letters), 8 (the record is not 16 bytes, or masses are not 26), 2 (in all of letters, not A to Z, and in the range also
- * a letter whose mass is zero: its index in letters), 9 (a field out of range, or an end past the letters: 0). Accepted:
+ * 64 letters), 8 (the record is not 16 bytes, or masses are not 26), 2 (in all of letters, no letter, and in the range also
+ * one whose mass is zero: its index in letters), 9 (a field out of range, or an end past the letters: 0). Accepted:
  * *mass, and *position is the record's. */
 uint32_t sendumaal_digest_mass(const uint8_t *letters, size_t letters_len, const uint8_t *record, size_t record_len,
                                const float *masses, size_t masses_len, float water,
@@ -166,8 +171,8 @@ uint32_t sendumaal_digest_mass(const uint8_t *letters, size_t letters_len, const
 uint32_t sendumaal_peptide_test(const uint8_t *letters, size_t letters_len, const float *masses, size_t masses_len,
                                 uint8_t position, size_t *place);
 
-/* Reverses letters and ids in place, all but the first and the last, and flips *decoy between 0 and 1. Refuses with 1, 8
- * (ids are not as many as letters), 2, 9 (*decoy is neither: 0). */
+/* Reverses letters and ids in place, all but the first and the last, makes the letters capitals, and flips *decoy between 0
+ * and 1. Refuses with 1, 8 (ids are not as many as letters), 2, 9 (*decoy is neither: 0). */
 uint32_t sendumaal_peptide_reverse(uint8_t *letters, size_t letters_len, uint8_t *ids, size_t ids_len,
                                    uint32_t *decoy, size_t *place);
 
