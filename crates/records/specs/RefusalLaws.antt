@@ -4,7 +4,7 @@ use mathlib.Core.Path.{_≡_, refl, sym, ap₂, _∙_}
 use mathlib.Core.Bool.{cond}
 use lib.Dec.{eqb}
 use Rattle.records.specs.declared.refusal.Refusal.{Refusal}
-use Rattle.records.specs.declared.refusal.Refusal.the-variants.{Size, Letter, Alphabet, EmptyText, Outside, LongText, TableFull, Length, Field, Work, Room, Name, Repeat}
+use Rattle.records.specs.declared.refusal.Refusal.the-variants.{Size, Letter, Alphabet, EmptyText, Outside, LongText, TableFull, Length, Field, Work, Room, Name, Repeat, Stray}
 use Rattle.records.specs.Refusals.{numberOf, placeOf}
 
 -- the refusal that has a number and a place
@@ -22,7 +22,8 @@ refusalOf n at =
     (cond (eqb n 10) Work
     (cond (eqb n 11) Room
     (cond (eqb n 12) (Name at)
-    (Repeat at))))))))))))
+    (cond (eqb n 13) (Repeat at)
+    (Stray at)))))))))))))
 
 -- so a number and a place say which refusal it is
 pub refusal-known : (r : Refusal) → refusalOf (numberOf r) (placeOf r) ≡ r
@@ -39,6 +40,7 @@ refusal-known Work = refl
 refusal-known Room = refl
 refusal-known (Name at) = refl
 refusal-known (Repeat at) = refl
+refusal-known (Stray at) = refl
 
 -- two refusals with one number and one place are the same
 pub refusal-only : (r q : Refusal) → numberOf r ≡ numberOf q → placeOf r ≡ placeOf q → r ≡ q

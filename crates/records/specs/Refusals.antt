@@ -1,7 +1,7 @@
--- Document 01, "When a call says no": the number and the place of each refusal.
+-- Document 01, "When a call says no", and document 02 from 14 on: the number and the place of each refusal.
 use Prim.Native.Nat.{ℕ}
 use Rattle.records.specs.declared.refusal.Refusal.{Refusal}
-use Rattle.records.specs.declared.refusal.Refusal.the-variants.{Size, Letter, Alphabet, EmptyText, Outside, LongText, TableFull, Length, Field, Work, Room, Name, Repeat}
+use Rattle.records.specs.declared.refusal.Refusal.the-variants.{Size, Letter, Alphabet, EmptyText, Outside, LongText, TableFull, Length, Field, Work, Room, Name, Repeat, Stray}
 
 abbrev pub numberOf : Refusal → ℕ
 numberOf Size = 1
@@ -17,6 +17,7 @@ numberOf Work = 10
 numberOf Room = 11
 numberOf (Name at) = 12
 numberOf (Repeat at) = 13
+numberOf (Stray at) = 14
 
 abbrev pub placeOf : Refusal → ℕ
 placeOf Size = 0
@@ -32,3 +33,4 @@ placeOf Work = 0
 placeOf Room = 0
 placeOf (Name at) = at
 placeOf (Repeat at) = at
+placeOf (Stray at) = at

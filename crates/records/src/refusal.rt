@@ -3,7 +3,7 @@ ghost use mathlib.Core.Path.{_≡_};
 ghost use Rattle.records.specs.Refusals.{numberOf, placeOf};
 ghost use Rattle.records.specs.Tested.{andThen, fieldTested};
 
-// One case for each number of document 01's table, its place where that is not always 0.
+// One case for each number of document 01's table, and of document 02 from 14 on, its place where that is not always 0.
 pub enum Refusal {
     // 1: a size above its limit, or an empty peptide
     Size,
@@ -31,6 +31,8 @@ pub enum Refusal {
     Name(usize),
     // 13: a name equal to an earlier one
     Repeat(usize),
+    // 14: in a file, a byte other than a line end before the first `>`
+    Stray(usize),
 }
 
 impl Refusal {
@@ -52,6 +54,7 @@ impl Refusal {
             Refusal::Room => 11,
             Refusal::Name(_) => 12,
             Refusal::Repeat(_) => 13,
+            Refusal::Stray(_) => 14,
         }
     }
 
@@ -65,6 +68,7 @@ impl Refusal {
             Refusal::Field(at) => at,
             Refusal::Name(at) => at,
             Refusal::Repeat(at) => at,
+            Refusal::Stray(at) => at,
             Refusal::Size => 0,
             Refusal::Alphabet => 0,
             Refusal::EmptyText => 0,
