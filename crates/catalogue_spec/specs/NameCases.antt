@@ -1,22 +1,18 @@
 -- Worked cases of a catalogue, proved of the definitions: refusal 0 is none.
-use Prim.Native.Nat.{ℕ, _-_}
+use Prim.Native.Nat.{ℕ}
 use mathlib.Core.Path.{refl}
 use mathlib.Core.List.{List, [], _∷_, _++_, flatten, map}
-use lib.ListN.{length, replicate}
+use lib.ListN.{replicate}
 use Rattle.records.specs.Refusals.{numberOf, placeOf}
 use Rattle.records.specs.declared.refusal.Tested.{Tested}
 use Rattle.records.specs.declared.refusal.Tested.the-variants.{Passed, Refused}
 use Rattle.records.specs.Cases.{Case, Hold}
 use Rattle.records.specs.Search.{seek}
-use Rattle.catalogue_spec.specs.Names.{nameLength, zerosTo, namesTested, catalogueTested}
+use Rattle.catalogue_spec.specs.Names.{nameLength, zerosTo, padded, namesTested, catalogueTested}
 
 abbrev pub toldTest : Tested → List ℕ
 toldTest Passed = 0 ∷ 0 ∷ []
 toldTest (Refused why) = numberOf why ∷ placeOf why ∷ []
-
--- a record: the bytes, then zeros
-padded : List ℕ → List ℕ
-padded t = t ++ replicate (64 - length t) 0
 
 -- a catalogue of these records, and what its tests answer
 naming : List (List ℕ) → ℕ → ℕ → Case
@@ -49,5 +45,5 @@ table =
     ∷ []
 
 pub cases : Hold table
-unfolding seek nameLength zerosTo namesTested flatten padded naming A B table
+unfolding seek nameLength zerosTo namesTested flatten naming A B table
 cases = refl

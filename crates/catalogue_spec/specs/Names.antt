@@ -1,8 +1,8 @@
 -- Document 01, "Sizes and records": a name is 64 bytes, 1 to 64 bytes from 33 to 126, then zeros. A catalogue is names in a row.
 use Prim.Native.Nat.{ℕ, _-_, _/_, _%_}
 use mathlib.Core.Bool.{Bool, cond, not, _&&_, _||_}
-use mathlib.Core.List.{List}
-use lib.ListN.{length, getD}
+use mathlib.Core.List.{List, _++_}
+use lib.ListN.{length, getD, replicate}
 use lib.Dec.{leb, ltb, eqb}
 use Rattle.records.specs.declared.refusal.Refusal.{Refusal}
 use Rattle.records.specs.declared.refusal.Refusal.the-variants.{Size, Length, Name, Repeat}
@@ -38,6 +38,10 @@ zerosTo r from = seek (nonZero r) from (length r - from)
 -- 64 bytes: 1 to 64 bytes from 33 to 126, then zeros
 abbrev pub isName : List ℕ → Bool
 isName r = eqb (length r) 64 && ltb 0 (nameLength r) && eqb (zerosTo r (nameLength r)) 64
+
+-- a text as a record: its bytes, then zeros
+abbrev pub padded : List ℕ → List ℕ
+padded t = t ++ replicate (64 - length t) 0
 
 -- ---- a catalogue
 
