@@ -1,6 +1,6 @@
 -- Document 02, [1]: "a line starting with `>` opens an entry, its name is what follows up to the first blank or line end, and the
 -- other lines up to the next such line are its letters."
-use Prim.Native.Nat.{ℕ, _+_, min}
+use Prim.Native.Nat.{ℕ, _+_}
 use mathlib.Core.Path.{_≡_}
 use mathlib.Core.Bool.{Bool, cond, _&&_}
 use mathlib.Core.List.{List, [], _∷_}
@@ -14,17 +14,13 @@ use Rattle.records.specs.Outcome.{Outcome, outcome, unlessRefused, only}
 use Rattle.records.specs.Room.{fits, fitted, singly}
 use Rattle.letters.specs.Letters.{capitals}
 use Rattle.catalogue_spec.specs.Names.{nameLength, padded}
-use Rattle.fasta_lines.specs.declared.runs.Run.the-variants.{Ends, Line, Word, Letters, Inside}
-use Rattle.fasta_lines.specs.Lines.{runOf, together}
+use Rattle.fasta_lines.specs.declared.runs.Run.the-variants.{Ends, Line, Word, Letters}
+use Rattle.fasta_lines.specs.Lines.{runOf, together, entryLength}
 use Rattle.fasta.specs.declared.entry.Entry.{Entry}
 use Rattle.fasta.specs.declared.entry.Read.{Read}
 use Rattle.fasta.specs.declared.entry.Read.the-variants.{Found, Nothing, Long, Refused}
 
 -- ---- an entry: the bytes behind its `>`
-
--- how many of the bytes behind a `>` are its entry's: up to the next line that starts with `>`, or all
-abbrev pub entryLength : List ℕ → ℕ
-entryLength s = min (runOf Inside s + 1) (length s)
 
 -- what follows up to the first blank or line end; the rest of the line is ignored
 abbrev pub entryName : List ℕ → List ℕ

@@ -10,7 +10,7 @@ use native.Mathlib.Numerals.{add-one}
 use lib.ListN.{length, take, drop, getD, set, replicate, drop-of-length-le, length-drop, length-append, length-map, length-replicate, List·getD-append}
 use lib.Seq.{drop-cons, drop-drop, sets, getD-append-add}
 use lib.Dec.{ltb, leb, eqb}
-use borrow.Author.Tests.{lt-ltb, le-ltb, le-leb, lt-leb, leb-true, eq-eqb, ne-eqb}
+use borrow.Author.Tests.{lt-ltb, le-ltb, le-leb, lt-leb, leb-true, ltb-false, eq-eqb, ne-eqb}
 use Rattle.lists.specs.Tests.{below?, both}
 use Rattle.lists.specs.FrameLaws.{zeros-at}
 use Rattle.records.specs.declared.refusal.Refusal.{Refusal}
@@ -18,15 +18,17 @@ use Rattle.records.specs.declared.refusal.Refusal.the-variants.{Letter, Field, 
 use Rattle.records.specs.declared.refusal.Tested.the-variants.{Passed, Refused as Bad}
 use Rattle.records.specs.Outcome.{Outcome, outcome}
 use Rattle.records.specs.Room.{fits, fitted, singly}
+use Rattle.records.specs.TestedLaws.{passed-first, passed-second}
 use Rattle.records.specs.RoomLaws.{stored-text, fits-text, fits-one, full-one}
 use Rattle.records.specs.StoreLaws.{store-on}
 use Rattle.letters.specs.Letters.{capital, capitals}
 use Rattle.sorting_spec.specs.PartLaws.{rest-all}
 use Rattle.catalogue_spec.specs.Names.{nameLength, padded}
-use Rattle.fasta_lines.specs.declared.runs.Run.the-variants.{Ends, Line, Word}
-use Rattle.fasta_lines.specs.Lines.{runOf}
+use Rattle.fasta_lines.specs.declared.runs.Run.the-variants.{Ends, Line, Letters}
+use Rattle.fasta_lines.specs.Lines.{runOf, entryLength}
+use Rattle.fasta_lines.specs.LineLaws.{run-bound}
 use Rattle.fasta.specs.declared.entry.Read.the-variants.{Found, Nothing, Long, Refused}
-use Rattle.fasta.specs.Entries.{entryLength, entryName, entryLines, entryLetters, goodName, goodLetters, entryTested, givenOutcome, entryOutcome, openedOutcome, readOutcome}
+use Rattle.fasta.specs.Entries.{entryName, entryLines, entryLetters, tooLong, goodName, goodLetters, entryTested, givenOutcome, entryOutcome, openedOutcome, readOutcome}
 
 -- ---- a text as a record
 
@@ -58,24 +60,25 @@ module _ (q : ℕ) (e : List ℕ) where
   pub tested-12 : goodName (entryName e) ≡ false → Bad (Name (q + 1)) ≡ entryTested q e
   tested-12 b = rw b
 
-  module _ (b : goodName (entryName e) ≡ true) (h k : ℕ) (i : h ≡ runOf Line e) (j : k ≡ goodLetters e) where
-    pub tested-2 : k < length e - h → Bad (Letter (q + 1 + h + k)) ≡ entryTested q e
-    tested-2 l =
-        let t : goodLetters e < length (entryLines e) = omega (arith, length-drop (runOf Line e) e) in
-        rw (b, lt-ltb _ _ t) (cc)
+  module _ (b : goodName (entryName e) ≡ true) where
+    pub tested-2 : ltb (goodLetters e) (length (entryLines e)) ≡ true → (h k : ℕ) → h ≡ runOf Line e → k ≡ goodLetters e → Bad (Letter (q + 1 + h + k)) ≡ entryTested q e
+    tested-2 t h k i j = rw (b, t) (cc)
 
-    pub tested-passed : length e - h ≤ k → Passed ≡ entryTested q e
-    tested-passed l =
-        let t : length (entryLines e) ≤ goodLetters e = omega (arith, length-drop (runOf Line e) e) in
-        rw (b, le-ltb _ _ t)
+    pub tested-passed : ltb (goodLetters e) (length (entryLines e)) ≡ false → Passed ≡ entryTested q e
+    tested-passed t = rw (b, t)
 
-  -- an entry that passed has a name that fits its record
-  pub passed-name : entryTested q e ≡ Passed → length (entryName e) ≤ 64
-  passed-name p = go (goodName (entryName e)) refl p
-    where
-      go : (t : Bool) → goodName (entryName e) ≡ t → cond t (cond (ltb (goodLetters e) (length (entryLines e))) (Bad (Letter (q + 1 + runOf Line e + goodLetters e))) Passed) (Bad (Name (q + 1))) ≡ Passed → length (entryName e) ≤ 64
-      go true b f = good-name-length (entryName e) b
-      go false b f = let z : _≡_ {A = ℕ} 0 1 = cc in absurd (omega arith)
+  -- an entry that passed has a name that fits its record, and no bad byte
+  module _ (p : entryTested q e ≡ Passed) where
+    tests : (goodName (entryName e) ≡ true) × (ltb (goodLetters e) (length (entryLines e)) ≡ false)
+    tests =
+        let n = passed-second (goodName (entryName e)) (Name (q + 1)) (cond (ltb (goodLetters e) (length (entryLines e))) (Bad (Letter (q + 1 + runOf Line e + goodLetters e))) Passed) p in
+        (n .0, passed-first (ltb (goodLetters e) (length (entryLines e))) (Letter (q + 1 + runOf Line e + goodLetters e)) Passed (n .1) .0)
+
+    pub passed-name : length (entryName e) ≤ 64
+    passed-name = good-name-length (entryName e) (tests .0)
+
+    pub passed-letters : goodLetters e ≡ length (entryLines e)
+    passed-letters = omega (arith, ltb-false (goodLetters e) (length (entryLines e)) (tests .1), run-bound Letters (entryLines e))
 
 -- ---- a good entry: it fits, or not
 
@@ -109,14 +112,14 @@ module _ (q : ℕ) (e name letters : List ℕ) (short : length (entryName e) ≤
 -- ---- an entry: 1, then what the tests say, then what is given
 
 module _ (q : ℕ) (e name letters : List ℕ) where
-  pub entry-1 : 65536 < length (entryLetters e) → outcome (Long q) (name ∷ letters ∷ []) ≡ entryOutcome q e name letters
-  entry-1 h = rw (lt-ltb _ _ h)
+  pub entry-1 : tooLong e ≡ true → outcome (Long q) (name ∷ letters ∷ []) ≡ entryOutcome q e name letters
+  entry-1 h = rw h
 
-  pub entry-refused : length (entryLetters e) ≤ 65536 → (why : Refusal) → entryTested q e ≡ Bad why → outcome (Refused why) (name ∷ letters ∷ []) ≡ entryOutcome q e name letters
-  entry-refused h why p = rw (le-ltb _ _ h, p)
+  pub entry-refused : tooLong e ≡ false → (why : Refusal) → entryTested q e ≡ Bad why → outcome (Refused why) (name ∷ letters ∷ []) ≡ entryOutcome q e name letters
+  entry-refused h why p = rw (h, p)
 
-  pub entry-given : length (entryLetters e) ≤ 65536 → entryTested q e ≡ Passed → givenOutcome q e name letters ≡ entryOutcome q e name letters
-  entry-given h p = rw (le-ltb _ _ h, p)
+  pub entry-given : tooLong e ≡ false → entryTested q e ≡ Passed → givenOutcome q e name letters ≡ entryOutcome q e name letters
+  entry-given h p = rw (h, p)
 
 -- ---- reading at a place
 

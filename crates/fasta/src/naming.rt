@@ -15,8 +15,11 @@ ghost use Rattle.fasta.specs.Entries.{goodName};
 pub(crate) fn is_good_name(text: &[u8]) -> bool
     ensures { λ r. ⌜ r ≡ goodName (now (text .entry)) ⌝ }
 {
+    if 64 < text.len() {
+        return false;
+    }
     let visible = name_length(text);
-    (0 < text.len()) & (text.len() <= 64) & (visible == text.len())
+    (0 < text.len()) & (visible == text.len())
 }
 
 // Stores a text and zeros behind it, 64 bytes in all; past the text `byte_at` reads the zeros.

@@ -7,7 +7,7 @@ use lib.ListN.{getD}
 use lib.Dec.{eqb}
 use Rattle.letters.specs.Letters.{isLetter}
 use Rattle.fasta_lines.specs.declared.runs.Run.{Run}
-use Rattle.fasta_lines.specs.declared.runs.Run.the-variants.{Ends, Line, Word, Letters, Inside}
+use Rattle.fasta_lines.specs.declared.runs.Run.the-variants.{Ends, Line, Word, Letters}
 
 -- whether a byte belongs to a line end, by the byte behind it (0 behind the last): LF is 10, CR is 13
 abbrev pub lineEnd : ℕ → ℕ → Bool
@@ -27,8 +27,6 @@ goesOn Line b next = not (lineEnd b next)
 goesOn Word b next = not (lineEnd b next || blank b)
 -- letters and line ends
 goesOn Letters b next = lineEnd b next || isLetter b
--- what stands before the line end in front of a line that starts with `>`, which is 62
-goesOn Inside b next = not (eqb b 10 && eqb next 62)
 
 -- how many bytes at the front of a list continue a run
 abbrev pub runOf : Run → List ℕ → ℕ
@@ -39,3 +37,8 @@ runOf k (b ∷ s) = cond (goesOn k b (getD s 0 0)) (suc (runOf k s)) 0
 abbrev pub together : List ℕ → List ℕ
 together [] = []
 together (b ∷ s) = cond (lineEnd b (getD s 0 0)) (together s) (b ∷ together s)
+
+-- how many bytes stand before the next line that starts with `>`, which is 62, or all
+abbrev pub entryLength : List ℕ → ℕ
+entryLength [] = 0
+entryLength (b ∷ s) = suc (cond (eqb b 10 && eqb (getD s 0 0) 62) 0 (entryLength s))

@@ -1,4 +1,4 @@
-// Runs of bytes at the front of a stretch. Every part of an entry is one.
+// Runs of bytes at the front of a stretch: every part of an entry is one.
 use letters::is_letter;
 use records::byte_at;
 ghost use mathlib.Core.Path.{_≡_};
@@ -16,8 +16,6 @@ pub enum Run {
     Word,
     // letters and line ends
     Letters,
-    // what stands before the line end in front of a line that starts with `>`
-    Inside,
 }
 
 // Whether a byte belongs to a line end, by the byte behind it.
@@ -34,7 +32,7 @@ fn is_blank(b: u8) -> bool
 }
 
 // Whether a byte, with the one behind it, continues a run.
-fn goes_on(kind: Run, b: u8, next: u8) -> bool
+pub(crate) fn goes_on(kind: Run, b: u8, next: u8) -> bool
     ensures { λ r. ⌜ r ≡ goesOn kind b next ⌝ }
 {
     match kind {
@@ -42,7 +40,6 @@ fn goes_on(kind: Run, b: u8, next: u8) -> bool
         Run::Line => !line_end(b, next),
         Run::Word => !(line_end(b, next) | is_blank(b)),
         Run::Letters => line_end(b, next) | is_letter(b),
-        Run::Inside => !((b == 10) & (next == 62)),
     }
 }
 

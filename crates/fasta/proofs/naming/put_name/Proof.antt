@@ -8,9 +8,6 @@ use Rattle.fasta.specs.EntryLaws.{length-padded}
 use borrow.Author.Needs.{needs}
 use Rattle.fasta.proofs.naming.put_name.Statement.{statement}
 use Rattle.fasta.proofs.naming.put_name.Tie as tie
-use Rattle.fasta.proofs.naming.put_name.Reads as reads
-use Rattle.fasta.proofs.naming.put_name.Lts as lts
-use Rattle.fasta.proofs.naming.put_record.Reads as put-record-reads
 
 returns : tie.Need-returns
 returns c = let a = c .before .before .before .before .before .before .before .args in c .before .before .put-record .ensures ∙ stored-one 64 (padded (now (a .text))) (now (a .out)) (length-padded (now (a .text)) (c .before .before .before .before .before .before .before .pre)) (omega arith) (c .before .before .before .before .if1 .taken)

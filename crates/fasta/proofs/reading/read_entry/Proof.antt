@@ -8,11 +8,6 @@ use Rattle.fasta.specs.EntryLaws.{read-9, read-opened, opened-none, open
 use borrow.Author.Needs.{needs}
 use Rattle.fasta.proofs.reading.read_entry.Statement.{statement}
 use Rattle.fasta.proofs.reading.read_entry.Tie as tie
-use Rattle.fasta.proofs.reading.read_entry.Reads as reads
-use Rattle.fasta.proofs.reading.read_entry.Lts as lts
-use Rattle.fasta.proofs.reading.entry_len.Reads as entry-len-reads
-use Rattle.fasta.proofs.reading.read_behind.Reads as read-behind-reads
-use Rattle.fasta_lines.proofs.run_len.Reads as run-len-reads
 
 -- behind the line ends reading goes on
 opened : (c : tie.After-run-len) → let a = c .before .before .before .before .before .before .args in let q = a .at + c .run-len .result in openedOutcome q (drop q (now (a .bytes))) (now (a .name)) (now (a .letters)) ≡ readOutcome (now (a .bytes)) (a .at) (now (a .name)) (now (a .letters))
