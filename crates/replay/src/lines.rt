@@ -5,6 +5,7 @@ use text_lines::line_end;
 
 // What the lines of a file hold.
 pub(crate) enum Kind {
+    Entries,
     Rules,
     Insertions,
     Forms,
@@ -21,6 +22,7 @@ pub(crate) enum Kind {
 // Replays one line. Memory is lent for the library's answer, and to the next line for what this one leaves.
 fn replay_line(kind: Kind, line: &[u8], memory: &mut [u8]) -> Verdict {
     match kind {
+        Kind::Entries => replay_entries::replay_entries(line),
         Kind::Rules => replay_peptides::replay_rule(line),
         Kind::Insertions => replay_peptides::replay_insertion(line, memory),
         Kind::Forms => replay_peptides::replay_forms(line, memory),

@@ -1,5 +1,5 @@
 // Replays answers of the original Rust against the library. Each file of data/ holds answers of one kind, one to a line; how a line
-// reads stands at the head of the module that replays it (crates replay_peptides, replay_digests, replay_proteins). Says how many
+// reads stands at the head of the module that replays it (crates replay_entries, replay_peptides, replay_digests, replay_proteins). Says how many
 // answers of each file were compared and how many differ, and the line of each that does; of a file that is missing, that it has
 // none. Answers on letters are replayed a second time with every second letter small (document 02, [2]).
 mod lines;
@@ -47,6 +47,7 @@ fn replay_masked(kind: Kind, path: &[u8], column: u32, what: &[u8]) {
 }
 
 fn main() {
+    replay_file(Kind::Entries, b"fasta.txt", b"sequence files: ");
     replay_file(Kind::Rules, b"rules.txt", b"rule texts: ");
     replay_file(Kind::Insertions, b"table.txt", b"table: ");
     replay_file(Kind::Digests, b"digest.txt", b"digests: ");
