@@ -1,6 +1,6 @@
-//! What a call says: document 01's answers, and the faults that no answer excuses.
+//! What a call says: the answers of documents 01 and 02, and the faults that no answer excuses.
 
-/// The numbers of document 01.
+/// The numbers of document 01, and of document 02 from 14 on.
 pub const SIZE: u32 = 1;
 pub const LETTER: u32 = 2;
 pub const ALPHABET: u32 = 3;
@@ -14,7 +14,8 @@ pub const SHORT_WORK: u32 = 10;
 pub const NO_ROOM: u32 = 11;
 pub const BAD_NAME: u32 = 12;
 pub const REPEATED_NAME: u32 = 13;
-pub const HIGHEST: u32 = 13;
+pub const STRAY: u32 = 14;
+pub const HIGHEST: u32 = 14;
 
 #[derive(Clone, Copy, Debug, PartialEq)]
 pub struct Refusal {

@@ -1,6 +1,7 @@
 //! The library's functions as safe ones: each call is guarded, and what it did to memory is checked.
 pub mod cover;
 pub mod digest_groups;
+pub mod fasta;
 pub mod peptides;
 pub mod protein_groups;
 pub mod report_lines;

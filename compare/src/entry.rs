@@ -20,8 +20,8 @@ impl Context {
 /// A comparison of one function, or of a few that belong together.
 pub type Entry = fn(&Context) -> Tally;
 
-/// Who else answers the cases. The original is asked about letters as capitals; the model is document 01 written in Rust anew,
-/// for what the original does not have.
+/// Who else answers the cases. The original is asked about letters as capitals; the model is document 01, and what document 02
+/// adds, written in Rust anew, for what the original does not have.
 #[derive(Clone, Copy)]
 pub enum Against {
     Rust,
@@ -87,7 +87,7 @@ impl Tally {
         self.differ(input, what);
     }
 
-    /// Says of the case just counted that document 01 wants another answer than the Rust's.
+    /// Says of the case just counted that the documents want another answer than the Rust's.
     pub fn intended(&mut self, reason: &'static str) {
         match self.intended.iter_mut().find(|(known, _)| *known == reason) {
             Some((_, count)) => *count += 1,

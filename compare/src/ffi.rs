@@ -32,6 +32,11 @@ functions! {
 
     sendumaal_names_test(names: &[u8]);
 
+    sendumaal_fasta_entry(
+        bytes: &[u8], at: usize, name: &mut [u8], letters: &mut [u8],
+        next: &mut usize, count: &mut u32, found: &mut u32
+    );
+
     sendumaal_rule_parse(text: &[u8], alphabet: u32, kind: &mut u32, letter: &mut u32);
     sendumaal_rule_write(kind: u32, letter: u32, out: &mut [u8], count: &mut u32);
     sendumaal_variable_rules_test(rules: &[u8]);

@@ -12,6 +12,7 @@ mod digest;
 mod digest_groups;
 mod digest_masses;
 mod entry;
+mod fasta;
 mod ffi;
 mod fields;
 mod forms;
@@ -48,6 +49,24 @@ use std::process::ExitCode;
 const SUBJECTS: &[(&str, &[Entry])] = &[
     ("letters", &[letters::set_operations, letters::first_bad_byte, letters::longest]),
     ("names", &[names::catalogues, names::large_catalogues]),
+    (
+        "fasta",
+        &[
+            fasta::limits::name_lengths,
+            fasta::limits::every_byte,
+            fasta::whole::catalogues,
+            fasta::limits::letter_counts,
+            fasta::limits::long_stretches,
+            fasta::any_call,
+            fasta::small_files,
+            fasta::changed_files,
+            fasta::whole::any_files,
+            fasta::beyond::beyond_the_rust,
+            fasta::whole::random_files,
+            fasta::whole::longest_files,
+            fasta::whole::model_files,
+        ],
+    ),
     (
         "rule texts",
         &[
