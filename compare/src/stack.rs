@@ -6,13 +6,13 @@ use crate::calls;
 use crate::cover::model::{MOST_EDGES, MOST_GROUPS};
 use crate::digest::cases::{few_enzymes, set_of, ALL_LETTERS};
 use crate::digest::model::{Call, Enzyme, DIGEST, END, MOST_DIGESTS, MOST_LETTERS, NONE, SET};
-use crate::digest_groups::model::MOST_NAMES;
+use crate::digest_groups::model::{MOST_NAMES, NAME};
 use crate::entry::{Against, Context, Tally};
 use crate::forms::cases::{rules_on_m, unmodified};
 use crate::model::{Record, Rule};
 use crate::rng::Rng;
 use crate::small_letters::make_half_small;
-use crate::{cover, digest_groups, forms, peptides, protein_groups, report_lines, reversal, update};
+use crate::{cover, digest_groups, fasta, forms, peptides, protein_groups, report_lines, reversal, update};
 use painted::used;
 
 const MOST: usize = 1 << 20;
@@ -202,6 +202,24 @@ fn catalogues(rng: &mut Rng) -> Vec<Run> {
     [8, 256, 4_096, MOST_NAMES].map(of).into()
 }
 
+/// The most letters, each in a line of its own, and more line ends and ignored bytes than an entry has letters.
+fn sequence_files() -> Vec<Run> {
+    let of = |name: &str, file: Vec<u8>| {
+        let letters = vec![0; MOST_LETTERS];
+        run(name, move || {
+            calls::fasta::entry(&file, 0, &[0; NAME], &letters).is_ok_and(|said| served(&said.answer))
+        })
+    };
+    let many = |bytes: &[u8]| bytes.repeat(1 << 22);
+    let most = fasta::limits::entry(&[b'x'; NAME], &letters(MOST_LETTERS), (1, b"\r\n"));
+    let long = [&many(b"\r\n")[..], b">x ", &many(b"z>"), b"\nM", &many(b"\n"), b"m"].concat();
+    vec![
+        of("fasta_entry, small", b">x\nMm\n".to_vec()),
+        of("fasta_entry, the most letters", most),
+        of("fasta_entry, a long file", long),
+    ]
+}
+
 fn of_records() -> Vec<Run> {
     let record = [0, 0, 0, 0, 0, 0, 1, 0, 0, 0, 2, 0, 0, 0, 0, 0].to_vec();
     let (again, letters, out) = (record.clone(), letters(MOST_LETTERS), vec![0; MOST_LETTERS]);
@@ -225,6 +243,7 @@ fn all(rng: &mut Rng) -> Vec<Run> {
         of_peptides(rng),
         of_rules(),
         catalogues(rng),
+        sequence_files(),
         of_records(),
     ];
     parts.into_iter().flatten().collect()
