@@ -4,6 +4,7 @@ pub mod cases;
 pub mod limits;
 pub mod model;
 pub mod said;
+pub mod vectors;
 pub mod whole;
 
 use crate::calls;

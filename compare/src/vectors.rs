@@ -8,7 +8,8 @@
 //! bit pattern of their base mass in hexadecimal, by the original's own masses. forms.txt: the letters, their ids in
 //! hexadecimal, the ids of the two ends, the position, the variable rules, then the fixed ones in hexadecimal (`-` if none),
 //! the combination limit, the cap (4294967295 if none), the number of forms, and each in hexadecimal as the ids of the two
-//! ends and of the letters, divided by `;`.
+//! ends and of the letters, divided by `;`. fasta.txt: the file in hexadecimal (`-` if empty), and each entry as its name in
+//! hexadecimal, `=` and its letters, divided by `;` (`-` if none).
 //!
 //! groups.txt: the names in hexadecimal without the zeros behind them, divided by `;`, the boundaries, divided by `.`, the
 //! letters, the digest records in hexadecimal, one behind the other, the number of groups, each group as the number of its
@@ -26,7 +27,8 @@
 //! in hexadecimal, divided by `;`, and their numbers of groups, divided by `.`. `-` stands for none.
 //!
 //! The original is asked about letters as capitals. A text of rules.txt keeps its small letters and has the answer for its
-//! capitals; the letters of all other files are capitals.
+//! capitals. The original is asked about a file of fasta.txt as it stands, as names keep their small letters, and the letters
+//! that it answers are written as capitals; the letters of all other files are capitals.
 use crate::answer::Answer;
 use crate::entry::Context;
 use crate::model::{Modification, Rule, MARKS};
@@ -35,8 +37,8 @@ use crate::rng::Rng;
 use crate::rule_texts::cases::{accepted_texts, distinct, near_miss};
 use crate::table::cases::{filling, from_pool, special};
 use crate::{
-    cover, digest, digest_groups, forms, masses, passes, protein_groups, report_lines, rule_texts, table,
-    update,
+    cover, digest, digest_groups, fasta, forms, masses, passes, protein_groups, report_lines, rule_texts,
+    table, update,
 };
 use std::{fs, io, path::Path};
 
@@ -47,6 +49,7 @@ pub fn write(context: &Context, folder: &Path) -> io::Result<()> {
     fs::create_dir_all(folder)?;
     fs::write(folder.join("rules.txt"), rules(context))?;
     fs::write(folder.join("table.txt"), tables(context))?;
+    fs::write(folder.join("fasta.txt"), fasta::vectors::lines(context))?;
     fs::write(folder.join("digest.txt"), digest::vectors::lines(context))?;
     fs::write(folder.join("masses.txt"), masses::vectors::lines(context))?;
     fs::write(folder.join("forms.txt"), forms::vectors::lines(context))?;
