@@ -46,7 +46,7 @@ fn uncut(rng: &mut Rng, cutting: Cutting) -> String {
 }
 
 /// Every second letter small.
-fn masked(protein: &str) -> String {
+pub fn masked(protein: &str) -> String {
     let small = |(place, letter): (usize, char)| match place % 2 {
         0 => letter,
         _ => letter.to_ascii_lowercase(),

@@ -1,11 +1,12 @@
-//! Times the original Rust and the proved library on the same proteins, peptides, digests, edges and pairs, in turns, and prints
-//! tables of both: `bench digest`, `bench greatest`, `bench doubling`, `bench letters`, `bench forms`, `bench groups`, `bench cover`,
-//! `bench inference`, `bench lines`.
+//! Times the original Rust and the proved library on the same proteins, peptides, digests, edges, pairs and files, in turns, and
+//! prints tables of both: `bench digest`, `bench greatest`, `bench doubling`, `bench letters`, `bench forms`, `bench groups`,
+//! `bench cover`, `bench inference`, `bench lines`, `bench fasta`.
 mod clock;
 #[path = "../../compare/src/digest/colliding.rs"]
 mod colliding;
 mod cover;
 mod digest;
+mod fasta;
 #[path = "../../compare/src/ffi.rs"]
 #[allow(dead_code)]
 mod ffi;
@@ -34,6 +35,7 @@ fn main() {
         Some("cover") => cover::print(),
         Some("inference") => inference::print(),
         Some("lines") => lines::print(),
-        _ => panic!("digest, greatest, doubling, letters, forms, groups, cover, inference or lines"),
+        Some("fasta") => fasta::print(),
+        _ => panic!("digest, greatest, doubling, letters, forms, groups, cover, inference, lines or fasta"),
     }
 }
