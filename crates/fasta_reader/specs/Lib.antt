@@ -1,0 +1,2 @@
+-- What a reader has to believe: Places, and below it Entries of fasta.
+pub mod Places
