@@ -74,6 +74,9 @@ module _ (q : ℕ) (e : List ℕ) where
         let n = passed-second (goodName (entryName e)) (Name (q + 1)) (cond (ltb (goodLetters e) (length (entryLines e))) (Bad (Letter (q + 1 + runOf Line e + goodLetters e))) Passed) p in
         (n .0, passed-first (ltb (goodLetters e) (length (entryLines e))) (Letter (q + 1 + runOf Line e + goodLetters e)) Passed (n .1) .0)
 
+    pub passed-good : goodName (entryName e) ≡ true
+    passed-good = tests .0
+
     pub passed-name : length (entryName e) ≤ 64
     passed-name = good-name-length (entryName e) (tests .0)
 
