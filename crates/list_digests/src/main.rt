@@ -7,8 +7,6 @@
 // small letters read as capitals, in sets and in the protein.
 // A refusal is written with document 01's number and place. It holds 131,071 bytes of input and 131,072 digests, and
 // says so where that is too little: the library itself writes into whatever buffer it is lent.
-mod page;
-mod request;
 mod text;
 
 use letters::LetterSet;
@@ -39,13 +37,13 @@ fn say(line: &[u8]) {
 fn refuse(why: Refusal) {
     match why {
         Refusal::Room => say(b"there are more digests than the 131072 that this program holds"),
-        _ => page::refusal(why),
+        _ => text_digests::refusal(why),
     }
 }
 
 // Lists the digests of some letters.
 fn list(letters: &[u8], line: &[u8], out: &mut [u8]) {
-    let asked = request::read(line);
+    let asked = text_digests::read_request(line);
     let enzyme = asked.enzyme;
     let settings = asked.settings;
     let answer = enzyme::digest(
@@ -53,11 +51,11 @@ fn list(letters: &[u8], line: &[u8], out: &mut [u8]) {
         LetterSet::ALL,
         enzyme,
         settings,
-        asked.protein,
+        text_fields::decimal_at(line, 7),
         out,
     );
     match answer {
-        Counted::Count(count) => page::print_all(out, count),
+        Counted::Count(count) => text_digests::print_all(out, count),
         Counted::Refused(why) => refuse(why),
     }
 }

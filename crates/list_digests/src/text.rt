@@ -1,22 +1,6 @@
-// Sets of letters and sequences of a text.
-use letters::LetterSet;
+// The letters of a text.
 ghost use Prim.Native.Nat.{_≤_};
 ghost use lib.ListN.{length};
-
-// The set of the letters that begin at a place.
-pub(crate) fn set(line: &[u8], at: usize) -> LetterSet {
-    let mut found = LetterSet::EMPTY;
-    let mut i = at;
-    while i < line.len() {
-        let b = line[i];
-        if b == 32 {
-            return found;
-        }
-        found = found.insert(b);
-        i += 1;
-    }
-    found
-}
 
 // Puts a byte behind n others, where there is room: how many there are then.
 fn push(out: &mut [u8], n: usize, b: u8) -> usize

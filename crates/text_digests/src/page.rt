@@ -1,4 +1,4 @@
-// What is written.
+// What is written of digests, and of a refusal.
 use libc::STDOUT_FILENO;
 use records::Refusal;
 ghost use Prim.Native.Nat.{_≤_};
@@ -45,7 +45,7 @@ fn capped(count: u32) -> usize
 }
 
 // The first count records.
-pub(crate) fn print_all(out: &[u8], count: u32) {
+pub fn print_all(out: &[u8], count: u32) {
     let n = capped(count);
     let mut k = 0;
     while k < n {
@@ -54,9 +54,15 @@ pub(crate) fn print_all(out: &[u8], count: u32) {
     }
 }
 
-pub(crate) fn refusal(why: Refusal) {
+// A refusal's number and place, with no line end: the caller may know more.
+pub fn refused(why: u32, place: usize) {
     io::write_all(STDOUT_FILENO, b"refused: number ");
-    number(why.number(), b", place ");
-    io::print_decimal(STDOUT_FILENO, why.place() as u64);
+    number(why, b", place ");
+    io::print_decimal(STDOUT_FILENO, place as u64);
+}
+
+// The line of a refusal of which no more is known.
+pub fn refusal(why: Refusal) {
+    refused(why.number(), why.place());
     io::write_all(STDOUT_FILENO, b"\n");
 }

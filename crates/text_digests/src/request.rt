@@ -1,18 +1,32 @@
-// What the first line asks for.
-use crate::text::set;
-use enzyme::Enzyme;
-use enzyme::Kind;
-use enzyme::Settings;
-use enzyme::Side;
+// What a line of settings asks for: CLEAVE SKIP SIDE SEMI MISSED MINIMUM MAXIMUM, parted by single blanks.
+use enzyme_cuts::Enzyme;
+use enzyme_cuts::Kind;
+use enzyme_cuts::Side;
+use enzyme_spec::Settings;
+use letters::LetterSet;
 use text_fields::decimal_at;
 use text_fields::field;
 use text_fields::is_set;
 use text_fields::small_at;
 
-pub(crate) struct Request {
+pub struct Request {
     pub enzyme: Enzyme,
     pub settings: Settings,
-    pub protein: u32,
+}
+
+// The set of the letters that begin at a place.
+fn set(line: &[u8], at: usize) -> LetterSet {
+    let mut found = LetterSet::EMPTY;
+    let mut i = at;
+    while i < line.len() {
+        let b = line[i];
+        if b == 32 {
+            return found;
+        }
+        found = found.insert(b);
+        i += 1;
+    }
+    found
 }
 
 fn kind(line: &[u8]) -> Kind {
@@ -60,13 +74,8 @@ fn settings(line: &[u8]) -> Settings {
     }
 }
 
-pub(crate) fn read(line: &[u8]) -> Request {
+pub fn read_request(line: &[u8]) -> Request {
     let enzyme = enzyme(line);
     let settings = settings(line);
-    let protein = decimal_at(line, 7);
-    Request {
-        enzyme,
-        settings,
-        protein,
-    }
+    Request { enzyme, settings }
 }

@@ -2,8 +2,8 @@
 use Prim.Native.Nat.{_-_, _≤_}
 use native.Mathlib.Omega.{arith}
 use borrow.Author.Needs.{needs}
-use Rattle.list_digests.proofs.page.print_all.Statement.{statement}
-use Rattle.list_digests.proofs.page.print_all.Tie as tie
+use Rattle.text_digests.proofs.page.print_all.Statement.{statement}
+use Rattle.text_digests.proofs.page.print_all.Tie as tie
 
 abbrev Inv-loop : tie.InvT-loop
 Inv-loop out count n k₀ k = n ≤ 1048576

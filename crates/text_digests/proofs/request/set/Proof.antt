@@ -2,8 +2,8 @@
 use Prim.Native.Nat.{_-_}
 use lib.ListN.{length}
 use borrow.Author.Needs.{needs}
-use Rattle.list_digests.proofs.text.set.Statement.{statement}
-use Rattle.list_digests.proofs.text.set.Tie as tie
+use Rattle.text_digests.proofs.request.set.Statement.{statement}
+use Rattle.text_digests.proofs.request.set.Tie as tie
 
 abbrev Inv-loop : tie.InvT-loop
 Inv-loop line at found₀ i₀ found i = Unit {0}
