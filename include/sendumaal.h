@@ -23,7 +23,7 @@
 
 /* docs/CHANGES.md says what each version changed. The second number rises where a declaration, an answer or a refusal does. */
 #define SENDUMAAL_VERSION_MAJOR 0
-#define SENDUMAAL_VERSION_MINOR 5
+#define SENDUMAAL_VERSION_MINOR 6
 #define SENDUMAAL_VERSION_PATCH 0
 
 #ifdef __cplusplus
@@ -33,7 +33,7 @@ extern "C" {
 /* What a call refuses with, and what its place is then. */
 enum {
     SENDUMAAL_ACCEPTED = 0,
-    SENDUMAAL_SIZE = 1,        /* a size above its limit, or an empty peptide: 0 */
+    SENDUMAAL_SIZE = 1,        /* a size above its limit, or an empty peptide: 0; of an entry of a file: its '>' */
     SENDUMAAL_LETTER = 2,      /* in letters a byte that is no letter, or where masses are lent a letter of mass zero; in
                                   a rule text a byte of 128 or more: its index */
     SENDUMAAL_ALPHABET = 3,    /* alphabet bits above 25, or a letter of a set outside the alphabet: 0 */
@@ -45,8 +45,9 @@ enum {
     SENDUMAAL_FIELD = 9,       /* a field out of range: the record's index */
     SENDUMAAL_WORK = 10,       /* a work slice that is too short: 0 */
     SENDUMAAL_ROOM = 11,       /* no room: 0 */
-    SENDUMAAL_NAME = 12,       /* a bad name: its index; a bad decoy tag: 0 */
-    SENDUMAAL_REPEAT = 13      /* a name equal to an earlier one: its index */
+    SENDUMAAL_NAME = 12,       /* a bad name: its index; of an entry of a file: the byte behind '>'; a bad decoy tag: 0 */
+    SENDUMAAL_REPEAT = 13,     /* a name equal to an earlier one: its index */
+    SENDUMAAL_STRAY = 14       /* in a file a byte other than a line end before the first '>': its index */
 };
 
 #define SENDUMAAL_NO_LETTERS UINT32_C(0)
@@ -74,6 +75,27 @@ uint32_t sendumaal_letters_test(const uint8_t *letters, size_t letters_len, size
  * protein whose name stands twice passes them as two. Refuses with 1 (more than 65536 names), 8 (not whole names), then, at
  * the lowest place, 12 (no name) or 13 (equal to an earlier one). It takes less than 0.6 MB of stack. */
 uint32_t sendumaal_names_test(const uint8_t *names, size_t names_len, size_t *place);
+
+/* ---- sequence files ----
+ * A line ends with LF or CR LF, the last one also with the file; a CR that no LF follows is an ordinary byte. A line that
+ * starts with '>' opens an entry. Its name is what follows up to the first space, tab or line end; the rest of that line is
+ * ignored, whatever it holds. The other lines up to the next that starts with '>', put together, are its letters. Empty
+ * lines are skipped. */
+
+/* Reads the entry at a place of a file, as if the file began there: begin with at = 0, and go on with at = *next as long as
+ * *found is 1. Refuses with 9 (at is above bytes_len: 0); 14 (a byte other than a line end before the first '>': its index);
+ * 1 (more than 65536 letters, bad ones counted too: the index of the entry's '>'); 12 (a name that is not 1 to 64 bytes from
+ * 33 to 126: the index of the byte behind '>'); 2 (a byte that is no letter: its index); 11 (name_len is below 64, or
+ * letters_len below the number of letters): the name stands if name_len is 64 or more, and so do the letters that fit. All
+ * indexes count from the first byte of bytes.
+ * Accepted: *found is 1, the first 64 bytes of name are the name as a record of a catalogue, the first *count bytes of
+ * letters are the entry's letters as capitals, and *next is the place behind the entry, which is above at. Or only line
+ * ends are left: *found is 0, and *next and *count stay. The rest of name and of letters stays. An entry may have no
+ * letters. Equal names are no refusal here: sendumaal_names_test tells them. It takes time for the bytes up to *next, and
+ * at a refusal for those up to the entry's end. */
+uint32_t sendumaal_fasta_entry(const uint8_t *bytes, size_t bytes_len, size_t at,
+                               uint8_t *name, size_t name_len, uint8_t *letters, size_t letters_len,
+                               size_t *next, uint32_t *count, uint32_t *found, size_t *place);
 
 /* ---- rules ----
  * A kind is 0 for a residue, 1 for ^, 2 for $, 3 for [, 4 for ]. A letter is 'A' to 'Z', or 0 for none, which kind 0

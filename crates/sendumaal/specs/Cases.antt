@@ -1,22 +1,23 @@
 -- Document 01, "Examples (P: proved of the rules)": P1, P3, P4, P5, P6, P8, P10 and P11, with further cases of the crates, in one table under
 -- one claim.
-use Prim.Native.Nat.{ℕ, _-_}
+use Prim.Native.Nat.{ℕ}
 use mathlib.Core.Path.{refl}
 use mathlib.Core.Bool.{cond}
 use mathlib.Core.List.{List, [], _∷_, _++_, flatten, map}
-use lib.ListN.{length, getD, replicate}
+use lib.ListN.{getD}
 use lib.Dec.{eqb}
 use Rattle.lists.specs.Lists.{keep}
 use Rattle.records.specs.Cases.{Case, Hold}
 use Rattle.records.specs.CaseLaws.{Table, holding, allOf}
 use Rattle.records.specs.Search.{seek}
 use Rattle.letters.specs.Letters.{capital, isLetter, bitSet, has, inserted}
-use Rattle.catalogue_spec.specs.Names.{nameLength, zerosTo, namesTested}
+use Rattle.catalogue_spec.specs.Names.{nameLength, zerosTo, padded, namesTested}
 use Rattle.cover_spec.specs.Cover.{markForced, coverMarked, stays, pass, trimPasses, greatest, mark, choose, turn, turns, cover, listed, coverList}
 use Rattle.protein_groups_members.specs.Members.{Member}
 use Rattle.protein_groups_spec.specs.ProteinGroups.{Pair, Groups, proteins, metas, groupsOf, grouping}
 use Rattle.sorting.specs.Cases.{table as orders, cases as orders-hold}
 use Rattle.catalogue_spec.specs.Cases.{table as books, cases as books-hold}
+use Rattle.fasta.specs.Cases.{table as entries, cases as entries-hold}
 use Rattle.modification.specs.Cases.{table as rules, cases as rules-hold}
 use Rattle.enzyme_spec.specs.Cases.{table as digests, cases as digests-hold}
 use Rattle.peptide_choices.specs.Cases.{table as choices, cases as choices-hold}
@@ -101,14 +102,9 @@ sets-hold : Hold sets
 unfolding isLetter capital bitSet has inserted asked put sets
 sets-hold = refl
 
--- a name of these bytes
-name : List ℕ → List ℕ
-name t = t ++ replicate (64 - length t) 0
-
 -- the proteins P1, P2 and P3
 three : List ℕ
-unfolding name
-three = name (80 ∷ 49 ∷ []) ++ (name (80 ∷ 50 ∷ []) ++ name (80 ∷ 51 ∷ []))
+three = padded (80 ∷ 49 ∷ []) ++ (padded (80 ∷ 50 ∷ []) ++ padded (80 ∷ 51 ∷ []))
 
 -- a catalogue, and the number and the place that its test gives
 test : List ℕ → ℕ → ℕ → Case
@@ -121,16 +117,16 @@ names =
     -- 8: a part of a name
     ∷ test (three ++ (32 ∷ [])) 8 0
     -- 12: no bytes; a space; a byte behind the zeros
-    ∷ test (three ++ name []) 12 3
-    ∷ test (three ++ name (80 ∷ 32 ∷ 49 ∷ [])) 12 3
-    ∷ test (name (80 ∷ 0 ∷ 49 ∷ []) ++ three) 12 0
+    ∷ test (three ++ padded []) 12 3
+    ∷ test (three ++ padded (80 ∷ 32 ∷ 49 ∷ [])) 12 3
+    ∷ test (padded (80 ∷ 0 ∷ 49 ∷ []) ++ three) 12 0
     -- 13: one accession twice, at the later; 12 where a bad name stands before it
-    ∷ test (three ++ name (80 ∷ 50 ∷ [])) 13 3
-    ∷ test (name [] ++ (three ++ name (80 ∷ 50 ∷ []))) 12 0
+    ∷ test (three ++ padded (80 ∷ 50 ∷ [])) 13 3
+    ∷ test (padded [] ++ (three ++ padded (80 ∷ 50 ∷ []))) 12 0
     ∷ []
 
 names-hold : Hold names
-unfolding seek nameLength zerosTo namesTested name three test names
+unfolding seek nameLength zerosTo namesTested three test names
 names-hold = refl
 
 tables : List Table
@@ -138,6 +134,7 @@ tables =
     holding sets sets-hold
     ∷ holding orders orders-hold
     ∷ holding books books-hold
+    ∷ holding entries entries-hold
     ∷ holding rules rules-hold
     ∷ holding digests digests-hold
     ∷ holding choices choices-hold

@@ -1,5 +1,6 @@
 // The C face: the entries of the library over numbers, slices and results, as include/sendumaal.h declares them.
 mod digests;
+mod files;
 mod groups;
 mod names;
 mod peptides;
@@ -12,6 +13,7 @@ pub use digests::sendumaal_digest;
 pub use digests::sendumaal_digest_letters;
 pub use digests::sendumaal_digest_reverse;
 pub use digests::sendumaal_letters_reverse;
+pub use files::sendumaal_fasta_entry;
 pub use groups::sendumaal_cover;
 pub use groups::sendumaal_group_digests;
 pub use groups::sendumaal_update;

@@ -1,5 +1,6 @@
 // How arguments and answers pass through the C face. Only crates of this repository call these.
 mod enzymes;
+mod files;
 mod peptides;
 mod rules;
 mod telling;
@@ -7,6 +8,7 @@ mod telling;
 pub use enzymes::enzyme_numbered;
 pub use enzymes::is_enzyme;
 pub use enzymes::told_field;
+pub use files::told_entry;
 pub use peptides::flipped;
 pub use peptides::peptide_of;
 pub use peptides::test_reverse;
