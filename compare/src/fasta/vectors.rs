@@ -12,7 +12,7 @@ use crate::sample::{Limits, Sample};
 const FILES: usize = 3_000;
 /// There are few files without entries.
 const LIMITS: Limits =
-    Limits { lines: 600, bytes: 250_000, longest: 1_600, of_the_sort: 12, long: 60, short: 600 };
+    Limits { lines: 600, bytes: 60_000, longest: 1_600, of_the_sort: 12, long: 12, short: 200 };
 
 /// Files without entries, and such as stand in databases.
 fn examples() -> Vec<Vec<u8>> {
