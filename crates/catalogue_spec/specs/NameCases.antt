@@ -1,7 +1,7 @@
 -- Worked cases of a catalogue, proved of the definitions: refusal 0 is none.
 use Prim.Native.Nat.{ℕ}
 use mathlib.Core.Path.{refl}
-use mathlib.Core.List.{List, [], _∷_, _++_, flatten, map}
+use mathlib.Core.List.{List, [], _∷_, flatten, map}
 use lib.ListN.{replicate}
 use Rattle.records.specs.Refusals.{numberOf, placeOf}
 use Rattle.records.specs.declared.refusal.Tested.{Tested}

@@ -16,7 +16,6 @@ use Rattle.letters.specs.Letters.{capitals}
 use Rattle.catalogue_spec.specs.Names.{nameLength, padded}
 use Rattle.fasta_lines.specs.declared.runs.Run.the-variants.{Ends, Line, Word, Letters}
 use Rattle.fasta_lines.specs.Lines.{runOf, together, entryLength}
-use Rattle.fasta.specs.declared.entry.Entry.{Entry}
 use Rattle.fasta.specs.declared.entry.Read.{Read}
 use Rattle.fasta.specs.declared.entry.Read.the-variants.{Found, Nothing, Long, Refused}
 

@@ -1,14 +1,14 @@
 -- What the code of reading shows, in the words of the definitions. Assumes nothing.
 use Prim.Native.Nat.{ℕ, zero, suc, _+_, _-_, _≤_, _<_}
-use mathlib.Core.Path.{_≡_, refl, sym, ap, ap₂, _∙_}
-use mathlib.Core.Bool.{Bool, true, false, cond, _&&_}
+use mathlib.Core.Path.{_≡_, refl, sym, ap, _∙_}
+use mathlib.Core.Bool.{true, false, cond, _&&_}
 use mathlib.Core.Logic.{⊎-elim}
 use mathlib.Core.List.{List, [], _∷_, _++_}
 use native.Mathlib.Omega.{arith}
 use native.Mathlib.Nat.{add-sub-cancel-left}
 use native.Mathlib.Numerals.{add-one}
-use lib.ListN.{length, take, drop, getD, set, replicate, drop-of-length-le, length-drop, length-append, length-map, length-replicate, List·getD-append}
-use lib.Seq.{drop-cons, drop-drop, sets, getD-append-add}
+use lib.ListN.{length, take, drop, getD, set, replicate, drop-of-length-le, length-append, length-map, length-replicate}
+use lib.Seq.{drop-cons, drop-drop, sets}
 use lib.Dec.{ltb, leb, eqb}
 use borrow.Author.Tests.{lt-ltb, le-ltb, le-leb, lt-leb, leb-true, ltb-false, eq-eqb, ne-eqb}
 use Rattle.lists.specs.Tests.{below?, both}
@@ -16,7 +16,7 @@ use Rattle.lists.specs.FrameLaws.{zeros-at}
 use Rattle.records.specs.declared.refusal.Refusal.{Refusal}
 use Rattle.records.specs.declared.refusal.Refusal.the-variants.{Letter, Field, Room, Name, Stray}
 use Rattle.records.specs.declared.refusal.Tested.the-variants.{Passed, Refused as Bad}
-use Rattle.records.specs.Outcome.{Outcome, outcome}
+use Rattle.records.specs.Outcome.{outcome}
 use Rattle.records.specs.Room.{fits, fitted, singly}
 use Rattle.records.specs.TestedLaws.{passed-first, passed-second}
 use Rattle.records.specs.RoomLaws.{stored-text, fits-text, fits-one, full-one}

@@ -4,12 +4,12 @@ use Prim.Native.Nat.{ℕ, suc, _+_, _-_, _≤_, _<_}
 use mathlib.Core.Path.{_≡_, refl, sym, ap, subst, _∙_}
 use mathlib.Core.Bool.{Bool, true, false, cond, _&&_, _||_}
 use mathlib.Core.Logic.{⊎-elim}
-use mathlib.Core.List.{List, [], _∷_, _++_}
+use mathlib.Core.List.{List, [], _∷_}
 use native.Mathlib.Omega.{arith}
 use lib.ListN.{length, take, drop, getD, length-take, length-drop, length-map, List·getD-eq-default}
 use lib.Seq.{sets, sets-eq, take-at}
 use lib.Dec.{ltb, leb, eqb}
-use borrow.Author.Tests.{ltb-true, ltb-false, lt-ltb, leb-true, eqb-true, eq-eqb}
+use borrow.Author.Tests.{ltb-true, ltb-false, lt-ltb, leb-true, eqb-true}
 use Rattle.lists.specs.Lists.{All}
 use Rattle.lists.specs.Tests.{below?, both, clash}
 use Rattle.records.specs.declared.refusal.Refusal.{Refusal}
@@ -30,7 +30,7 @@ use Rattle.fasta_lines.specs.LineLaws.{run-bound}
 use Rattle.fasta.specs.declared.entry.Entry.{Entry}
 use Rattle.fasta.specs.declared.entry.Read.{Read}
 use Rattle.fasta.specs.declared.entry.Read.the-variants.{Found, Nothing, Long, Refused}
-use Rattle.fasta.specs.Entries.{entryName, entryLines, entryLetters, tooLong, goodName, goodLetters, entryTested, givenOutcome, entryOutcome, openedOutcome, fileOutcome, readOutcome}
+use Rattle.fasta.specs.Entries.{entryName, entryLines, entryLetters, tooLong, goodName, entryTested, givenOutcome, entryOutcome, openedOutcome, fileOutcome, readOutcome}
 use Rattle.fasta.specs.EntryLaws.{length-padded, padded-at, passed-good, passed-name, passed-letters}
 
 -- ---- an entry that was found is no other answer

@@ -1,7 +1,7 @@
 -- What the code of the call on a sequence file shows, in the words of its definition. Assumes nothing.
 use Prim.Native.Nat.{ℕ}
 use mathlib.Core.Path.{_≡_, ap, _∙_}
-use mathlib.Core.List.{List, [], _∷_}
+use mathlib.Core.List.{List}
 use Rattle.records.specs.Outcome.{Outcome, outcome}
 use Rattle.fasta.specs.declared.entry.Read.{Read}
 use Rattle.fasta.specs.Entries.{readOutcome}

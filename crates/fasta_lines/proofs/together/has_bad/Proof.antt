@@ -5,12 +5,11 @@ use mathlib.Core.Bool.{Bool, not, _||_}
 use native.Mathlib.Omega.{arith}
 use denote.Ref.{now}
 use lib.ListN.{length, drop, getD}
-use lib.Dec.{ltb}
 use borrow.Author.Needs.{needs}
 use borrow.Author.Tests.{le-ltb}
 use Rattle.fasta_lines.specs.declared.runs.Run.the-variants.{Letters}
 use Rattle.fasta_lines.specs.Lines.{goesOn, runOf}
-use Rattle.fasta_lines.specs.LineLaws.{badByte, someBad, bad-on, bad-end}
+use Rattle.fasta_lines.specs.LineLaws.{someBad, bad-on, bad-end}
 use Rattle.fasta_lines.proofs.together.has_bad.Statement.{statement}
 use Rattle.fasta_lines.proofs.together.has_bad.Tie as tie
 

@@ -1,9 +1,7 @@
 -- `told_entry` meets its contract. Assumes nothing.
-use Prim.Native.Nat.{ℕ}
 use mathlib.Core.Path.{_≡_, sym, ap, _∙_}
 use mathlib.Core.List.{[], _∷_}
 use denote.Ref.{now}
-use Rattle.records.specs.Outcome.{Outcome}
 use Rattle.fasta.specs.declared.entry.Read.{Read}
 use Rattle.fasta.specs.declared.entry.Read.the-variants.{Nothing}
 use Rattle.sendumaal_calls.specs.FileCalls.{foundCall}

@@ -3,9 +3,8 @@ use borrow.Author.Needs.{needs}
 use Prim.Native.Nat.{_+_, _≤_}
 use mathlib.Core.Path.{_≡_}
 use lib.ListN.{length}
-use native.Mathlib.Omega.{arith}
-use Rattle.replay_entries.proofs.are_entries.Statement.{statement}
-use Rattle.replay_entries.proofs.are_entries.Tie as tie
+use Rattle.replay_entries.proofs.entries.are_entries.Statement.{statement}
+use Rattle.replay_entries.proofs.entries.are_entries.Tie as tie
 
 abbrev Inv-loop : tie.InvT-loop
 Inv-loop file list name₀ letters₀ left₀ at₀ item₀ name letters left at item = (length name ≡ 64) × (length letters ≡ 4096) × (item ≤ length list + 1)

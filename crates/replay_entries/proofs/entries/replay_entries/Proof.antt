@@ -2,8 +2,8 @@
 use mathlib.Core.Path.{sym}
 use lib.Seq.{length-take-le}
 use borrow.Author.Needs.{needs}
-use Rattle.replay_entries.proofs.replay_entries.Statement.{statement}
-use Rattle.replay_entries.proofs.replay_entries.Tie as tie
+use Rattle.replay_entries.proofs.entries.replay_entries.Statement.{statement}
+use Rattle.replay_entries.proofs.entries.replay_entries.Tie as tie
 
 slice-aggregate-are-entries-2 : tie.Need-slice-aggregate-are-entries-2
 slice-aggregate-are-entries-2 c = sym (length-take-le _ _ (c .before .before .content .ensures))

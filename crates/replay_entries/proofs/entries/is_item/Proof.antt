@@ -2,8 +2,8 @@
 use mathlib.Core.Path.{sym}
 use lib.Seq.{length-take-le}
 use borrow.Author.Needs.{needs}
-use Rattle.replay_entries.proofs.is_item.Statement.{statement}
-use Rattle.replay_entries.proofs.is_item.Tie as tie
+use Rattle.replay_entries.proofs.entries.is_item.Statement.{statement}
+use Rattle.replay_entries.proofs.entries.is_item.Tie as tie
 
 slice-aggregate-is-name : tie.Need-slice-aggregate-is-name
 slice-aggregate-is-name c = sym (length-take-le _ _ (c .before .before .next .ensures .1))
