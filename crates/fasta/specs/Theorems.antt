@@ -1,5 +1,5 @@
 -- What an entry that was found is: it lies behind the place read at and within the file, its name is a name of a catalogue, and its
--- letters are letters. Assumes nothing.
+-- letters are letters. And a file may be read in pieces. Assumes nothing.
 use Prim.Native.Nat.{ℕ, suc, _+_, _-_, _≤_, _<_}
 use mathlib.Core.Path.{_≡_, refl, sym, ap, subst, _∙_}
 use mathlib.Core.Bool.{Bool, true, false, cond, _&&_, _||_}
@@ -7,9 +7,9 @@ use mathlib.Core.Logic.{⊎-elim}
 use mathlib.Core.List.{List, [], _∷_}
 use native.Mathlib.Omega.{arith}
 use lib.ListN.{length, take, drop, getD, length-take, length-drop, length-map, List·getD-eq-default}
-use lib.Seq.{sets, sets-eq, take-at}
+use lib.Seq.{sets, sets-eq, take-at, take-all}
 use lib.Dec.{ltb, leb, eqb}
-use borrow.Author.Tests.{ltb-true, ltb-false, lt-ltb, leb-true, eqb-true}
+use borrow.Author.Tests.{ltb-true, ltb-false, lt-ltb, le-ltb, leb-true, eqb-true}
 use Rattle.lists.specs.Lists.{All}
 use Rattle.lists.specs.Tests.{below?, both, clash}
 use Rattle.records.specs.declared.refusal.Refusal.{Refusal}
@@ -228,3 +228,35 @@ module _ (f : Entry) (bytes : List ℕ) (at : ℕ) (n l : List ℕ) where
         let read : take (f .letters) letters ≡ capitals t = ap (λ (m : ℕ). take m letters) (room .count ∙ sym same) ∙ ap (take (length (capitals t))) e ∙ text-taken (capitals t) l (omega (arith, same, few)) (room .spelt) in
         let good : All (λ (b : ℕ). isCapital b ≡ true) (capitals t) = all-capitals t (all-letters (entryLines (found .e)) (passed-letters (found .q) (found .e) (found .passed))) in
         (omega (arith, room .count, few), subst (All (λ (b : ℕ). isCapital b ≡ true)) (sym read) good)
+
+-- ---- a piece that goes from a `>` up to the next line that starts with one reads as the file does
+
+-- the piece ends where it is cut
+length-again : (s : List ℕ) → entryLength (take (entryLength s) s) ≡ entryLength s
+length-again [] = refl
+length-again (b ∷ s) = go (eqb b 10 && eqb (getD s 0 0) 62) refl (length-again s)
+  where
+    -- what stands behind a byte that is passed by is the same
+    next : getD (take (entryLength s) s) 0 0 ≡ getD s 0 0
+    next = head s
+      where
+        head : (s : List ℕ) → getD (take (entryLength s) s) 0 0 ≡ getD s 0 0
+        head [] = refl
+        head (c ∷ r) = refl
+
+    one : (t : Bool) → suc (cond t 0 0) ≡ 1
+    one true = refl
+    one false = refl
+
+    go : (t : Bool) → (eqb b 10 && eqb (getD s 0 0) 62) ≡ t → entryLength (take (entryLength s) s) ≡ entryLength s
+        → entryLength (take (suc (cond t 0 (entryLength s))) (b ∷ s)) ≡ suc (cond t 0 (entryLength s))
+    go true e h = one (eqb b 10 && eqb 0 62)
+    go false e h = let f : (eqb b 10 && eqb (getD (take (entryLength s) s) 0 0) 62) ≡ false = rw next e in rw (f, h)
+
+pub piece-reads : (s n l : List ℕ) → readOutcome (62 ∷ take (entryLength s) s) 0 n l ≡ readOutcome (62 ∷ s) 0 n l
+piece-reads s n l =
+    let p : List ℕ = take (entryLength s) s in
+    let e : take (entryLength p) p ≡ p = take-all (entryLength p) p (omega (arith, length-again s, length-take (entryLength s) s)) in
+    let f : ltb (length (62 ∷ p)) 0 ≡ false = le-ltb (length (62 ∷ p)) 0 (omega arith) in
+    let g : ltb (length (62 ∷ s)) 0 ≡ false = le-ltb (length (62 ∷ s)) 0 (omega arith) in
+    rw (f, g) (ap (λ (z : List ℕ). entryOutcome 0 z n l) e)
