@@ -159,3 +159,24 @@ kept s minimum maximum ks r = cond (wanted s minimum maximum ks r) (ks ++ (r ∷
 -- the digests of the letters s
 abbrev pub digests : Enzyme → ℕ → ℕ → ℕ → List ℕ → List Range
 digests e missed minimum maximum s = foldl (kept s minimum maximum) [] (candidates e missed minimum maximum s)
+
+-- ---- document 02, [7]: "the number of different ranges among the sites of that protein whose letters equal this peptide's"
+
+-- whether a range with this start and this end stands in the list
+abbrev pub standsIn : Range → List Range → Bool
+standsIn r [] = false
+standsIn r (q ∷ qs) = (eqb (q .from) (r .from) && eqb (q .to) (r .to)) || standsIn r qs
+
+-- the different ranges: each start and end once, whatever missed and semi say
+abbrev pub different : List Range → List Range
+different [] = []
+different (r ∷ rs) = cond (standsIn r rs) (different rs) (r ∷ different rs)
+
+-- how many of the ranges have the letters x
+abbrev pub having : List ℕ → List Range → List ℕ → ℕ
+having s [] x = 0
+having s (q ∷ qs) x = cond (same (part s q) x) (suc (having s qs x)) (having s qs x)
+
+-- how often the letters of r occur among the sites
+abbrev pub occurs : List ℕ → List Range → Range → ℕ
+occurs s sites r = having s (different sites) (part s r)

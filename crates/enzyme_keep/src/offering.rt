@@ -27,8 +27,8 @@ pub fn length_within(len: usize, minimum: u32, maximum: u32) -> bool
     (1 <= len) & (minimum as usize <= len) & (len <= maximum as usize)
 }
 
-// Writes the record of a..e behind the first count records, where it is wanted and there is room, with `last` where the
-// protein's number stands.
+// Writes the record of a..e, which occurs so many times, behind the first count records, where it is wanted and there is room, with
+// `last` where the protein's number stands.
 pub fn write_range(
     wanted: bool,
     a: usize,
@@ -37,19 +37,20 @@ pub fn write_range(
     semi: u8,
     n: usize,
     last: u32,
+    times: u32,
     out: &mut [u8],
     count: usize,
 ) -> Step
     requires { ⌜ (a ≤ 65536) × (e ≤ 65536) ⌝ }
-    ensures { λ r. ⌜ after r (now (out .exit)) ≡ decided wanted (ltb count (digestRoom (now (out .entry)))) count (now (out .entry)) (recordOf n last (range a e missed semi)) ⌝ }
+    ensures { λ r. ⌜ after r (now (out .exit)) ≡ decided wanted (ltb count (digestRoom (now (out .entry)))) count (now (out .entry)) (recordOf n last (range a e missed semi) times) ⌝ }
 {
     if !wanted {
         return Step::Kept(count);
     }
-    if records::room_for(out.len(), 16, 1048576) <= count {
+    if records::room_for(out.len(), 20, 1048576) <= count {
         return Step::Full;
     }
-    put_record(out, 16 * count, a, e, missed, semi, n, last);
+    put_record(out, 20 * count, a, e, missed, semi, n, last, times);
     let next = count + 1;
     Step::Kept(next)
 }

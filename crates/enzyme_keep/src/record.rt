@@ -41,7 +41,7 @@ pub(crate) fn put_number(out: &mut [u8], at: usize, n: u32)
     put_four(out, at, a, b, c, d);
 }
 
-// Writes the record of a range of a protein of n letters, with `last` where the protein's number stands.
+// Writes the record of a range of a protein of n letters, which occurs so many times, with `last` where the protein's number stands.
 pub fn put_record(
     out: &mut [u8],
     at: usize,
@@ -51,9 +51,10 @@ pub fn put_record(
     semi: u8,
     n: usize,
     last: u32,
+    times: u32,
 )
-    requires { ⌜ (at + 16 ≤ length (now out)) × (a ≤ 65536) × (e ≤ 65536) ⌝ }
-    ensures { λ _. ⌜ now (out .exit) ≡ sets (now (out .entry)) at (recordOf n last (range a e missed semi)) ⌝ }
+    requires { ⌜ (at + 20 ≤ length (now out)) × (a ≤ 65536) × (e ≤ 65536) ⌝ }
+    ensures { λ _. ⌜ now (out .exit) ≡ sets (now (out .entry)) at (recordOf n last (range a e missed semi) times) ⌝ }
 {
     let start = a as u32;
     let end = e as u32;
@@ -62,4 +63,5 @@ pub fn put_record(
     put_number(out, at + 4, end);
     put_four(out, at + 8, missed, semi, place, 0);
     put_number(out, at + 12, last);
+    put_number(out, at + 16, times);
 }

@@ -8,20 +8,20 @@ ghost use Rattle.enzyme_keep.specs.Buffer.{sealed};
 
 // Writes p where the links of the first count records stand.
 pub fn seal(out: &mut [u8], count: usize, p: u32)
-    requires { ⌜ 16 * count ≤ length (now out) ⌝ }
+    requires { ⌜ 20 * count ≤ length (now out) ⌝ }
     ensures { λ _. ⌜ now (out .exit) ≡ sealed p count (now (out .entry)) ⌝ }
 {
     let mut k = 0;
     while k < count {
-        put_number(out, 16 * k + 12, p);
+        put_number(out, 20 * k + 12, p);
         k += 1;
     }
 }
 
 // The same for all the records for which there is room.
 pub fn seal_all(out: &mut [u8], p: u32)
-    ensures { λ _. ⌜ now (out .exit) ≡ sealed p (roomOf 16 1048576 (now (out .entry))) (now (out .entry)) ⌝ }
+    ensures { λ _. ⌜ now (out .exit) ≡ sealed p (roomOf 20 1048576 (now (out .entry))) (now (out .entry)) ⌝ }
 {
-    let n = records::room_for(out.len(), 16, 1048576);
+    let n = records::room_for(out.len(), 20, 1048576);
     seal(out, n, p);
 }
