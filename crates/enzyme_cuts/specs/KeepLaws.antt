@@ -14,7 +14,7 @@ use Rattle.enzyme_cuts.specs.declared.kinds.Kind.{Kind}
 use Rattle.enzyme_cuts.specs.declared.kinds.Kind.the-variants.{None, End, Set}
 use Rattle.enzyme_cuts.specs.declared.kinds.Enzyme.{Enzyme}
 use Rattle.enzyme_cuts.specs.declared.kinds.Knife.{Knife}
-use Rattle.enzyme_cuts.specs.Cutting.{Range, range, site, knife, meant, cutsAt, cutOf, setSites, endSites, windows, windowsFrom, withWindows, halves, semiOf, semis, withSemis, sitesOf, part, seenIn, within, wanted, digests, kept}
+use Rattle.enzyme_cuts.specs.Cutting.{Range, range, site, span, knife, meant, cutsAt, cutOf, setSites, endSites, windows, windowsFrom, withWindows, halves, semiOf, semis, withSemis, sitesOf, part, seenIn, within, wanted, digests, kept}
 use Rattle.enzyme_cuts.specs.Work.{innerHalves, partsOf, allParts, setWindows, setWork, workOf, work}
 
 pub seenIn-append : (s : List ℕ) (ks qs : List Range) (new : List ℕ) → seenIn s (ks ++ qs) new ≡ (seenIn s ks new || seenIn s qs new)
@@ -121,6 +121,14 @@ windows-zero k left i (b ∷ bs) = go (cutsAt k b bs) (λ lo. windows-zero k lo 
     go true ih = ap (λ (rs : List Range). site left cut ∷ rs) (ih cut)
     go false ih = ih left
 
+-- of two sites there is one window of two, and none of more
+no-more : (m n : ℕ) (r q : Range) → windowsFrom (suc (suc m)) n (r ∷ q ∷ []) ≡ []
+no-more m zero r q = refl
+no-more m (suc n) r q = rw (drop-nil {A = Range} m) (no-more (suc m) n r q)
+
+pub end-windows : (m : ℕ) (r q : Range) → windowsFrom 0 (suc (suc m)) (r ∷ q ∷ []) ≡ span 0 r r ∷ span 0 q q ∷ span 1 r q ∷ []
+end-windows m r q = rw (no-more 0 m r q)
+
 module _ (s : List ℕ) (mn mx : ℕ) where
   -- the sites and the windows of one site: once is enough
   once : (b : Bool) (ks ss : List Range) → windows 0 ss ≡ ss → (missed : ℕ)
@@ -154,10 +162,6 @@ module _ (s : List ℕ) (mn mx : ℕ) where
           ap (foldl (kept s mn mx) []) (append-nil (allParts false all)) ∙ plain ∙ ap (foldl (kept s mn mx) []) (sym (append-nil base))
 
   -- "end": the whole protein alone
-  no-more : (m n : ℕ) (r q : Range) → windowsFrom (suc (suc m)) n (r ∷ q ∷ []) ≡ []
-  no-more m zero r q = refl
-  no-more m (suc n) r q = rw (drop-nil {A = Range} m) (no-more (suc m) n r q)
-
   end-work : (n missed : ℕ) → foldl (kept s mn mx) [] (site 0 n ∷ []) ≡ foldl (kept s mn mx) [] (withWindows missed (endSites n))
   end-work n missed =
       let K = kept s mn mx [] (site 0 n) in

@@ -16,7 +16,7 @@ use Rattle.letters.specs.Letters.{capitals, empty, proper, subset, firstBad}
 use Rattle.enzyme_cuts.specs.declared.kinds.Kind.{Kind}
 use Rattle.enzyme_cuts.specs.declared.kinds.Kind.the-variants.{None, End, Set}
 use Rattle.enzyme_cuts.specs.declared.kinds.Enzyme.{Enzyme}
-use Rattle.enzyme_cuts.specs.Cutting.{digests}
+use Rattle.enzyme_cuts.specs.Cutting.{Range, candidates, digests, occurs}
 use Rattle.enzyme_keep.specs.Digests.{recordOf}
 use Rattle.enzyme_spec.specs.declared.settings.Settings.{Settings}
 use Rattle.records.specs.declared.refusal.Counted.{Counted}
@@ -47,14 +47,16 @@ tested s alphabet e st =
     (cond (badSets e alphabet) (Refused Alphabet)
     (cond (ltb (firstBad s) (length s)) (Refused (Letter (firstBad s))) Passed))
 
--- the digests as records, decoy 0, the protein as given
+-- the digests as records, decoy 0, the protein as given, and how often the letters occur among the sites (document 02, [7])
 abbrev pub digestRecords : Enzyme → ℕ → ℕ → ℕ → ℕ → List ℕ → List (List ℕ)
-digestRecords e missed minimum maximum protein s = map (recordOf (length s) protein) (digests e missed minimum maximum s)
+digestRecords e missed minimum maximum protein s =
+    let sites = candidates e missed minimum maximum s in
+    map (λ (r : Range). recordOf (length s) protein r (occurs s sites r)) (digests e missed minimum maximum s)
 
--- then 11: a list of at most 1,048,576 records of 16 bytes, those of the letters as capitals
+-- then 11: a list of at most 1,048,576 records of 20 bytes, those of the letters as capitals
 abbrev pub digestOutcome : List ℕ → LetterSet → Enzyme → Settings → ℕ → List ℕ → Outcome Counted
 digestOutcome s alphabet e st protein old =
-    unlessRefused (tested s alphabet e st) No (old ∷ []) (counted 16 1048576 old (digestRecords e (st .missed) (st .minimum) (st .maximum) protein (capitals s)))
+    unlessRefused (tested s alphabet e st) No (old ∷ []) (counted 20 1048576 old (digestRecords e (st .missed) (st .minimum) (st .maximum) protein (capitals s)))
 
 -- no second answer and no second contents meet the contract of `digest`
 pub digest-only : (s : List ℕ) (alphabet : LetterSet) (e : Enzyme) (st : Settings) (protein : ℕ) (old : List ℕ) (r q : Counted) (k l : List ℕ)

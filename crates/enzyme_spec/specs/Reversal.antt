@@ -31,9 +31,9 @@ reverseOutcome s = unlessRefused (stretchTested s) Refused (s ∷ []) (outcome P
 
 -- ---- of a record
 
--- 8: not the 16 bytes of one record; then 9
+-- 8: not the 20 bytes of one record; then 9
 abbrev pub recordTested : List ℕ → Tested
-recordTested r = cond (eqb (length r) 16) (cond (goodRecord r) Passed (Refused (Field 0))) (Refused Length)
+recordTested r = cond (eqb (length r) 20) (cond (goodRecord r) Passed (Refused (Field 0))) (Refused Length)
 
 -- decoy, the byte at 11, is 1: a decoy stays as it was
 abbrev pub reverseRecordOutcome : List ℕ → Outcome Tested
@@ -51,7 +51,7 @@ recordLetters s r = lettersOf (isDecoy r) (rangeLetters s (startOf r) (endOf r))
 abbrev pub spellingTested : List ℕ → List ℕ → Tested
 spellingTested s r =
     cond (ltb 65536 (length s)) (Refused Size)
-    (cond (eqb (length r) 16)
+    (cond (eqb (length r) 20)
     (cond (ltb (firstBad s) (length s)) (Refused (Letter (firstBad s)))
     (cond (goodRecord r && leb (endOf r) (length s)) Passed (Refused (Field 0))))
     (Refused Length))

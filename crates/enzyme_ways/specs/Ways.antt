@@ -1,6 +1,5 @@
 -- The ranges that each way to the digests goes through. The public statement does not cite this.
 use Prim.Native.Nat.{ℕ}
-use mathlib.Core.Bool.{true, false, cond}
 use mathlib.Core.List.{List, [], _∷_}
 use lib.ListN.{length}
 use Rattle.letters.specs.Letters.{capitals}
@@ -8,18 +7,16 @@ use Rattle.enzyme_cuts.specs.declared.kinds.Kind.{Kind}
 use Rattle.enzyme_cuts.specs.declared.kinds.Kind.the-variants.{None, End, Set}
 use Rattle.enzyme_cuts.specs.declared.kinds.Enzyme.{Enzyme}
 use Rattle.enzyme_cuts.specs.Cutting.{Range, site, knife, noneSites, meant}
-use Rattle.enzyme_cuts.specs.Work.{setWork}
 use Rattle.enzyme_keep.specs.declared.offering.Step.{Step}
 use Rattle.enzyme_keep.specs.declared.offering.Terms.{Terms}
 use Rattle.enzyme_tables.specs.Listed.{DigestsListed}
 use Rattle.enzyme_once.specs.Once.{eachOnce}
 
--- all of "none", the whole protein of "end", the windows of a set, or with semi each different range of it once
+-- all of "none", the whole protein of "end", or each different range of a set once: in none of them a range stands twice
 abbrev pub wayOf : Kind → Enzyme → ℕ → ℕ → ℕ → List ℕ → List Range
 wayOf None e missed minimum maximum s = noneSites (length s) minimum maximum
 wayOf End e missed minimum maximum s = site 0 (length s) ∷ []
-wayOf (Set cleave) e missed minimum maximum s =
-    cond (e .semi) (eachOnce (knife cleave (e .skip) (e .side)) true missed s) (setWork (knife cleave (e .skip) (e .side)) false missed s)
+wayOf (Set cleave) e missed minimum maximum s = eachOnce (knife cleave (e .skip) (e .side)) (e .semi) missed s
 
 abbrev pub way : Enzyme → ℕ → ℕ → ℕ → List ℕ → List Range
 way e missed minimum maximum s = wayOf (meant (e .kind)) e missed minimum maximum s

@@ -1,4 +1,4 @@
-// "End": the whole protein.
+// "End": the whole protein, which occurs once.
 use enzyme_keep::Step;
 use enzyme_keep::Terms;
 ghost use mathlib.Core.List.{[], _∷_};
@@ -13,5 +13,5 @@ pub(crate) fn offer_end(letters: &[u8], terms: Terms, out: &mut [u8]) -> Step
 {
     let n = letters.len();
     let wanted = enzyme_keep::length_within(n, terms.minimum, terms.maximum);
-    enzyme_keep::write_range(wanted, 0, n, 0, 0, n, terms.protein, out, 0)
+    enzyme_keep::write_range(wanted, 0, n, 0, 0, n, terms.protein, 1, out, 0)
 }
