@@ -26,7 +26,7 @@ fn digest_passed(
     out: &mut [u8],
 ) -> Counted
     requires { ⌜ (length (now letters) ≤ 65536) × (missed ≤ 16) × (terms .maximum ≤ 65536) ⌝ }
-    ensures { λ r. ⌜ outcome r (now (out .exit) ∷ []) ≡ counted 16 1048576 (now (out .entry)) (digestRecords enzyme missed (terms .minimum) (terms .maximum) (terms .protein) (capitals (now (letters .entry)))) ⌝ }
+    ensures { λ r. ⌜ outcome r (now (out .exit) ∷ []) ≡ counted 20 1048576 (now (out .entry)) (digestRecords enzyme missed (terms .minimum) (terms .maximum) (terms .protein) (capitals (now (letters .entry)))) ⌝ }
 {
     let Step::Kept(k) = enzyme_ways::offer_read(letters, enzyme, missed, terms, out) else {
         return Counted::Refused(Refusal::Room);

@@ -4,6 +4,7 @@ use mathlib.Core.Path.{ap, _∙_}
 use lib.ListN.{length-map}
 use denote.Ref.{now}
 use Rattle.letters.specs.Letters.{capital, capitals}
+use Rattle.enzyme_keep.specs.Steps.{among}
 use Rattle.enzyme_keep.specs.StepLaws.{offers-capped}
 use Rattle.enzyme_ways.specs.Ways.{way}
 use Rattle.enzyme.specs.RunLaws.{runAnswer, run-all}
@@ -18,7 +19,8 @@ returns c = let s = c .before .before .before .before .before .before .before .b
 
 cast-count : tie.Need-cast-count
 cast-count c = let a = c .before .before .before .before .before .before .before .before .before .args in
-    omega (arith, offers-capped (capitals (now (a .letters))) (a .terms) (way (a .enzyme) (a .missed) (a .terms .minimum) (a .terms .maximum) (capitals (now (a .letters)))) 0 (now (a .out)) (c .before .k .given .0 .0) _ (omega arith) (rw (c .before .k .given .1) at (c .before .before .before .before .before .offer-read .ensures)))
+    let cs = way (a .enzyme) (a .missed) (a .terms .minimum) (a .terms .maximum) (capitals (now (a .letters))) in
+    omega (arith, offers-capped (capitals (now (a .letters))) (a .terms) (among (capitals (now (a .letters))) cs) (way (a .enzyme) (a .missed) (a .terms .minimum) (a .terms .maximum) (capitals (now (a .letters)))) 0 (now (a .out)) (c .before .k .given .0 .0) _ (omega arith) (rw (c .before .k .given .1) at (c .before .before .before .before .before .offer-read .ensures)))
 
 returns-2 : tie.Need-returns-2
 returns-2 c = let s = c .before .before .before .before .before .before .before .before .before in
