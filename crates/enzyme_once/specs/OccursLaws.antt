@@ -1,6 +1,6 @@
 -- How often letters occur among the sites: any list will do that has each different site once. Assumes nothing.
-use Prim.Native.Nat.{ℕ, zero, suc, _-_, _≤_, _<_}
-use mathlib.Core.Path.{_≡_, refl, sym, ap, ap₂, _∙_}
+use Prim.Native.Nat.{ℕ, zero, suc, _+_, _-_, _≤_, _<_}
+use mathlib.Core.Path.{_≡_, refl, sym, ap, ap₂, subst, _∙_}
 use mathlib.Core.Bool.{Bool, true, false, cond, _&&_, _||_}
 use mathlib.Core.Logic.{_⊎_, inl, inr, ⊎-elim}
 use mathlib.Core.List.{List, [], _∷_}
@@ -12,6 +12,7 @@ use Rattle.lists.specs.Tests.{below?, truth?, both, or-left, or-right, clash}
 use Rattle.lists.specs.Lists.{same}
 use Rattle.lists.specs.SameLaws.{same-refl, same-eq}
 use Rattle.enzyme_cuts.specs.Cutting.{Range, site, part, standsIn, different, having, occurs}
+use Rattle.enzyme_cuts.specs.Work.{RangesWithin}
 use Rattle.enzyme_cuts.specs.InsideLaws.{part-length}
 use Rattle.enzyme_once.specs.ThinLaws.{Hit}
 use Rattle.enzyme_once.specs.DistinctLaws.{NoRangeTwice}
@@ -188,3 +189,58 @@ module _ (s : List ℕ) (sites once : List Range) (d : NoRangeTwice once) (all :
           let k : length (part s (site a e)) ≡ r .to - r .from = ap length p ∙ l in
           let m = length-take (e - a) (drop a s) in
           ⊎-elim (λ (g : a < e). g) (λ (g : e ≤ a). let z : e - a ≡ 0 = omega arith in absurd (omega arith)) (below? a e)
+
+-- ---- how many they can be
+
+-- letters that are not none stand at most once at each start
+module _ (s x : List ℕ) (some : 0 < length x) where
+  ends : (ys : List Range) → RangesWithin (length s) ys → (a e : ℕ) → part s (site a e) ≡ x → Hit a e ys → (a < length s) × (e ≡ a + length x)
+  ends [] i a e p h = absurd h
+  ends (y ∷ ys) i a e p (inl h) =
+      let q : part s y ≡ x = sym (spelt s x a e y (h .0) (h .1)) ∙ p in
+      let l : length x ≡ y .to - y .from = ap length (sym q) ∙ part-length s y (i .0) (i .1) in
+      let u = h .0 in let v = h .1 in let w = i .0 in let z = i .1 in
+      (omega arith, omega arith)
+  ends (y ∷ ys) i a e p (inr h) = ends ys (i .2) a e p h
+
+  without-inside : (a e n : ℕ) (ys : List Range) → RangesWithin n ys → RangesWithin n (without a e ys)
+  unfolding without
+  without-inside a e n [] i = tt
+  without-inside a e n (y ∷ ys) i = go (isAt a e y) (without-inside a e n ys (i .2))
+    where
+      go : (t : Bool) → RangesWithin n (without a e ys) → RangesWithin n (cond t (without a e ys) (y ∷ without a e ys))
+      go true ih = ih
+      go false ih = (i .0, i .1, ih)
+
+  below : (k : ℕ) (ys : List Range) → NoRangeTwice ys → RangesWithin (length s) ys → ((a e : ℕ) → part s (site a e) ≡ x → Hit a e ys → a < k) → having s ys x ≤ k
+  below zero ys d i h = let z = having-none s x ys (λ a e p g. let l = h a e p g in omega arith) in omega arith
+  below (suc k) ys d i h = go (truth? (same (part s r) x)) (truth? (standsIn r ys)) (below k)
+    where
+      r : Range
+      r = site k (k + length x)
+
+      less : (zs : List Range) → RangesWithin (length s) zs → ((a e : ℕ) → Hit a e zs → Hit a e ys) → (part s (site k (k + length x)) ≡ x → Hit k (k + length x) zs → ⊥)
+          → (a e : ℕ) → part s (site a e) ≡ x → Hit a e zs → a < k
+      less zs j sub never a e p g =
+          let l = h a e p (sub a e g) in
+          let q = ends zs j a e p g .1 in
+          ⊎-elim (λ (u : a < k). u) (λ (u : k ≤ a). let v : a ≡ k = omega arith in let w : e ≡ k + length x = omega arith in absurd (never (sym (ap₂ (λ (b f : ℕ). part s (site b f)) v w) ∙ p) (subst (λ (b : ℕ). Hit b (k + length x) zs) v (subst (λ (f : ℕ). Hit a f zs) w g)))) (below? a k)
+
+      go : (same (part s (site k (k + length x))) x ≡ true) ⊎ (same (part s (site k (k + length x))) x ≡ false) → (standsIn (site k (k + length x)) ys ≡ true) ⊎ (standsIn (site k (k + length x)) ys ≡ false)
+          → ((zs : List Range) → NoRangeTwice zs → RangesWithin (length s) zs → ((a e : ℕ) → part s (site a e) ≡ x → Hit a e zs → a < k) → having s zs x ≤ k) → having s ys x ≤ suc k
+      go (inl p) (inl t) ih =
+          let q = same-eq (part s (site k (k + length x))) x p in
+          let zs = without k (k + length x) ys in
+          let j = without-inside k (k + length x) (length s) ys i in
+          let m = ih zs (without-once k (k + length x) ys d) j (less zs j (λ a e g. without-hit k (k + length x) a e ys g .0) (λ u g. without-hit k (k + length x) k (k + length x) ys g .1 (refl, refl))) in
+          let l = having-less s x k (k + length x) ys q d (stands-hit (site k (k + length x)) ys t) in
+          omega arith
+      go (inl p) (inr t) ih = let m = ih ys d i (less ys i (λ a e g. g) (λ u g. clash (hit-stands (site k (k + length x)) ys g) t)) in omega arith
+      go (inr p) t ih = let m = ih ys d i (less ys i (λ a e g. g) (λ u g. clash (rw u (same-refl x)) p)) in omega arith
+
+  pub having-most : (ys : List Range) → NoRangeTwice ys → RangesWithin (length s) ys → having s ys x ≤ length s
+  having-most ys d i = below (length s) ys d i (λ a e p h. ends ys i a e p h .0)
+
+  -- a range that stands there counts itself
+  pub having-own : (ys : List Range) (r : Range) → NoRangeTwice ys → part s r ≡ x → Hit (r .from) (r .to) ys → 1 ≤ having s ys x
+  having-own ys r d p h = let l = having-less s x (r .from) (r .to) ys p d h in omega arith

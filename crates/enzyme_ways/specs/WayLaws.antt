@@ -17,7 +17,7 @@ use Rattle.enzyme_cuts.specs.declared.kinds.Enzyme.{Enzyme}
 use Rattle.enzyme_cuts.specs.Cutting.{Range, range, site, knife, meant, starting, ofLength, ofLengths, noneSites, endSites, windowsFrom, withWindows, sitesOf, candidates, digests, part, within, kept, occurs}
 use Rattle.enzyme_cuts.specs.Work.{RangesWithin, workOf, work}
 use Rattle.enzyme_cuts.specs.KeepLaws.{work-keeps, end-windows}
-use Rattle.enzyme_cuts.specs.InsideLaws.{inside-work}
+use Rattle.enzyme_cuts.specs.InsideLaws.{inside-work, part-length}
 use Rattle.enzyme_keep.specs.declared.offering.Terms.{Terms}
 use Rattle.enzyme_keep.specs.Digests.{recordOf}
 use Rattle.enzyme_keep.specs.Steps.{digestRoom, decided, offered, offers, among}
@@ -27,7 +27,7 @@ use Rattle.enzyme_once.specs.OnceLaws.{once-keeps, once-all, once-some}
 use Rattle.enzyme_once.specs.RangeLaws.{once-inside}
 use Rattle.enzyme_once.specs.ThinLaws.{Hit, hit-either}
 use Rattle.enzyme_once.specs.DistinctLaws.{NoRangeTwice, distinct-append, once-once}
-use Rattle.enzyme_once.specs.OccursLaws.{occurs-once}
+use Rattle.enzyme_once.specs.OccursLaws.{occurs-once, having-own, having-most}
 use Rattle.enzyme_ways.specs.Ways.{wayOf, way}
 
 -- ---- "none": no range stands twice
@@ -112,6 +112,22 @@ module _ (e : Enzyme) (missed mn mx : ℕ) (s : List ℕ) where
   -- THE LAW: letters stand in the way as often as they occur
   pub way-occurs : (r : Range) → r .from < r .to → r .to ≤ length s → occurs s (candidates e missed mn mx s) r ≡ among s (way e missed mn mx s) r
   way-occurs = occurs-once s (candidates e missed mn mx s) (way e missed mn mx s) way-once way-all way-some
+
+  -- a site counts itself, and no letters stand more than once at a start
+  pub times-bounds : (r : Range) → r .from < r .to → Hit (r .from) (r .to) (candidates e missed mn mx s)
+      → (1 ≤ occurs s (candidates e missed mn mx s) r) × (occurs s (candidates e missed mn mx s) r ≤ length s)
+  times-bounds r l h =
+      let g = way-all (r .from) (r .to) l h in
+      let i = hit-within (length s) (r .from) (r .to) (way e missed mn mx s) way-inside g in
+      let p = part-length s r (omega arith) i in
+      let a = having-own s (part s r) (omega arith) (way e missed mn mx s) r way-once refl g in
+      let b = having-most s (part s r) (omega arith) (way e missed mn mx s) way-once way-inside in
+      rw (way-occurs r l i) (a, b)
+    where
+      hit-within : (n a b : ℕ) (rs : List Range) → RangesWithin n rs → Hit a b rs → b ≤ n
+      hit-within n a b [] i h = absurd h
+      hit-within n a b (q ∷ qs) i (inl h) = let u = h .1 in let v = i .1 in omega arith
+      hit-within n a b (q ∷ qs) i (inr h) = hit-within n a b qs (i .2) h
 
 pub way-tells : (e : Enzyme) (missed : ℕ) (t : Terms) (s out : List ℕ)
     → offers s t (among s (way e missed (t .minimum) (t .maximum) s)) (way e missed (t .minimum) (t .maximum) s) 0 out
