@@ -1,0 +1,4 @@
+// How many equal windows a window stands for, read off the tables of a level. Only crates of this repository call this.
+mod weights;
+
+pub use weights::weight_at;
