@@ -88,15 +88,3 @@ pub record Kept (stay : ℕ → Bool) (y x : List ℕ) (i k : ℕ) : Type 0 wher
   pub each : (p : ℕ) → p < i → stay p ≡ true → AmongFirst x k (getD y p 0)
   pub apart : FirstDiffer x k
   pub rest : Framed 0 i y x
-
--- a whole level: of the first g of y those that go on stand first in x, k of them; ranks and shared sites are written for all g
-pub record Stepped (text : ℕ → List ℕ) (y x rank rank' share share' : List ℕ) (g k m n : ℕ) : Type 0 where
-  pub few : k ≤ g
-  pub from : (z : ℕ) → AmongFirst x k z → AmongFirst y g z × (z + n < m)
-  pub each : (z v : ℕ) → AmongFirst y g z → AmongFirst y g v → (z ≡ v → ⊥) → text z ≡ text v → z + n < m → AmongFirst x k z
-  pub apart : FirstDiffer x k
-  pub same : (z v : ℕ) → AmongFirst y g z → AmongFirst y g v → text z ≡ text v → getD rank' z 0 ≡ getD rank' v 0
-  pub back : (z v : ℕ) → AmongFirst y g z → AmongFirst y g v → getD rank' z 0 ≡ getD rank' v 0 → text z ≡ text v
-  pub again : (z v : ℕ) → AmongFirst y g z → AmongFirst y g v → v < z → text v ≡ text z → getD share' z 0 ≡ n
-  pub first : (z : ℕ) → AmongFirst y g z → ((v : ℕ) → AmongFirst y g v → v < z → text v ≡ text z → ⊥) → getD share' z 0 ≡ getD share z 0
-  pub rest : (z : ℕ) → (AmongFirst y g z → ⊥) → getD share' z 0 ≡ getD share z 0

@@ -1,4 +1,4 @@
--- Nothing here has to be believed: the files named Laws say how the steps go together. `level-stepped` of StepLaws joins them.
+-- Nothing here has to be believed: the files named Laws say how the steps go together.
 pub mod RunLaws
 pub mod ArrangeLaws
 pub mod SortedLaws
