@@ -1,30 +1,26 @@
--- Windows of one site, and the end of the levels. Assumes nothing.
-use Prim.Native.Nat.{ℕ, min, _+_, _≤_, _<_}
+-- Windows of one site. Assumes nothing.
+use Prim.Native.Nat.{ℕ, _+_, _≤_, _<_}
 use mathlib.Core.Path.{_≡_, sym, ap, _∙_}
-use mathlib.Core.Bool.{true, false, _&&_}
 use mathlib.Core.Logic.{_⊎_, inl, inr}
 use mathlib.Core.List.{List, [], _++_}
 use native.Mathlib.Omega.{arith}
 use native.Mathlib.Nat.{add-zero}
 use native.Mathlib.Numerals.{add-one}
-use borrow.Author.Tests.{lt-ltb, ltb-true}
-use lib.Dec.{ltb}
 use lib.ListN.{length, getD, take, drop, length-append, take-append-drop}
-use Rattle.lists.specs.Tests.{same?, below?, both, clash}
+use Rattle.lists.specs.Tests.{same?}
 use Rattle.enzyme_cuts.specs.declared.kinds.Knife.{Knife}
 use Rattle.enzyme_windows.specs.Pieces.{endToEnd, pieces}
-use Rattle.enzyme_windows.specs.Shared.{SameWindow, Named, sharedSites}
+use Rattle.enzyme_windows.specs.Shared.{SameWindow, Named}
 use Rattle.enzyme_windows.specs.PieceLaws.{end-to-end-pieces}
 use Rattle.enzyme_windows.specs.NameLaws.{window-none, window-on, window-back}
 use Rattle.enzyme_windows.specs.WindowLaws.{end-to-end-append}
 use Rattle.enzyme_windows.specs.StartLaws.{pieceStart, start-next, site-letters}
-use Rattle.enzyme_windows.specs.FirstLaws.{shared-window}
-use Rattle.enzyme_windows.specs.TableLaws.{SharedUpTo}
 use Rattle.enzyme_keys.specs.Keys.{SiteWithin, lettersAt}
-use Rattle.enzyme_rows.specs.Steps.{AmongFirst, OneName, Stepped}
+use Rattle.enzyme_rows.specs.Steps.{AmongFirst, RunsRanked, OneName}
 use Rattle.enzyme_sifted.specs.Sifted.{Sifted}
-use Rattle.enzyme_levels.specs.Levels.{TextsPlaced, LevelKnown}
-use Rattle.enzyme_levels.specs.LevelLaws.{has?, next-level}
+use Rattle.enzyme_levels.specs.Levels.{TextsPlaced, LevelRanked}
+use Rattle.enzyme_levels.specs.ReadyLaws.{ready-sifted}
+use Rattle.enzyme_levels.specs.LevelLaws.{has?, level-ranked}
 
 start-low : (ts : List (List ℕ)) (i : ℕ) → pieceStart ts i ≤ length (endToEnd ts)
 start-low ts i =
@@ -48,8 +44,8 @@ module _ (ts : List (List ℕ)) (s starts : List ℕ) (m : ℕ) (pl : TextsPlace
   site-text z h = rw (pl .start z (omega arith), pl .start (z + 1) (omega arith), ← pl .letters) (site-letters ts z 0 (omega (arith, pl .many)))
 
   -- y has the sifted sites, and before these got names each site was its own
-  module _ (y x name name' rank rank' share share' : List ℕ) (g k : ℕ) (sf : Sifted s starts y m g) (own : (i : ℕ) → i < m → (getD name i 0 ≡ i) × (getD share i 0 ≡ 0))
-      (st : Stepped (lettersAt s starts) y x rank rank' share share' g k m 1) (on : OneName (lettersAt s starts) y name name' g)
+  module _ (y x r name name' rank rank' share share' : List ℕ) (g : ℕ) (small : m ≤ 65536) (sf : Sifted s starts y m g) (own : (i : ℕ) → i < m → (getD name i 0 ≡ i) × (getD share i 0 ≡ 0))
+      (rk : RunsRanked (lettersAt s starts) y x r rank rank' share share' g 1) (on : OneName (lettersAt s starts) y name name' g)
     where
       -- a site has the letters of the one that is its name
       like : (z : ℕ) → z < m → lettersAt s starts (getD name' z 0) ≡ lettersAt s starts z
@@ -94,41 +90,14 @@ module _ (ts : List (List ℕ)) (s starts : List ℕ) (m : ℕ) (pl : TextsPlace
           let q : getD name' (z + 0) 0 ≡ getD name' (v + 0) 0 = rw (add-zero z, add-zero v) (one z v a b t) in
           window-on ts (λ i. getD name' i 0) named 0 z v (window-none ts (λ i. getD name' i 0) named z v (omega arith) (omega arith)) (omega arith) (omega arith) q
 
-      pub level-one : LevelKnown ts x name' rank' share' 1 k
+      pub level-one : LevelRanked ts s starts x r name' rank' share' 1 g m
       level-one =
           let l = pl .many in
-          next-level ts (lettersAt s starts) y x name' rank rank' share share' g k m 0 l st named
+          level-ranked ts s starts (lettersAt s starts) y x r name' rank rank' share share' g m 0 pl (ready-sifted s starts y m g small placed-site sf) rk named
           (λ z v d w. let a = w .first in let b = w .second in sf .each z v (omega arith) (omega arith) d (texts z v w))
           (λ z v h j w. texts z v w)
           (λ z v h j t. windows z v (sf .inside z h) (sf .inside v j) t)
           (λ i h. let b = own i (omega arith) .1 in omega arith)
-
--- ---- the end: no site is left, or windows are as long as wanted
-
-pub levels-done : (ts : List (List ℕ)) (order name rank share : List ℕ) (n g most : ℕ) → n ≤ most → (n < most → g ≡ 0) → LevelKnown ts order name rank share n g
-    → SharedUpTo ts most (λ i. getD share i 0)
-levels-done ts order name rank share n g most h z lv i l = lv .counted i l ∙ go (below? n most) (below? n (sharedSites ts i))
-  where
-    go : (n < most) ⊎ (most ≤ n) → (n < sharedSites ts i) ⊎ (sharedSites ts i ≤ n) → min n (sharedSites ts i) ≡ min most (sharedSites ts i)
-    go (inl a) (inl b) =
-        let w = shared-window ts n i b in
-        let c = w .1 in
-        let p = lv .each (w .0) i (λ (q : w .0 ≡ i). omega arith) (w .2) in
-        let d = p .1 in
-        absurd (omega (arith, z a))
-    go (inl a) (inr b) = omega arith
-    go (inr a) b = let q : n ≡ most = omega arith in rw q
-
--- the test of the levels' loop
-pub levels-go : (k most g : ℕ) → (ltb k most && ltb 0 g) ≡ true → (k < most) × (0 < g)
-levels-go k most g e = let a = both (ltb k most) (ltb 0 g) e in (ltb-true k most (a .0), ltb-true 0 g (a .1))
-
-pub levels-over : (k most g : ℕ) → (ltb k most && ltb 0 g) ≡ false → k < most → g ≡ 0
-levels-over k most g e h = go (below? 0 g)
-  where
-    go : (0 < g) ⊎ (g ≤ 0) → g ≡ 0
-    go (inl l) = clash (rw (lt-ltb k most h, lt-ltb 0 g l)) e
-    go (inr l) = omega arith
 
 -- the sites of a knife, by the table of their starts
 pub pieces-placed : (k : Knife) (s starts : List ℕ) (m : ℕ) → m ≡ length (pieces k s) → m < length starts → ((i : ℕ) → i ≤ m → getD starts i 0 ≡ pieceStart (pieces k s) i)

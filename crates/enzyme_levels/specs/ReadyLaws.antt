@@ -5,7 +5,7 @@ use mathlib.Core.List.{List}
 use native.Mathlib.Omega.{arith}
 use lib.ListN.{length, getD}
 use Rattle.enzyme_keys.specs.Keys.{SiteWithin}
-use Rattle.enzyme_rows.specs.Steps.{AmongFirst, FirstDiffer, Sited, Arranged, RunStarts, Stepped}
+use Rattle.enzyme_rows.specs.Steps.{AmongFirst, FirstDiffer, Sited, Arranged, RunStarts}
 use Rattle.enzyme_runs.specs.RunLaws.{run-start}
 use Rattle.enzyme_strewn.specs.Shuffled.{Shuffled}
 use Rattle.enzyme_sifted.specs.Sifted.{Sifted}
@@ -15,14 +15,8 @@ module _ (s starts y : List ℕ) (g m : ℕ) (rd : SitesReady s starts y g m) wh
   pub ready-sited : Sited s starts y g
   ready-sited z v h l = rd .sites v (omega (arith, rd .inside z h))
 
-  pub ready-next : (text : ℕ → List ℕ) (x rank rank' share share' : List ℕ) (k n : ℕ) → Stepped text y x rank rank' share share' g k m n → SitesReady s starts x k m
-  ready-next text x rank rank' share share' k n st = record {
-    few = omega (arith, st .few, rd .few);
-    small = rd .small;
-    apart = st .apart;
-    inside = λ z h. rd .inside z (st .from z h .0);
-    sites = rd .sites;
-  }
+  pub ready-arranged : (text : ℕ → List ℕ) (x : List ℕ) → Arranged text y x g → SitesReady s starts x g m
+  ready-arranged text x ar = record { few = rd .few; small = rd .small; apart = ar .apart; inside = λ z h. rd .inside z (ar .from z h); sites = rd .sites }
 
 -- ---- the sifted sites, strewn or not
 

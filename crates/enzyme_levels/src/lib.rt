@@ -1,4 +1,5 @@
-// How many sites a window shares with one from an earlier site, level by level. Only crates of this repository call this.
+// Windows of more and more sites, ranked level by level: the tables tell which are equal. Only crates of this repository call these.
 mod windows;
 
-pub use windows::levels;
+pub use windows::first_level;
+pub use windows::next_level;
