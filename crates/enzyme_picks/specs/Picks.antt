@@ -1,7 +1,7 @@
--- The new windows of a table of starts and a table of what they share, and records written one after the other.
+-- The windows of a table of starts, with a weight for each, and records written one after the other.
 use Prim.Native.Nat.{ℕ, zero, suc, _+_, _-_, _≤_, _<_}
-use mathlib.Core.Bool.{Bool, true, cond, _&&_}
-use mathlib.Core.List.{List, [], _∷_, _++_}
+use mathlib.Core.Bool.{Bool, true, _&&_}
+use mathlib.Core.List.{List, [], _∷_}
 use lib.ListN.{length, getD}
 use lib.Dec.{ltb}
 use Rattle.enzyme_cuts.specs.Cutting.{Range, range, within}
@@ -19,23 +19,22 @@ pub record StartsRise (starts : List ℕ) (m : ℕ) : Type 0 where
 abbrev pub windowAt : List ℕ → ℕ → ℕ → Range
 windowAt starts missed i = range (getD starts i 0) (getD starts (i + suc missed) 0) missed 0
 
--- whether it has a length within the limits, and more sites than it shares
-abbrev pub newAt : List ℕ → List ℕ → ℕ → ℕ → ℕ → ℕ → Bool
-newAt starts share mn mx missed i = within mn mx (getD starts (i + suc missed) 0 - getD starts i 0) && ltb (getD share i 0) (suc missed)
+-- whether it has a length within the limits, and a weight
+abbrev pub newAt : List ℕ → (ℕ → ℕ) → ℕ → ℕ → ℕ → ℕ → Bool
+newAt starts w mn mx missed i = within mn mx (getD starts (i + suc missed) 0 - getD starts i 0) && ltb 0 (w i)
 
--- the new ones of those from the sites i, i + 1, .., left in all
-abbrev pub newFrom : List ℕ → List ℕ → ℕ → ℕ → ℕ → ℕ → ℕ → List Range
-newFrom starts share mn mx missed i zero = []
-newFrom starts share mn mx missed i (suc left) =
-    let later = newFrom starts share mn mx missed (suc i) left in
-    cond (newAt starts share mn mx missed i) (windowAt starts missed i ∷ later) later
+-- the records of the new ones from the sites i, i + 1, .., left in all, each with its weight, where there is room
+abbrev pub windowsPut : ℕ → ℕ → List ℕ → (ℕ → ℕ) → ℕ → ℕ → ℕ → ℕ → ℕ → ℕ → List ℕ → After
+windowsPut n p starts w mn mx missed i zero count out = after (Kept count) out
+windowsPut n p starts w mn mx missed i (suc left) count out =
+    unlessFull (decided (newAt starts w mn mx missed i) (ltb count (digestRoom out)) count out (recordOf n p (windowAt starts missed i) (w i))) (windowsPut n p starts w mn mx missed (suc i) left)
 
--- the new ones of missed + 1, missed + 2, .. of m sites, z sizes in all
-abbrev pub newOf : List ℕ → List ℕ → ℕ → ℕ → ℕ → ℕ → ℕ → List Range
-newOf starts share mn mx m missed zero = []
-newOf starts share mn mx m missed (suc z) = newFrom starts share mn mx missed 0 (m - missed) ++ newOf starts share mn mx m (suc missed) z
+-- those of missed + 1, missed + 2, .. of m sites, z sizes in all, with weights for each size
+abbrev pub sizesPut : ℕ → ℕ → List ℕ → (ℕ → ℕ → ℕ) → ℕ → ℕ → ℕ → ℕ → ℕ → ℕ → List ℕ → After
+sizesPut n p starts w mn mx m missed zero count out = after (Kept count) out
+sizesPut n p starts w mn mx m missed (suc z) count out = unlessFull (windowsPut n p starts (w missed) mn mx missed 0 (m - missed) count out) (sizesPut n p starts w mn mx m (suc missed) z)
 
--- the records of all the ranges, one after the other, where there is room
-abbrev pub puts : ℕ → ℕ → List Range → ℕ → List ℕ → After
-puts n p [] count out = after (Kept count) out
-puts n p (r ∷ rs) count out = unlessFull (decided true (ltb count (digestRoom out)) count out (recordOf n p r)) (puts n p rs)
+-- the records of all the ranges, one after the other, where there is room; f says how often the letters of each occur
+abbrev pub puts : ℕ → ℕ → (Range → ℕ) → List Range → ℕ → List ℕ → After
+puts n p f [] count out = after (Kept count) out
+puts n p f (r ∷ rs) count out = unlessFull (decided true (ltb count (digestRoom out)) count out (recordOf n p r (f r))) (puts n p f rs)

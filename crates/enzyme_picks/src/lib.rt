@@ -1,4 +1,4 @@
-// The windows of neighbouring sites that a table says are new, as records. Only crates of this repository call these.
+// The new windows of neighbouring sites as records, with how often each occurs. Only crates of this repository call this.
 mod picking;
 
-pub use picking::list_windows;
+pub use picking::list_size;
