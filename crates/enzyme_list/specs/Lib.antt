@@ -1,6 +1,7 @@
--- Nothing here is for a reader to believe: Order, Chain, Insert and Offer say what the code does; the files named Laws say what follows.
+-- Nothing here is for a reader to believe: Chain, Insert, Tally and Offer say what the code does; the files named Laws say what follows.
 pub mod Chain
 pub mod Insert
+pub mod Tally
 pub mod Offer
 pub mod ChainLaws
 pub mod InsertLaws
@@ -8,3 +9,4 @@ pub mod StoreLaws
 pub mod AdviceLaws
 pub mod OfferLaws
 pub mod WriteLaws
+pub mod TallyLaws

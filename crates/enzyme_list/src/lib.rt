@@ -1,12 +1,12 @@
-// Records in a list that rises by length and letters: a range is sought in it and linked into it. Only crates of this
+// Records in a list that rises by length and letters: a range is sought in it, and counted where it is found or linked into it. Only crates of this
 // repository call these.
+mod counting;
 mod linking;
 mod offering;
 mod order;
 mod walk;
 
 pub use linking::insert;
-pub use offering::Offered;
 pub use offering::Run;
 pub use offering::offer;
 pub use offering::write;

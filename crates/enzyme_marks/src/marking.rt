@@ -7,7 +7,7 @@ ghost use Rattle.enzyme_search.specs.Marks.{Has0, SamplesListed, SameSamples, F
 
 // The record n links behind record t.
 fn follow(out: &[u8], count: usize, head: usize, t: usize, n: usize) -> usize
-    requires { ⌜ (16 * count ≤ length (now out)) × Has0 count head (now out) t ⌝ }
+    requires { ⌜ (20 * count ≤ length (now out)) × Has0 count head (now out) t ⌝ }
     ensures { λ r. ⌜ Has0 count head (now (out .entry)) r ⌝ }
 {
     let mut at = t;
@@ -94,7 +94,7 @@ pub fn split(
     j: usize,
     size: u32,
 ) -> usize
-    requires { ⌜ (16 * count ≤ length (now out)) × (count ≤ 1048576) × SamplesListed count head (now out) (now marks) samples × (3 * samples + 3 ≤ length (now marks)) × (j < samples) ⌝ }
+    requires { ⌜ (20 * count ≤ length (now out)) × (count ≤ 1048576) × SamplesListed count head (now out) (now marks) samples × (3 * samples + 3 ≤ length (now marks)) × (j < samples) ⌝ }
     ensures { λ r. ⌜ SamplesListed count head (now (out .entry)) (now (marks .exit)) r ⌝ }
 {
     let half = size / 2;

@@ -31,7 +31,7 @@ fn doubled(limit: usize) -> usize {
 // follows no more links than that; nothing rests on it, and it is not proved. 777,000 records of 60,000 letters came to a
 // limit of 64 with 65,536 marks.
 fn settle(letters: &[u8], out: &[u8], marks: &mut [u32], run: Run, j: usize, size: u32) -> Run
-    requires { ⌜ (16 * run .count ≤ length (now out)) × (run .count ≤ 1048576) × SamplesListed (run .count) (run .head) (now out) (now marks) (run .samples) × (j < run .samples) ⌝ }
+    requires { ⌜ (20 * run .count ≤ length (now out)) × (run .count ≤ 1048576) × SamplesListed (run .count) (run .head) (now out) (now marks) (run .samples) × (j < run .samples) ⌝ }
     ensures { λ r. ⌜ Noted run (now (out .entry)) (now (marks .exit)) r ⌝ }
 {
     if (size as usize) < run.limit {
@@ -45,6 +45,7 @@ fn settle(letters: &[u8], out: &[u8], marks: &mut [u32], run: Run, j: usize, siz
             head: run.head,
             samples: fewer,
             limit: limit,
+            full: run.full,
         };
     }
     let more = enzyme_marks::split(
@@ -62,6 +63,7 @@ fn settle(letters: &[u8], out: &[u8], marks: &mut [u32], run: Run, j: usize, siz
         head: run.head,
         samples: more,
         limit: run.limit,
+        full: run.full,
     }
 }
 
@@ -80,7 +82,7 @@ pub(crate) fn note(
     k: usize,
     head: u32,
 ) -> Run
-    requires { ⌜ (16 * run .count ≤ length (now out)) × (run .count ≤ 1048576) × Chained (run .count) (run .head) (now out) × SamplesListed (run .count) (run .head) (now out) (now marks) (run .samples) × (k ≤ run .samples) ⌝ }
+    requires { ⌜ (20 * run .count ≤ length (now out)) × (run .count ≤ 1048576) × Chained (run .count) (run .head) (now out) × SamplesListed (run .count) (run .head) (now out) (now marks) (run .samples) × (k ≤ run .samples) ⌝ }
     ensures { λ r. ⌜ Noted run (now (out .entry)) (now (marks .exit)) r ⌝ }
 {
     if marks.len() < 3 {
@@ -97,6 +99,7 @@ pub(crate) fn note(
         head: run.head,
         samples: samples,
         limit: run.limit,
+        full: run.full,
     };
     settle(letters, out, marks, now, j, size)
 }

@@ -6,21 +6,16 @@ ghost use mathlib.Core.List.{[], _∷_};
 ghost use Prim.Native.Nat.{_-_, _≤_, _<_};
 ghost use lib.ListN.{getD};
 ghost use Rattle.enzyme_cuts.specs.Cutting.{range};
-ghost use Rattle.enzyme_samples.specs.Ready.{runStarted, RangesReady, Offers};
+ghost use Rattle.enzyme_samples.specs.Ready.{runStarted, weighted, RangesReady, Offers};
 
 // How many records there are, the first of the list, and how many samples of it there are: the first of them is the
-// list's first, and from each to the next there are fewer than `limit` records.
+// list's first, and from each to the next there are fewer than `limit` records; and whether there was no room for one more.
 pub struct Run {
     pub count: usize,
     pub head: usize,
     pub samples: usize,
     pub limit: usize,
-}
-
-// What came of a range that was offered: where the records are now, or there was no room for it.
-pub enum Offered {
-    Left(Run),
-    NoRoom,
+    pub full: bool,
 }
 
 // No record yet.
@@ -32,6 +27,7 @@ pub fn start_run() -> Run
         head: 0,
         samples: 0,
         limit: 8,
+        full: false,
     }
 }
 
@@ -50,24 +46,35 @@ fn write_range(
     e: usize,
     missed: u8,
     semi: u8,
+    times: u32,
     terms: Terms,
     out: &mut [u8],
     marks: &[u32],
     run: Run,
-) -> Offered
-    requires { ⌜ RangesReady (now letters) (now far) (range a e missed semi ∷ []) run (now out) (now marks) × (getD (now far) a 0 < e - a) ⌝ }
-    ensures { λ r. ⌜ Offers (now (letters .entry)) (now (far .entry)) terms (range a e missed semi ∷ []) run (now (out .entry)) (now (marks .entry)) r (now (out .exit)) (now (marks .entry)) ⌝ }
+) -> Run
+    requires { ⌜ RangesReady (now letters) (now far) (weighted (range a e missed semi) times ∷ []) run (now out) (now marks) × (getD (now far) a 0 < e - a) ⌝ }
+    ensures { λ r. ⌜ Offers (now (letters .entry)) (now (far .entry)) terms (weighted (range a e missed semi) times ∷ []) run (now (out .entry)) (now (marks .entry)) r (now (out .exit)) (now (marks .entry)) ⌝ }
 {
-    let got = enzyme_list::write(letters, a, e, missed, semi, terms, out, run.count, run.head);
-    let enzyme_list::Offered::Left(at) = got else {
-        return Offered::NoRoom;
-    };
-    Offered::Left(Run {
+    let at = enzyme_list::write(
+        letters,
+        a,
+        e,
+        missed,
+        semi,
+        times,
+        terms,
+        out,
+        run.count,
+        run.head,
+        run.full,
+    );
+    Run {
         count: at.count,
         head: at.head,
         samples: run.samples,
         limit: run.limit,
-    })
+        full: at.full,
+    }
 }
 
 // Any other is sought, and linked in where it is new: from the last sample below it on.
@@ -78,46 +85,47 @@ fn seek_range(
     e: usize,
     missed: u8,
     semi: u8,
+    times: u32,
     terms: Terms,
     out: &mut [u8],
     marks: &mut [u32],
     run: Run,
-) -> Offered
-    requires { ⌜ RangesReady (now letters) (now far) (range a e missed semi ∷ []) run (now out) (now marks) × (e - a ≤ getD (now far) a 0) ⌝ }
-    ensures { λ r. ⌜ Offers (now (letters .entry)) (now (far .entry)) terms (range a e missed semi ∷ []) run (now (out .entry)) (now (marks .entry)) r (now (out .exit)) (now (marks .exit)) ⌝ }
+) -> Run
+    requires { ⌜ RangesReady (now letters) (now far) (weighted (range a e missed semi) times ∷ []) run (now out) (now marks) × (e - a ≤ getD (now far) a 0) ⌝ }
+    ensures { λ r. ⌜ Offers (now (letters .entry)) (now (far .entry)) terms (weighted (range a e missed semi) times ∷ []) run (now (out .entry)) (now (marks .entry)) r (now (out .exit)) (now (marks .exit)) ⌝ }
 {
     let head = enzyme_search::head_of(&letters[a..e]);
     let k = enzyme_search::last_below(letters, out, run.count, marks, run.samples, a, e, head);
     let from = enzyme_search::sample(marks, k);
-    let got = enzyme_list::offer(
+    let at = enzyme_list::offer(
         letters,
         a,
         e,
         missed,
         semi,
+        times,
         terms,
         out,
         run.count,
         run.head,
+        run.full,
         from,
     );
-    let enzyme_list::Offered::Left(at) = got else {
-        return Offered::NoRoom;
-    };
     let next = Run {
         count: at.count,
         head: at.head,
         samples: run.samples,
         limit: run.limit,
+        full: at.full,
     };
     if at.count == run.count {
-        return Offered::Left(next);
+        return next;
     }
-    Offered::Left(note(letters, out, marks, next, k, head))
+    note(letters, out, marks, next, k, head)
 }
 
-// Writes the record of a..e, where it is wanted, no record has its letters, and there is room. `far` has for each start the
-// most letters that any other start may share with it.
+// A record that has the letters a..e gets `times` more; where none has them, the length is wanted and there is room, their record is
+// written, with that number. `far` has for each start the most letters that any other start may share with it.
 pub fn offer_range(
     letters: &[u8],
     far: &[u32],
@@ -125,19 +133,44 @@ pub fn offer_range(
     e: usize,
     missed: u8,
     semi: u8,
+    times: u32,
     terms: Terms,
     out: &mut [u8],
     marks: &mut [u32],
     run: Run,
-) -> Offered
-    requires { ⌜ RangesReady (now letters) (now far) (range a e missed semi ∷ []) run (now out) (now marks) ⌝ }
-    ensures { λ r. ⌜ Offers (now (letters .entry)) (now (far .entry)) terms (range a e missed semi ∷ []) run (now (out .entry)) (now (marks .entry)) r (now (out .exit)) (now (marks .exit)) ⌝ }
+) -> Run
+    requires { ⌜ RangesReady (now letters) (now far) (weighted (range a e missed semi) times ∷ []) run (now out) (now marks) ⌝ }
+    ensures { λ r. ⌜ Offers (now (letters .entry)) (now (far .entry)) terms (weighted (range a e missed semi) times ∷ []) run (now (out .entry)) (now (marks .entry)) r (now (out .exit)) (now (marks .exit)) ⌝ }
 {
     if enzyme_keep::length_within(e - a, terms.minimum, terms.maximum) {
         if far_at(far, a) < e - a {
-            return write_range(letters, far, a, e, missed, semi, terms, out, marks, run);
+            return write_range(
+                letters,
+                far,
+                a,
+                e,
+                missed,
+                semi,
+                times,
+                terms,
+                out,
+                marks,
+                run,
+            );
         }
-        return seek_range(letters, far, a, e, missed, semi, terms, out, marks, run);
+        return seek_range(
+            letters,
+            far,
+            a,
+            e,
+            missed,
+            semi,
+            times,
+            terms,
+            out,
+            marks,
+            run,
+        );
     }
-    Offered::Left(run)
+    run
 }

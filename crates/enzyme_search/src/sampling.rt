@@ -35,7 +35,7 @@ pub fn head_of(text: &[u8]) -> u32 {
 pub fn head_at(letters: &[u8], out: &[u8], t: usize) -> u32
     requires { ⌜ (0 < t) × (t ≤ 1048576) ⌝ }
 {
-    let at = 16 * (t - 1);
+    let at = 20 * (t - 1);
     let start = records::u32_at(out, at) as usize;
     let end = records::u32_at(out, at + 4) as usize;
     if end < start {
@@ -59,7 +59,7 @@ fn stands_below(
     e: usize,
     head: u32,
 ) -> bool
-    requires { ⌜ (16 * count ≤ length (now out)) × RangesWithin (length (now letters)) (rangesIn count (now out)) × (a ≤ e) × (e ≤ length (now letters)) × SamplesNumbered count (now marks) samples × (j < samples) ⌝ }
+    requires { ⌜ (20 * count ≤ length (now out)) × RangesWithin (length (now letters)) (rangesIn count (now out)) × (a ≤ e) × (e ≤ length (now letters)) × SamplesNumbered count (now marks) samples × (j < samples) ⌝ }
 {
     let x = marks[3 * j + 2];
     if x < head {
@@ -83,7 +83,7 @@ fn how_many_below(
     e: usize,
     head: u32,
 ) -> usize
-    requires { ⌜ (16 * count ≤ length (now out)) × RangesWithin (length (now letters)) (rangesIn count (now out)) × (a ≤ e) × (e ≤ length (now letters)) × SamplesNumbered count (now marks) samples ⌝ }
+    requires { ⌜ (20 * count ≤ length (now out)) × RangesWithin (length (now letters)) (rangesIn count (now out)) × (a ≤ e) × (e ≤ length (now letters)) × SamplesNumbered count (now marks) samples ⌝ }
     ensures { λ r. ⌜ r ≤ samples ⌝ }
 {
     let mut lo = 0;
@@ -111,7 +111,7 @@ pub fn last_below(
     e: usize,
     head: u32,
 ) -> usize
-    requires { ⌜ (16 * count ≤ length (now out)) × RangesWithin (length (now letters)) (rangesIn count (now out)) × (a ≤ e) × (e ≤ length (now letters)) × SamplesNumbered count (now marks) samples ⌝ }
+    requires { ⌜ (20 * count ≤ length (now out)) × RangesWithin (length (now letters)) (rangesIn count (now out)) × (a ≤ e) × (e ≤ length (now letters)) × SamplesNumbered count (now marks) samples ⌝ }
     ensures { λ r. ⌜ Below (now (letters .entry)) (rangesIn count (now (out .entry))) (now (marks .entry)) samples (part (now (letters .entry)) (site a e)) r ⌝ }
 {
     let k = how_many_below(letters, out, count, marks, samples, a, e, head);
