@@ -92,7 +92,7 @@ module _ (n p : ℕ) (r : Range) (x : ℕ) (out : List ℕ) (at : ℕ) (h : at +
       let new : List ℕ = sets out at (recordOf n p r x) in
       ap (λ (l : List ℕ). value (take 4 l)) (sym (drop-drop 12 at new) ∙ ap (drop 12) behind) ∙ value-le 4 p (omega arith)
 
-  times-stored : take 4 (drop (at + 16) (sets out at (recordOf n p r x))) ≡ le 4 x
+  pub times-stored : take 4 (drop (at + 16) (sets out at (recordOf n p r x))) ≡ le 4 x
   unfolding recordOf
   times-stored = ap (take 4) (sym (drop-drop 16 at (sets out at (recordOf n p r x))) ∙ ap (drop 16) behind)
 

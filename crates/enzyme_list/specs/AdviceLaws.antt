@@ -14,7 +14,7 @@ use Rattle.enzyme_list.specs.declared.walk.Place.the-variants.{Same, Beh
 use Rattle.enzyme_order.specs.Order.{compared}
 use Rattle.enzyme_order.specs.OrderLaws.{order-trans}
 use Rattle.enzyme_list.specs.Chain.{recordText, Lower, Upper, Rises, ListFrom, rangesOf, FoundIn, Begun, Tells, isSame}
-use Rattle.enzyme_list.specs.ChainLaws.{last-snoc, ranges-append, between-unseen}
+use Rattle.enzyme_list.specs.ChainLaws.{last-snoc, ranges-append, seen-at, between-unseen}
 use Rattle.enzyme_list.specs.InsertLaws.{Among, linked-among, among-left, among-right}
 
 -- ---- where a search may begin
@@ -52,7 +52,7 @@ module _ (s : List ℕ) (ks : List Range) (ls : List ℕ) (head : ℕ) (new : Li
 
 -- a search finds the letters exactly where a record of the list has them
 pub found-seen : (s : List ℕ) (ks : List Range) (new c : List ℕ) (r : Place) → FoundIn s ks new c r → seenIn s (rangesOf ks c) new ≡ isSame r
-found-seen s ks new c Same f = f
+found-seen s ks new c (Same u) f = rw (f .whole) (seen-at s ks new (f .xs) (f .ys) u (f .letters))
 found-seen s ks new c (Behind p) f = between-unseen s ks new c p f
 
 ranges-grown : (ks : List Range) (r : Range) (c : List ℕ) → Among (length ks) c → rangesOf (ks ++ (r ∷ [])) c ≡ rangesOf ks c

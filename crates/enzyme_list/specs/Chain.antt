@@ -62,9 +62,16 @@ pub record Between (s : List ℕ) (ks : List Range) (new c : List ℕ) (p : ℕ)
   pub lower : Lower s ks new xs
   pub upper : Upper s ks new ys
 
+-- record u of the list has the letters new
+pub record FoundAt (s : List ℕ) (ks : List Range) (new c : List ℕ) (u : ℕ) : Type 0 where
+  pub xs : List ℕ
+  pub ys : List ℕ
+  pub whole : c ≡ xs ++ (u ∷ ys)
+  pub letters : recordText s ks u ≡ new
+
 -- what a search of the list comes to
 abbrev pub FoundIn : List ℕ → List Range → List ℕ → List ℕ → Place → Type 0
-FoundIn s ks new c Same = seenIn s (rangesOf ks c) new ≡ true
+FoundIn s ks new c (Same u) = FoundAt s ks new c u
 FoundIn s ks new c (Behind p) = Between s ks new c p
 
 -- what a search from cur on, behind prev, comes to
@@ -114,5 +121,5 @@ Tells s ks c new = seenIn s ks new ≡ seenIn s (rangesOf ks c) new
 
 -- whether a search found the letters
 abbrev pub isSame : Place → Bool
-isSame Same = true
+isSame (Same u) = true
 isSame (Behind p) = false

@@ -20,22 +20,22 @@ use Rattle.enzyme_list.specs.declared.walk.Place.{Place}
 use Rattle.enzyme_list.specs.declared.walk.Place.the-variants.{Same, Behind}
 use Rattle.enzyme_order.specs.Order.{compared}
 use Rattle.enzyme_order.specs.OrderLaws.{order-self, order-equal, order-flip, order-trans}
-use Rattle.enzyme_list.specs.Chain.{recordText, nextOf, LinkedThrough, lastRecord, Lower, Upper, Rises, rangesOf, Between, FoundIn, FoundFrom, Sought, EndsWithin, Begun, depth}
+use Rattle.enzyme_list.specs.Chain.{recordText, nextOf, LinkedThrough, lastRecord, Lower, Upper, Rises, rangesOf, Between, FoundAt, FoundIn, FoundFrom, Sought, EndsWithin, Begun, depth}
 
 -- ---- record j as it is read
 
-pub range-read : (count : ℕ) (out : List ℕ) (j : ℕ) → j < count → getD (rangesIn count out) j (site 0 0) ≡ rangeAt out (16 * j)
+pub range-read : (count : ℕ) (out : List ℕ) (j : ℕ) → j < count → getD (rangesIn count out) j (site 0 0) ≡ rangeAt out (20 * j)
 range-read zero out j h = absurd (omega arith)
 range-read (suc k) out j h = go (below? j k) (λ g. range-read k out j g)
   where
     l : length (rangesIn k out) ≡ k
     l = length-ranges k out
 
-    go : (j < k) ⊎ (k ≤ j) → (j < k → getD (rangesIn k out) j (site 0 0) ≡ rangeAt out (16 * j)) → getD (rangesIn (suc k) out) j (site 0 0) ≡ rangeAt out (16 * j)
-    go (inl g) ih = List·getD-append (rangesIn k out) (rangeAt out (16 * k) ∷ []) (site 0 0) j (omega (arith, l)) ∙ ih g
+    go : (j < k) ⊎ (k ≤ j) → (j < k → getD (rangesIn k out) j (site 0 0) ≡ rangeAt out (20 * j)) → getD (rangesIn (suc k) out) j (site 0 0) ≡ rangeAt out (20 * j)
+    go (inl g) ih = List·getD-append (rangesIn k out) (rangeAt out (20 * k) ∷ []) (site 0 0) j (omega (arith, l)) ∙ ih g
     go (inr g) ih =
         let e : j ≡ k = omega arith in
-        rw e (getD-at (rangesIn k out) (rangeAt out (16 * k)) [] (site 0 0) k l)
+        rw e (getD-at (rangesIn k out) (rangeAt out (20 * k)) [] (site 0 0) k l)
 
 pub next-first : (ls : List ℕ) (head p : ℕ) → p ≡ 0 → nextOf ls head p ≡ head
 next-first ls head p e = rw (eq-eqb p 0 e)
@@ -101,7 +101,7 @@ module _ (s : List ℕ) (ks : List Range) where
   ranges-append [] ys = refl
   ranges-append (x ∷ xs) ys = ap (λ (rs : List Range). getD ks (x - 1) (site 0 0) ∷ rs) (ranges-append xs ys)
 
-  seen-at : (new : List ℕ) (xs ys : List ℕ) (t : ℕ) → recordText s ks t ≡ new → seenIn s (rangesOf ks (xs ++ (t ∷ ys))) new ≡ true
+  pub seen-at : (new : List ℕ) (xs ys : List ℕ) (t : ℕ) → recordText s ks t ≡ new → seenIn s (rangesOf ks (xs ++ (t ∷ ys))) new ≡ true
   seen-at new xs ys t e =
       let z : same (recordText s ks t) new ≡ true = rw e (same-refl new) in
       rw (ranges-append xs (t ∷ ys), seenIn-append s (rangesOf ks xs) (rangesOf ks (t ∷ ys)) new, z) (or-true (seenIn s (rangesOf ks xs) new))
@@ -119,12 +119,14 @@ module _ (s : List ℕ) (ks : List Range) where
             let g : FoundIn s ks new (xs ++ (t ∷ us)) r = rw (append-assoc xs (t ∷ []) us) at f in
             rw (← e) g
 
-    pub found-from-same : (prev t : ℕ) → 0 < t → compared (recordText s ks t) new ≡ 1 → FoundFrom s ks ls new prev t Same
+    pub found-from-same : (prev t : ℕ) → 0 < t → compared (recordText s ks t) new ≡ 1 → FoundFrom s ks ls new prev t (Same t)
     found-from-same prev t h o xs ys p q l k = go ys l
       where
-        go : (ys : List ℕ) → LinkedThrough ls t ys → FoundIn s ks new (xs ++ ys) Same
+        go : (ys : List ℕ) → LinkedThrough ls t ys → FoundAt s ks new (xs ++ ys) t
         go [] e = absurd (omega arith)
-        go (u ∷ us) l = let e = l .0 in rw (← e) (seen-at new xs us t (order-equal (recordText s ks t) new o))
+        go (u ∷ us) l =
+            let e : u ≡ t = sym (l .0) in
+            record { xs = xs; ys = us; whole = ap (λ (v : ℕ). xs ++ (v ∷ us)) e; letters = order-equal (recordText s ks t) new o }
 
     pub found-from-stop : (prev t : ℕ) → 0 < t → compared (recordText s ks t) new ≡ 2 → FoundFrom s ks ls new prev t (Behind prev)
     found-from-stop prev t h o xs ys p q l k = record { xs = xs; ys = ys; whole = refl; last = p; lower = q; upper = go ys l k }

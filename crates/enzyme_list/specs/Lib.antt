@@ -7,6 +7,6 @@ pub mod ChainLaws
 pub mod InsertLaws
 pub mod StoreLaws
 pub mod AdviceLaws
+pub mod TallyLaws
 pub mod OfferLaws
 pub mod WriteLaws
-pub mod TallyLaws

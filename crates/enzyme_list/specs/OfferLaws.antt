@@ -1,6 +1,6 @@
 -- Laws of a range that is offered to the list: one for each way out. Assumes nothing.
-use Prim.Native.Nat.{ℕ, zero, suc, _+_, _-_, _*_, _/_, _≤_, _<_}
-use mathlib.Core.Path.{_≡_, refl, sym, ap, subst, _∙_}
+use Prim.Native.Nat.{ℕ, zero, suc, _+_, _-_, _*_, _/_, _%_, _≤_, _<_}
+use mathlib.Core.Path.{_≡_, refl, sym, ap, ap₂, subst, _∙_}
 use mathlib.Core.Bool.{Bool, true, false, cond, and-false}
 use mathlib.Core.Logic.{_⊎_, inl, inr, ⊎-elim}
 use mathlib.Core.List.{List, [], _∷_, _++_, append-assoc}
@@ -11,55 +11,59 @@ use lib.ListN.{length}
 use lib.Seq.{sets, length-sets}
 use lib.Dec.{ltb, eqb}
 use borrow.Author.Tests.{lt-ltb, le-ltb}
-use Rattle.lists.specs.Tests.{same?, below?}
-use Rattle.records.specs.Le.{le}
-use Rattle.records.specs.LeLaws.{length-le}
+use Rattle.lists.specs.Tests.{below?}
+use Rattle.records.specs.Le.{le, numberAt}
+use Rattle.records.specs.LeLaws.{number-apart}
 use Rattle.enzyme_cuts.specs.Cutting.{Range, part, seenIn, within, wanted}
 use Rattle.enzyme_cuts.specs.InsideLaws.{inside-append}
-use Rattle.enzyme_keep.specs.declared.offering.Step.the-variants.{Kept}
 use Rattle.enzyme_keep.specs.declared.offering.Terms.{Terms}
 use Rattle.enzyme_keep.specs.Digests.{recordOf}
-use Rattle.enzyme_keep.specs.Buffer.{rangesIn, linksIn, sealed}
-use Rattle.enzyme_keep.specs.BufferLaws.{sets-over, length-ranges, length-links, length-sealed, ranges-sealed, sealed-past, sealed-more}
+use Rattle.enzyme_keep.specs.Buffer.{rangeAt, rangesIn, linksIn, bared, timesAt}
+use Rattle.enzyme_keep.specs.BufferLaws.{length-ranges, length-links, length-bared, ranges-bared, ranges-behind, bared-lost, bared-more, times-stored}
 use Rattle.enzyme_keep.specs.StepLaws.{offers-one}
-use Rattle.enzyme_keep.specs.Steps.{digestRoom, after, decided, offered, offers}
+use Rattle.enzyme_keep.specs.Steps.{digestRoom, decided, offered, unlessFull, offers, untold}
 use Rattle.enzyme_list.specs.declared.walk.Place.{Place}
 use Rattle.enzyme_list.specs.declared.walk.Place.the-variants.{Same, Behind}
-use Rattle.enzyme_list.specs.declared.offering.Offered.the-variants.{Left, NoRoom}
 use Rattle.enzyme_order.specs.Order.{compared}
-use Rattle.enzyme_list.specs.Chain.{recordText, nextOf, LinkedThrough, ListFrom, Between, Sought, Begun, PlaceFor, Tells, isSame}
-use Rattle.enzyme_list.specs.ChainLaws.{last-snoc, linked-one, linked-behind}
+use Rattle.enzyme_list.specs.Chain.{recordText, nextOf, LinkedThrough, ListFrom, Between, FoundAt, Sought, Begun, PlaceFor, Tells, isSame}
+use Rattle.enzyme_list.specs.ChainLaws.{range-read, last-snoc, linked-one, linked-behind}
 use Rattle.enzyme_list.specs.Insert.{insertedIn, Inserted}
 use Rattle.enzyme_list.specs.InsertLaws.{Among, linked-among, among-right, place-within}
 use Rattle.enzyme_list.specs.AdviceLaws.{listed-none, begun-first, begun-at, found-seen, tells-insert}
-use Rattle.enzyme_list.specs.Offer.{Keeps, ListTells, Has, run, Came}
+use Rattle.enzyme_list.specs.Tally.{seenAt, addedBy, counted, Tally}
+use Rattle.enzyme_list.specs.TallyLaws.{clash, times-apart, tally-unfit, tally-full, tally-more, tally-found}
+use Rattle.enzyme_list.specs.Offer.{Keeps, ListTells, Has, run, Brimming, Came}
 
--- ---- the protein in the place of the links, whatever these were
+-- ---- the bytes with a record that was linked in
 
-sealed-link : (p v k j : ℕ) (out : List ℕ) → j < k → sealed p k (sets out (16 * j + 12) (le 4 v)) ≡ sealed p k out
-sealed-link p v zero j out h = absurd (omega arith)
-sealed-link p v (suc k) j out h = go (same? j k) (λ g. sealed-link p v k j out g)
+bared-inserted : (n q : ℕ) (r : Range) (times count p x : ℕ) (out : List ℕ) → p ≤ count → bared q (count + 1) (insertedIn n r times count p x out) ≡ sets (bared q count out) (20 * count) (recordOf n q r 0)
+bared-inserted n q r times count p x out h = go (eqb p 0)
   where
-    go : (j ≡ k) ⊎ (j ≡ k → ⊥) → (j < k → sealed p k (sets out (16 * j + 12) (le 4 v)) ≡ sealed p k out) → sealed p (suc k) (sets out (16 * j + 12) (le 4 v)) ≡ sealed p (suc k) out
-    go (inl e) ih =
-        let n : length (le 4 p) ≡ 4 = length-le 4 p in
-        let m : length (le 4 v) ≡ 4 = length-le 4 v in
-        rw (e, sealed-past p (le 4 v) k (16 * k + 12) out (omega arith)) (sets-over (le 4 v) (le 4 p) (sealed p k out) (16 * k + 12) (omega arith))
-    go (inr e) ih = ap (λ (b : List ℕ). sets b (16 * k + 12) (le 4 p)) (ih (⊎-elim (λ (y : j < k). y) (λ (y : k ≤ j). absurd (e (omega arith))) (below? j k)))
+    go : (t : Bool) → bared q (count + 1) (cond t (sets out (20 * count) (recordOf n x r times)) (sets (sets out (20 * count) (recordOf n x r times)) (20 * (p - 1) + 12) (le 4 (suc count)))) ≡ sets (bared q count out) (20 * count) (recordOf n q r 0)
+    go true = bared-more n q x r times count out
+    go false = bared-lost q (le 4 (suc count)) (p - 1) (20 * (p - 1) + 12) (sets out (20 * count) (recordOf n x r times)) (omega arith) (omega arith) (count + 1) (omega arith) ∙ bared-more n q x r times count out
 
-sealed-inserted : (n q : ℕ) (r : Range) (count p x : ℕ) (out : List ℕ) → p ≤ count → sealed q (count + 1) (insertedIn n r count p x out) ≡ sets (sealed q count out) (16 * count) (recordOf n q r)
-sealed-inserted n q r count p x out h = go (eqb p 0)
+length-inserted : (n : ℕ) (r : Range) (times count p x : ℕ) (out : List ℕ) → length (insertedIn n r times count p x out) ≡ length out
+length-inserted n r times count p x out = go (eqb p 0)
   where
-    go : (t : Bool) → sealed q (count + 1) (cond t (sets out (16 * count) (recordOf n x r)) (sets (sets out (16 * count) (recordOf n x r)) (16 * (p - 1) + 12) (le 4 (suc count)))) ≡ sets (sealed q count out) (16 * count) (recordOf n q r)
-    go true = sealed-more n q x r count out
-    go false = sealed-link q (suc count) (count + 1) (p - 1) (sets out (16 * count) (recordOf n x r)) (omega arith) ∙ sealed-more n q x r count out
+    go : (t : Bool) → length (cond t (sets out (20 * count) (recordOf n x r times)) (sets (sets out (20 * count) (recordOf n x r times)) (20 * (p - 1) + 12) (le 4 (suc count)))) ≡ length out
+    go true = length-sets out (20 * count) (recordOf n x r times)
+    go false = length-sets (sets out (20 * count) (recordOf n x r times)) (20 * (p - 1) + 12) (le 4 (suc count)) ∙ length-sets out (20 * count) (recordOf n x r times)
 
-length-inserted : (n : ℕ) (r : Range) (count p x : ℕ) (out : List ℕ) → length (insertedIn n r count p x out) ≡ length out
-length-inserted n r count p x out = go (eqb p 0)
-  where
-    go : (t : Bool) → length (cond t (sets out (16 * count) (recordOf n x r)) (sets (sets out (16 * count) (recordOf n x r)) (16 * (p - 1) + 12) (le 4 (suc count)))) ≡ length out
-    go true = length-sets out (16 * count) (recordOf n x r)
-    go false = length-sets (sets out (16 * count) (recordOf n x r)) (16 * (p - 1) + 12) (le 4 (suc count)) ∙ length-sets out (16 * count) (recordOf n x r)
+-- the numbers: that of the new record, and the others as they were
+module _ (n : ℕ) (r : Range) (times count p x : ℕ) (out : List ℕ) (room : 20 * count + 20 ≤ length out) where
+  pub times-written : (k : ℕ) → k < count → timesAt k (sets out (20 * count) (recordOf n x r times)) ≡ timesAt k out
+  times-written k l = times-apart k (recordOf n x r times) out (20 * count) (inl (omega arith))
+
+  pub times-new : timesAt count (sets out (20 * count) (recordOf n x r times)) ≡ le 4 times
+  times-new = times-stored n x r times out (20 * count) room
+
+  times-inserted : (k : ℕ) → timesAt k (insertedIn n r times count p x out) ≡ timesAt k (sets out (20 * count) (recordOf n x r times))
+  times-inserted k = go (eqb p 0)
+    where
+      go : (t : Bool) → timesAt k (cond t (sets out (20 * count) (recordOf n x r times)) (sets (sets out (20 * count) (recordOf n x r times)) (20 * (p - 1) + 12) (le 4 (suc count)))) ≡ timesAt k (sets out (20 * count) (recordOf n x r times))
+      go true = refl
+      go false = times-apart k (le 4 (suc count)) (sets out (20 * count) (recordOf n x r times)) (20 * (p - 1) + 12) (⊎-elim (λ (z : k < p - 1). inl (omega arith)) (λ (z : p - 1 ≤ k). inr (omega arith)) (below? k (p - 1)))
 
 -- ---- who is in a list is in it with one more
 
@@ -74,41 +78,125 @@ amid-more t n (x ∷ xs) ys (p ∷ ps) qs e =
     let k = amid-more t n xs ys ps qs g in
     (p ∷ k .0, k .1, ap (λ (l : List ℕ). p ∷ l) (k .2))
 
+-- ---- what is seen of the records
+
+module _ (s : List ℕ) (t : Terms) (r : Range) (count : ℕ) (full : Bool) (out : List ℕ) where
+  one : (w b : Bool) → wanted s (t .minimum) (t .maximum) (rangesIn count out) r ≡ w → ltb count (digestRoom out) ≡ b
+      → decided w b count (bared (t .protein) count out) (recordOf (length s) (t .protein) r 0) ≡ offers s t untold (r ∷ []) count (bared (t .protein) count out)
+  unfolding offered
+  one w b e f = sym (offers-one s t untold r count (bared (t .protein) count out) ∙ rw (ranges-bared (t .protein) count count out, length-bared (t .protein) count out, e, f))
+
+  -- a range that is not wanted: nothing but numbers may have changed
+  pub view-same : wanted s (t .minimum) (t .maximum) (rangesIn count out) r ≡ false → Brimming count full out → (out′ : List ℕ) → length out′ ≡ length out → bared (t .protein) count out′ ≡ bared (t .protein) count out
+      → seenAt t count full out′ ≡ unlessFull (seenAt t count full out) (offers s t untold (r ∷ []))
+  view-same e brim out′ l b = go full brim
+    where
+      go : (full : Bool) → Brimming count full out → seenAt t count full out′ ≡ unlessFull (seenAt t count full out) (offers s t untold (r ∷ []))
+      go true brim =
+          let d : digestRoom out ≡ count = sym (brim refl) in
+          rw (l, d, b)
+      go false brim = rw b (one false (ltb count (digestRoom out)) e refl)
+
+  -- there is no room
+  pub view-full : wanted s (t .minimum) (t .maximum) (rangesIn count out) r ≡ true → digestRoom out ≡ count → seenAt t count true out ≡ unlessFull (seenAt t count full out) (offers s t untold (r ∷ []))
+  view-full e d = go full
+    where
+      go : (full : Bool) → seenAt t count true out ≡ unlessFull (seenAt t count full out) (offers s t untold (r ∷ []))
+      go true = refl
+      go false = rw d (one true false e (le-ltb count (digestRoom out) (omega arith)))
+
+  -- it was written
+  pub view-more : wanted s (t .minimum) (t .maximum) (rangesIn count out) r ≡ true → count < digestRoom out → full ≡ false → (out′ : List ℕ)
+      → bared (t .protein) (count + 1) out′ ≡ sets (bared (t .protein) count out) (20 * count) (recordOf (length s) (t .protein) r 0)
+      → seenAt t (count + 1) false out′ ≡ unlessFull (seenAt t count full out) (offers s t untold (r ∷ []))
+  view-more e free roomy out′ b = rw (roomy, b) (one true true e (lt-ltb count (digestRoom out) free))
+
 -- ---- the ways out
 
-module _ (s : List ℕ) (t : Terms) (r : Range) (count head : ℕ) (out : List ℕ) (keeps : Keeps s count head out) where
-  pub one : (w b : Bool) → wanted s (t .minimum) (t .maximum) (rangesIn count out) r ≡ w → ltb count (digestRoom out) ≡ b
-      → decided w b count (sealed (t .protein) count out) (recordOf (length s) (t .protein) r) ≡ offers s t (r ∷ []) count (sealed (t .protein) count out)
-  unfolding offered
-  one w b e f = sym (offers-one s t r count (sealed (t .protein) count out) ∙ rw (ranges-sealed (t .protein) count count out, length-sealed (t .protein) count out, e, f))
+links-counted : (k : ℕ) (out : List ℕ) (j v : ℕ) → linksIn k (sets out (20 * j + 16) (le 4 v)) ≡ linksIn k out
+links-counted zero out j v = refl
+links-counted (suc k) out j v =
+    ap₂ (λ (ls : List ℕ) (l : ℕ). ls ++ (l ∷ [])) (links-counted k out j v)
+    (number-apart 4 (le 4 v) out (20 * j + 16) (20 * k + 12) (⊎-elim (λ (x : j < k). inr (omega arith)) (λ (x : k ≤ j). inl (omega arith)) (below? j k)))
 
-  came-unwanted : wanted s (t .minimum) (t .maximum) (rangesIn count out) r ≡ false → Came s t r count head out (Left (run count head)) out
-  came-unwanted e = record { view = one false (ltb count (digestRoom out)) e refl; next = keeps; knows = λ new k. k; has = λ u h. h; grown = inl refl }
+-- where there is room for one more, there was room
+pub roomy-still : (count : ℕ) (full : Bool) (out : List ℕ) → Brimming count full out → count < digestRoom out → full ≡ false
+roomy-still count true out brim free = let e = brim refl in absurd (omega arith)
+roomy-still count false out brim free = refl
 
-  came-no-room : wanted s (t .minimum) (t .maximum) (rangesIn count out) r ≡ true → digestRoom out ≤ count → Came s t r count head out NoRoom out
-  came-no-room e h =
-      let f : digestRoom out ≡ count = omega (arith, keeps .fits, keeps .capped) in
-      record { view = rw f (one true false e (le-ltb count (digestRoom out) h)); next = tt; knows = λ new k. tt; has = λ u h. tt; grown = tt }
+module _ (s : List ℕ) (t : Terms) (r : Range) (times count head : ℕ) (full : Bool) (out : List ℕ) (keeps : Keeps s count head out) (brim : Brimming count full out) where
+  brimful : digestRoom out ≤ count → digestRoom out ≡ count
+  brimful h = omega (arith, keeps .fits, keeps .capped)
 
   module _ (known : ListTells s count head out (part s r)) where
     -- the length does not fit
-    pub came-other : within (t .minimum) (t .maximum) (r .to - r .from) ≡ false → Came s t r count head out (Left (run count head)) out
-    came-other w = came-unwanted (rw w)
+    pub came-other : within (t .minimum) (t .maximum) (r .to - r .from) ≡ false → Came s t r times count head full out (run count head full) out
+    came-other w = record {
+      view = view-same s t r count full out (rw w) brim out refl refl;
+      next = keeps;
+      brims = brim;
+      knows = λ new k. k;
+      has = λ u h. h;
+      grown = inl refl;
+      tells = λ T h. tally-unfit s t r times count full out T h w;
+    }
 
     seen : (a : Place) → Sought s (rangesIn count out) (linksIn count out) head (part s r) a → seenIn s (rangesIn count out) (part s r) ≡ isSame a
     seen a found =
         known (keeps .c) (keeps .listed) ∙ found-seen s (rangesIn count out) (part s r) (keeps .c) a (found (keeps .c) (keeps .listed))
 
-    -- an earlier record has the letters
-    pub came-seen : Sought s (rangesIn count out) (linksIn count out) head (part s r) Same → Came s t r count head out (Left (run count head)) out
-    came-seen found = came-unwanted (rw (seen Same found) (and-false (within (t .minimum) (t .maximum) (r .to - r .from))))
+    -- record u has the letters
+    module _ (u : ℕ) (found : Sought s (rangesIn count out) (linksIn count out) head (part s r) (Same u)) where
+      there : FoundAt s (rangesIn count out) (part s r) (keeps .c) u
+      there = found (keeps .c) (keeps .listed)
+
+      pub found-within : (0 < u) × (u ≤ count)
+      found-within =
+          let l : LinkedThrough (linksIn count out) head (there .xs ++ (u ∷ there .ys)) = rw (there .whole) at (keeps .listed .linked) in
+          let a : Among count (there .xs ++ (u ∷ there .ys)) = rw (length-links count out) at (linked-among (linksIn count out) head (there .xs ++ (u ∷ there .ys)) l) in
+          let b = among-right count (there .xs) (u ∷ there .ys) a in
+          (b .0, b .1)
+
+      letters : part s (rangeAt out (20 * (u - 1))) ≡ part s r
+      letters = let b = found-within in ap (part s) (sym (range-read count out (u - 1) (omega (arith, b .0, b .1)))) ∙ there .letters
+
+      long : length (counted out u times) ≡ length out
+      long = length-sets out (20 * (u - 1) + 16) (le 4 ((numberAt 4 out (20 * (u - 1) + 16) + times) % 4294967296))
+
+      ranges : rangesIn count (counted out u times) ≡ rangesIn count out
+      ranges = ranges-behind (le 4 ((numberAt 4 out (20 * (u - 1) + 16) + times) % 4294967296)) (u - 1) (20 * (u - 1) + 16) count out (omega arith) (omega arith)
+
+      links : linksIn count (counted out u times) ≡ linksIn count out
+      links = links-counted count out (u - 1) ((numberAt 4 out (20 * (u - 1) + 16) + times) % 4294967296)
+
+      bare : bared (t .protein) count (counted out u times) ≡ bared (t .protein) count out
+      bare = let b = found-within in bared-lost (t .protein) (le 4 ((numberAt 4 out (20 * (u - 1) + 16) + times) % 4294967296)) (u - 1) (20 * (u - 1) + 16) out (omega arith) (omega arith) count (omega (arith, b .0, b .1))
+
+      pub came-found : within (t .minimum) (t .maximum) (r .to - r .from) ≡ true → Came s t r times count head full out (run count head full) (counted out u times)
+      came-found fits = record {
+        view = view-same s t r count full out (rw (seen (Same u) found) (and-false (within (t .minimum) (t .maximum) (r .to - r .from)))) brim (counted out u times) long bare;
+        next = record { small = keeps .small; capped = keeps .capped; fits = rw long (keeps .fits); inside = rw ranges (keeps .inside); c = keeps .c; listed = rw (ranges, links) (keeps .listed) };
+        brims = λ f. rw long (brim f);
+        knows = λ new k. rw (ranges, links) k;
+        has = λ v h. record { xs = h .xs; ys = h .ys; linked = rw links (h .linked) };
+        grown = inl ranges;
+        tells = λ T h. tally-found s t r times count full out T h fits u (found-within .0) (found-within .1) (keeps .fits) letters;
+      }
 
     module _ (p : ℕ) (fits : within (t .minimum) (t .maximum) (r .to - r .from) ≡ true) (found : Sought s (rangesIn count out) (linksIn count out) head (part s r) (Behind p)) where
       want : wanted s (t .minimum) (t .maximum) (rangesIn count out) r ≡ true
       want = rw (fits, seen (Behind p) found)
 
-      pub came-full : digestRoom out ≤ count → Came s t r count head out NoRoom out
-      came-full h = came-no-room want h
+      pub came-full : digestRoom out ≤ count → Came s t r times count head full out (run count head true) out
+      came-full h = record {
+        view = view-full s t r count full out want (brimful h);
+        next = keeps;
+        brims = λ f. sym (brimful h);
+        knows = λ new k. k;
+        has = λ u h. h;
+        grown = inl refl;
+        tells = λ T g. tally-full s t r times count full out T g (seen (Behind p) found);
+      }
 
       pub place-of-range : PlaceFor s (rangesIn count out) (linksIn count out) head p (part s r)
       place-of-range = record { c = keeps .c; listed = keeps .listed; between = found (keeps .c) (keeps .listed) }
@@ -122,7 +210,7 @@ module _ (s : List ℕ) (t : Terms) (r : Range) (count head : ℕ) (out : List �
       old : ListFrom s (rangesIn count out) (linksIn count out) head (between .xs ++ between .ys)
       old = rw (between .whole) at (keeps .listed)
 
-      module _ (free : count < digestRoom out) (i : r .from ≤ r .to) (j : r .to ≤ length s) (first : ℕ) (out′ : List ℕ) (g : Inserted s count head p r out out′ first) where
+      module _ (free : count < digestRoom out) (i : r .from ≤ r .to) (j : r .to ≤ length s) (first : ℕ) (out′ : List ℕ) (g : Inserted s count head p r times out out′ first) where
         new-listed : ListFrom s (rangesIn (suc count) out′) (linksIn (suc count) out′) first (between .xs ++ (suc count ∷ between .ys))
         new-listed = g .listed (between .xs) (between .ys) old (between .last) (between .lower) (between .upper)
 
@@ -137,9 +225,9 @@ module _ (s : List ℕ) (t : Terms) (r : Range) (count head : ℕ) (out : List �
 
         new-keeps : Keeps s (suc count) first out′
         new-keeps =
-            let u = min-le-right (length out / 16) 1048576 in
-            let m = min-le-left (length out / 16) 1048576 in
-            let l : length out′ ≡ length out = ap length (g .bytes) ∙ length-inserted (length s) r count p (nextOf (linksIn count out) head p) out in
+            let u = min-le-right (length out / 20) 1048576 in
+            let m = min-le-left (length out / 20) 1048576 in
+            let l : length out′ ≡ length out = ap length (g .bytes) ∙ length-inserted (length s) r times count p (nextOf (linksIn count out) head p) out in
             record {
               small = keeps .small;
               capped = omega arith;
@@ -155,14 +243,29 @@ module _ (s : List ℕ) (t : Terms) (r : Range) (count head : ℕ) (out : List �
             let k = amid-more u (suc count) (h .xs) (h .ys) (between .xs) (between .ys) e in
             record { xs = k .0; ys = k .1; linked = rw (k .2) at (new-listed .linked) }
 
+        enough : 20 * count + 20 ≤ length out
+        enough = let m = min-le-left (length out / 20) 1048576 in omega arith
+
+        roomy : full ≡ false
+        roomy = roomy-still count full out brim free
+
+        new-tally : (T : List ℕ → ℕ) → Tally s t count full out T → Tally s t (suc count) false out′ (λ x. T x + addedBy s t r times x)
+        new-tally T h =
+            tally-more s t r times count full out T h (seen (Behind p) found) fits roomy out′ (g .ranges)
+            (λ k l. ap (timesAt k) (g .bytes) ∙ times-inserted (length s) r times count p (nextOf (linksIn count out) head p) out enough k ∙ times-written (length s) r times count p (nextOf (linksIn count out) head p) out enough k l)
+            (ap (timesAt count) (g .bytes) ∙ times-inserted (length s) r times count p (nextOf (linksIn count out) head p) out enough count ∙ times-new (length s) r times count p (nextOf (linksIn count out) head p) out enough)
+
         -- it was written and linked in
-        pub came-kept : Came s t r count head out (Left (run (count + 1) first)) out′
-        came-kept =
-            let v : after (Kept (count + 1)) (sealed (t .protein) (count + 1) out′) ≡ offers s t (r ∷ []) count (sealed (t .protein) count out) =
-            ap (λ (b : List ℕ). after (Kept (count + 1)) (sealed (t .protein) (count + 1) b)) (g .bytes)
-            ∙ ap (after (Kept (count + 1))) (sealed-inserted (length s) (t .protein) r count p (nextOf (linksIn count out) head p) out within-count)
-            ∙ one true true want (lt-ltb count (digestRoom out) free) in
-            record { view = v; next = rw (add-one count) new-keeps; knows = λ x k. rw (add-one count) (new-tells x k); has = λ u h. rw (add-one count) (new-has u h); grown = inr (rw (add-one count) (g .ranges)) }
+        pub came-kept : Came s t r times count head full out (run (count + 1) first false) out′
+        came-kept = record {
+          view = view-more s t r count full out want free roomy out′ (ap (bared (t .protein) (count + 1)) (g .bytes) ∙ bared-inserted (length s) (t .protein) r times count p (nextOf (linksIn count out) head p) out within-count);
+          next = rw (add-one count) new-keeps;
+          brims = λ f. absurd (clash false f refl);
+          knows = λ x k. rw (add-one count) (new-tells x k);
+          has = λ u h. rw (add-one count) (new-has u h);
+          grown = inr (rw (add-one count) (g .ranges));
+          tells = λ T h. rw (add-one count) (new-tally T h);
+        }
 
 -- no record yet: the list tells of everything
 pub keeps-start : (s out : List ℕ) → length s ≤ 65536 → Keeps s 0 0 out

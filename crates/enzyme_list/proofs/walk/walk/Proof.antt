@@ -42,7 +42,7 @@ order-at-requires c κs = let p = c .before .before .before .before .pre in
 returns : tie.Need-returns Inv-loop μ-loop
 returns c = let a = c .before .before .before .before .before .before .args in
     let l = c .before .before .before .loop in
-    l .inv .1 Same (found-from-same (now (a .letters)) (rangesIn (a .count) (now (a .out))) (linksIn (a .count) (now (a .out))) (part (now (a .letters)) (site (a .a) (a .e))) (l .last) (l .t) (omega arith) (sym (c .before .order-at .ensures) ∙ c .if1 .taken))
+    l .inv .1 (Same (l .t)) (found-from-same (now (a .letters)) (rangesIn (a .count) (now (a .out))) (linksIn (a .count) (now (a .out))) (part (now (a .letters)) (site (a .a) (a .e))) (l .last) (l .t) (omega arith) (sym (c .before .order-at .ensures) ∙ c .if1 .taken))
 
 returns-2 : tie.Need-returns-2 Inv-loop μ-loop
 returns-2 c = let a = c .before .before .before .before .before .before .before .args in
