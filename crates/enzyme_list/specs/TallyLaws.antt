@@ -11,7 +11,7 @@ use Rattle.lists.specs.Tests.{below?, same?, truth?}
 use Rattle.lists.specs.Lists.{same}
 use Rattle.lists.specs.SameLaws.{same-refl, same-eq}
 use Rattle.records.specs.Le.{le, value, numberAt}
-use Rattle.records.specs.LeLaws.{length-le, Apart, getD-sets-other}
+use Rattle.records.specs.LeLaws.{Apart, getD-sets-other}
 use Rattle.enzyme_cuts.specs.Cutting.{Range, site, part, seenIn, within}
 use Rattle.enzyme_cuts.specs.KeepLaws.{seenIn-append}
 use Rattle.enzyme_keep.specs.declared.offering.Terms.{Terms}
@@ -127,8 +127,8 @@ unseen-record s (suc n) out new h k l e =
 
 -- ---- the records' numbers
 
-pub tally-alike : {s : List ℕ} {t : Terms} {count : ℕ} {full : Bool} {out : List ℕ} {T T′ : List ℕ → ℕ} → ((x : List ℕ) → T x ≡ T′ x) → Tally s t count full out T → Tally s t count full out T′
-tally-alike {s} {t} {count} {full} {out} {T} {T′} e h = record {
+pub tally-alike : {s : List ℕ} {t : Terms} {count : ℕ} {full : Bool} {out : List ℕ} (T U : List ℕ → ℕ) → ((x : List ℕ) → T x ≡ U x) → Tally s t count full out T → Tally s t count full out U
+tally-alike {s} {t} {count} {full} {out} T U e h = record {
   told = λ k l. h .told k l ∙ ap (le 4) (e (part s (rangeAt out (20 * k))));
   fit = h .fit;
   differ = h .differ;
@@ -163,7 +163,7 @@ module _ (s : List ℕ) (t : Terms) (r : Range) (times : ℕ) where
 
     -- its length does not fit
     pub tally-unfit : within (t .minimum) (t .maximum) (r .to - r .from) ≡ false → Tally s t count full out (λ x. T x + addedBy s t r times x)
-    tally-unfit w = tally-alike (λ x. rw w (omega arith)) h
+    tally-unfit w = tally-alike T (λ x. T x + addedBy s t r times x) (λ x. rw w (omega arith)) h
 
     -- no record has its letters
     module _ (fresh : seenIn s (rangesIn count out) (part s r) ≡ false) where

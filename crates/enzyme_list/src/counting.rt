@@ -3,8 +3,8 @@ ghost use mathlib.Core.Path.{_≡_};
 ghost use Prim.Native.Nat.{_≤_, _<_};
 ghost use Rattle.enzyme_list.specs.Tally.{counted};
 
-// Record t, numbered from 1, gets so many more. A number is at most 65,536; what no call comes to is left out of the proof by going
-// round at 2^32.
+// Record t, numbered from 1, gets so many more. No call comes to 2^32; that the sum would go round there spares the contract
+// a bound.
 pub(crate) fn add_times(out: &mut [u8], t: usize, times: u32)
     requires { ⌜ (0 < t) × (t ≤ 1048576) ⌝ }
     ensures { λ _. ⌜ now (out .exit) ≡ counted (now (out .entry)) t times ⌝ }

@@ -10,7 +10,7 @@ ghost use Prim.Native.Nat.{_-_, _≤_};
 ghost use lib.ListN.{length};
 ghost use Rattle.enzyme_cuts.specs.Cutting.{range, site, part, seenIn, within};
 ghost use Rattle.enzyme_keep.specs.Buffer.{rangesIn, linksIn};
-ghost use Rattle.enzyme_list.specs.declared.walk.Place.the-variants.{Same, Behind};
+ghost use Rattle.enzyme_list.specs.declared.walk.Place.the-variants.{Behind};
 ghost use Rattle.enzyme_list.specs.Chain.{Begun, Sought};
 ghost use Rattle.enzyme_list.specs.Offer.{Keeps, ListTells, Brimming, Came, CameUnlinked};
 
@@ -21,8 +21,8 @@ pub struct Run {
     pub full: bool,
 }
 
-// The letters a..e, whose length is wanted and which no record has: their record is written behind the first count records and linked in
-// behind record prev, if there is room.
+// The letters a..e, whose length is wanted and which no record has: their record is written behind the first count records
+// and linked in behind record prev, if there is room.
 fn link(
     letters: &[u8],
     a: usize,
@@ -56,9 +56,9 @@ fn link(
     }
 }
 
-// Where a record of the list has the letters a..e, it gets `times` more. Where none has them, their record is written behind the first
-// count records with that number and linked in, if its length is wanted and there is room. The search begins at record `from` of the list, which
-// is below a..e, or at the first one for 0.
+// Where a record of the list has the letters a..e, it gets `times` more, also where there was no room for another. Where none
+// has them, their record is written behind the first count records with that number and linked in, if its length is wanted
+// and there is room. The search begins at record `from` of the list, which is below a..e, or at the first one for 0.
 pub fn offer(
     letters: &[u8],
     a: usize,

@@ -124,8 +124,8 @@ fn seek_range(
     note(letters, out, marks, next, k, head)
 }
 
-// A record that has the letters a..e gets `times` more; where none has them, the length is wanted and there is room, their record is
-// written, with that number. `far` has for each start the most letters that any other start may share with it.
+// A record that has the letters a..e gets `times` more; where none has them, the length is wanted and there is room, their
+// record is written, with that number. `far` has for each start the most letters that any other start may share with it.
 pub fn offer_range(
     letters: &[u8],
     far: &[u32],

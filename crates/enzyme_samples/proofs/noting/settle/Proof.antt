@@ -13,6 +13,7 @@ returns-2 c = let s = c .before .before .before .before .before .before .before 
     record {
       count = refl;
       head = refl;
+      full = refl;
       marked = thin-marked (a .run .count) (a .run .head) (now (a .out)) (now (a .marks)) (a .run .samples) (s .pre .2) (c .before .before .before .thin .last .0) (c .before .before .before .thin .result) (c .before .before .before .thin .ensures);
     }
 
