@@ -34,7 +34,7 @@ fn least_of(longest: &[u32], from: usize, to: usize) -> u32
 
 // Writes the least of each block of `width` of the first n numbers, from place `at` on.
 fn fill_blocks(longest: &[u32], n: usize, width: usize, at: usize, least: &mut [u32])
-    requires { ⌜ (n ≤ 65536) × (n ≤ length (now longest)) × (0 < width) × (width ≤ 4096) × (n ≤ width * (length (now least) - at)) ⌝ }
+    requires { ⌜ (n ≤ 65537) × (n ≤ length (now longest)) × (0 < width) × (width ≤ 4096) × (n ≤ width * (length (now least) - at)) ⌝ }
     ensures { λ _. ⌜ Leasts width at n (now (longest .entry)) (now (least .exit)) × ((i : ℕ) → i < at → getD (now (least .exit)) i 0 ≡ getD (now (least .entry)) i 0) ⌝ }
 {
     let mut b = 0;
@@ -48,7 +48,7 @@ fn fill_blocks(longest: &[u32], n: usize, width: usize, at: usize, least: &mut [
 
 // The same for blocks of 64 and, behind their 1,025 places, for great blocks.
 pub fn fill_least(longest: &[u32], n: usize, least: &mut [u32])
-    requires { ⌜ (n ≤ 65536) × (n ≤ length (now longest)) × (1042 ≤ length (now least)) ⌝ }
+    requires { ⌜ (n ≤ 65537) × (n ≤ length (now longest)) × (1042 ≤ length (now least)) ⌝ }
     ensures { λ _. ⌜ Blocked n (now (longest .entry)) (now (least .exit)) ⌝ }
 {
     fill_blocks(longest, n, 64, 0, least);
