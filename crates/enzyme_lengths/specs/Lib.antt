@@ -2,5 +2,6 @@
 pub mod Longest
 pub mod LongestLaws
 pub mod Listing
+pub mod ShowingLaws
 pub mod ListingLaws
 pub mod StartLaws

@@ -11,10 +11,10 @@ use Rattle.enzyme_lengths.proofs.listing.list_great.Statement.{statemen
 use Rattle.enzyme_lengths.proofs.listing.list_great.Tie as tie
 
 shared-slice-read-wide : tie.Need-shared-slice-read-wide
-shared-slice-read-wide c = omega (arith, c .before .before .before .before .before .pre .3 .wide)
+shared-slice-read-wide c = omega (arith, c .before .before .before .before .before .before .before .before .before .pre .3 .wide)
 
 returns : tie.Need-returns
-returns c = let s = c .before .before .before .before .before .before .before in
+returns c = let s = c .before .before .before .before .before .before .before .before .before .before .before in
     let a = s .args in
     let x = c .before .wide in
     let b = a .from / 4096 in
@@ -22,7 +22,7 @@ returns c = let s = c .before .before .before .before .before .before .before in
     block-passed (now (a .letters)) (a .protein) (a .len) (a .count) (now (a .out)) (now (a .longest)) (a .from) (a .to) (x .result) (s .pre .1) (s .pre .2) low (c .if1 .taken)
 
 list-blocks-requires : tie.Need-list-blocks-requires
-list-blocks-requires c κs = let s = c .before .before .before .before .before .before .before .before in (s .pre .0, s .pre .1, s .pre .2, s .pre .3, omega arith)
+list-blocks-requires c κs = let s = c .before .before .before .before .before .before .before .before .before .before .before .before in (s .pre .0, s .pre .1, s .pre .2, s .pre .3, omega arith, s .pre .7)
 
 pub list-great-spec : {M : Type 1} → statement M
 list-great-spec =

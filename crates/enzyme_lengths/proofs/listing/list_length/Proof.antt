@@ -12,39 +12,39 @@ use Rattle.enzyme_lengths.proofs.listing.list_length.Statement.{stateme
 use Rattle.enzyme_lengths.proofs.listing.list_length.Tie as tie
 
 abbrev Inv-loop : tie.InvT-loop
-Inv-loop letters longest least len protein out₀ count starts a₀ k₀ out a k = (length out ≡ length out₀) × (a % 4096 ≡ 0)
+Inv-loop letters longest most low places runs least len protein out₀ count starts a₀ k₀ out a k = (length out ≡ length out₀) × (a % 4096 ≡ 0)
     × (chosenOf letters protein (starting len a (starts - a)) k out ≡ chosenOf letters protein (ofLength (length letters) len) count out₀)
 
 abbrev μ-loop : tie.MeasureT-loop
-μ-loop letters longest least len protein out₀ count starts a₀ k₀ out a k = starts - a
+μ-loop letters longest most low places runs least len protein out₀ count starts a₀ k₀ out a k = starts - a
 
 loop-holds : tie.Need-loop-holds Inv-loop μ-loop
-loop-holds c = let a = c .before .before .before .before .args in
+loop-holds c = let a = c .before .before .before .before .before .before .before .before .args in
     let z : length (now (a .letters)) + 1 - a .len - 0 ≡ suc (length (now (a .letters))) - a .len = omega arith in
     (refl, refl, rw z)
 
 list-great-requires : tie.Need-list-great-requires Inv-loop μ-loop
-list-great-requires c κs = let s = c .before .before .before .before .before .before .before .before in
+list-great-requires c κs = let s = c .before .before .before .before .before .before .before .before .before .before .before .before in
     let e = c .before .block-end .ensures in
-    (s .pre .0, s .pre .2, omega arith, s .pre .3, c .before .before .before .loop .inv .1, omega arith, omega arith)
+    (s .pre .0, s .pre .2, omega arith, s .pre .3, c .before .before .before .loop .inv .1, omega arith, omega arith, s .pre .4)
 
 returns : tie.Need-returns Inv-loop μ-loop
-returns c = let a = c .before .before .before .before .before .before .before .before .before .before .before .before .before .args in
+returns c = let a = c .before .before .before .before .before .before .before .before .before .before .before .before .before .before .before .before .before .args in
     let l = c .before .before .before .before .before .before .before .before .loop in
     let b = c .before .before .before .before .before .before .block-end in
     let x = c .before .before .before .before .list-great in
-    walk-full (now (a .letters)) (a .protein) (a .len) 4096 (l .a) (b .result) (length (now (a .letters)) + 1 - a .len) (l .k) (l .out) (x .last .1 .1 .1 .1 .1 .1 .1 .0) (b .ensures) (omega arith) (rw (c .enum-told .given .1) at (x .ensures)) ∙ l .inv .2
+    walk-full (now (a .letters)) (a .protein) (a .len) 4096 (l .a) (b .result) (length (now (a .letters)) + 1 - a .len) (l .k) (l .out) (x .last .1 .1 .1 .1 .1 .1 .1 .1 .1 .1 .1 .0) (b .ensures) (omega arith) (rw (c .enum-told .given .1) at (x .ensures)) ∙ l .inv .2
 
 loop-again : tie.Need-loop-again Inv-loop μ-loop
-loop-again c = let a = c .before .before .before .before .before .before .before .before .before .before .before .before .before .before .args in
+loop-again c = let a = c .before .before .before .before .before .before .before .before .before .before .before .before .before .before .before .before .before .before .args in
     let l = c .before .before .before .before .before .before .before .before .before .loop in
     let b = c .before .before .before .before .before .before .before .block-end in
     let x = c .before .before .before .before .before .list-great in
     let y = c .before .x .given in
-    (omega arith, omega arith, walk-kept (now (a .letters)) (a .protein) (a .len) 4096 (l .a) (b .result) (length (now (a .letters)) + 1 - a .len) (l .k) (l .out) (x .last .1 .1 .1 .1 .1 .1 .1 .0) (b .ensures) (omega arith) (y .0 .0) (rw (y .1) at (x .ensures)) ∙ l .inv .2)
+    (omega arith, omega arith, walk-kept (now (a .letters)) (a .protein) (a .len) 4096 (l .a) (b .result) (length (now (a .letters)) + 1 - a .len) (l .k) (l .out) (x .last .1 .1 .1 .1 .1 .1 .1 .1 .1 .1 .1 .0) (b .ensures) (omega arith) (y .0 .0) (rw (y .1) at (x .ensures)) ∙ l .inv .2)
 
 returns-2 : tie.Need-returns-2 Inv-loop μ-loop
-returns-2 c = let a = c .before .before .before .before .before .before .args in rw (starting-end (a .len) (c .before .loop .a) (length (now (a .letters)) + 1 - a .len) (omega arith)) at (c .before .loop .inv .2)
+returns-2 c = let a = c .before .before .before .before .before .before .before .before .before .before .args in rw (starting-end (a .len) (c .before .loop .a) (length (now (a .letters)) + 1 - a .len) (omega arith)) at (c .before .loop .inv .2)
 
 pub list-length-spec : {M : Type 1} → statement M
 list-length-spec =

@@ -15,43 +15,43 @@ use Rattle.enzyme_lengths.proofs.listing.list_lengths.Statement.{statem
 use Rattle.enzyme_lengths.proofs.listing.list_lengths.Tie as tie
 
 abbrev Inv-loop : tie.InvT-loop
-Inv-loop letters longest least terms out₀ n top len₀ k₀ out len k = (length out ≡ length out₀) × (top ≡ min (terms .maximum) (length letters))
+Inv-loop letters longest most low places runs least terms out₀ n top len₀ k₀ out len k = (length out ≡ length out₀) × (top ≡ min (terms .maximum) (length letters))
     × (chosenOf letters (terms .protein) (ofLengths (length letters) len (suc (terms .maximum) - len)) k out ≡ chosenOf letters (terms .protein) (noneSites (length letters) (terms .minimum) (terms .maximum)) 0 out₀)
 
 abbrev μ-loop : tie.MeasureT-loop
-μ-loop letters longest least terms out₀ n top len₀ k₀ out len k = suc (terms .maximum) - len
+μ-loop letters longest most low places runs least terms out₀ n top len₀ k₀ out len k = suc (terms .maximum) - len
 
 -- the ranges of this length, and those of the lengths behind it
 abbrev these : tie.After-wide Inv-loop μ-loop → List Range
-these c = ofLength (length (now (c .before .before .before .before .before .before .before .before .args .letters))) (c .wide .result)
+these c = ofLength (length (now (c .before .before .before .before .before .before .before .before .before .before .before .before .args .letters))) (c .wide .result)
 
 abbrev rest : tie.After-wide Inv-loop μ-loop → List Range
-rest c = ofLengths (length (now (c .before .before .before .before .before .before .before .before .args .letters))) (c .before .before .loop .len + 1) (suc (c .before .before .before .before .before .before .before .before .args .terms .maximum) - (c .before .before .loop .len + 1))
+rest c = ofLengths (length (now (c .before .before .before .before .before .before .before .before .before .before .before .before .args .letters))) (c .before .before .loop .len + 1) (suc (c .before .before .before .before .before .before .before .before .before .before .before .before .args .terms .maximum) - (c .before .before .loop .len + 1))
 
-ahead : (c : tie.After-wide Inv-loop μ-loop) → chosenOf (now (c .before .before .before .before .before .before .before .before .args .letters)) (c .before .before .before .before .before .before .before .before .args .terms .protein) (these c ++ rest c) (c .before .before .loop .k) (c .before .before .loop .out) ≡ chosenOf (now (c .before .before .before .before .before .before .before .before .args .letters)) (c .before .before .before .before .before .before .before .before .args .terms .protein) (noneSites (length (now (c .before .before .before .before .before .before .before .before .args .letters))) (c .before .before .before .before .before .before .before .before .args .terms .minimum) (c .before .before .before .before .before .before .before .before .args .terms .maximum)) 0 (now (c .before .before .before .before .before .before .before .before .args .out))
+ahead : (c : tie.After-wide Inv-loop μ-loop) → chosenOf (now (c .before .before .before .before .before .before .before .before .before .before .before .before .args .letters)) (c .before .before .before .before .before .before .before .before .before .before .before .before .args .terms .protein) (these c ++ rest c) (c .before .before .loop .k) (c .before .before .loop .out) ≡ chosenOf (now (c .before .before .before .before .before .before .before .before .before .before .before .before .args .letters)) (c .before .before .before .before .before .before .before .before .before .before .before .before .args .terms .protein) (noneSites (length (now (c .before .before .before .before .before .before .before .before .before .before .before .before .args .letters))) (c .before .before .before .before .before .before .before .before .before .before .before .before .args .terms .minimum) (c .before .before .before .before .before .before .before .before .before .before .before .before .args .terms .maximum)) 0 (now (c .before .before .before .before .before .before .before .before .before .before .before .before .args .out))
 ahead c = let t = c .before .before .loop .inv .1 in
-    rw (c .wide .ensures .0) (rw (lengths-on (length (now (c .before .before .before .before .before .before .before .before .args .letters))) (c .before .before .loop .len) (c .before .before .before .before .before .before .before .before .args .terms .maximum) (omega arith)) at (c .before .before .loop .inv .2))
+    rw (c .wide .ensures .0) (rw (lengths-on (length (now (c .before .before .before .before .before .before .before .before .before .before .before .before .args .letters))) (c .before .before .loop .len) (c .before .before .before .before .before .before .before .before .before .before .before .before .args .terms .maximum) (omega arith)) at (c .before .before .loop .inv .2))
 
 loop-holds : tie.Need-loop-holds Inv-loop μ-loop
 loop-holds c = (refl, c .lesser .ensures, refl)
 
 list-length-requires : tie.Need-list-length-requires Inv-loop μ-loop
-list-length-requires c κs = let s = c .before .before .before .before .before .before .before .before .before in
+list-length-requires c κs = let s = c .before .before .before .before .before .before .before .before .before .before .before .before .before in
     let t = c .before .before .before .loop .inv .1 in
-    (s .pre .0, omega (arith, c .before .wide .ensures .0), s .pre .2, s .pre .3)
+    (s .pre .0, omega (arith, c .before .wide .ensures .0), s .pre .2, s .pre .3, s .pre .4)
 
 returns : tie.Need-returns Inv-loop μ-loop
-returns c = let s = c .before .before .before .before .before .before .before .before .before .before .before .before .before .before in
+returns c = let s = c .before .before .before .before .before .before .before .before .before .before .before .before .before .before .before .before .before .before in
     let l = c .before .before .before .before .before .before .before .before .loop in
-    sym (chosen-full (now (s .args .letters)) (s .args .terms .protein) (these (c .before .before .before .before .before .before)) (rest (c .before .before .before .before .before .before)) (l .k) (l .out) (c .before .before .before .before .list-length .last .1 .1 .1 .1 .1 .0) (rw (c .enum-told .given .1) at (c .before .before .before .before .list-length .ensures))) ∙ ahead (c .before .before .before .before .before .before)
+    sym (chosen-full (now (s .args .letters)) (s .args .terms .protein) (these (c .before .before .before .before .before .before)) (rest (c .before .before .before .before .before .before)) (l .k) (l .out) (c .before .before .before .before .list-length .last .1 .1 .1 .1 .1 .1 .1 .1 .1 .0) (rw (c .enum-told .given .1) at (c .before .before .before .before .list-length .ensures))) ∙ ahead (c .before .before .before .before .before .before)
 
 loop-again : tie.Need-loop-again Inv-loop μ-loop
-loop-again c = let s = c .before .before .before .before .before .before .before .before .before .before .before .before .before .before .before in
+loop-again c = let s = c .before .before .before .before .before .before .before .before .before .before .before .before .before .before .before .before .before .before .before in
     let l = c .before .before .before .before .before .before .before .before .before .loop in
-    (omega arith, l .inv .1, sym (chosen-kept (now (s .args .letters)) (s .args .terms .protein) (these (c .before .before .before .before .before .before .before)) (rest (c .before .before .before .before .before .before .before)) (l .k) (l .out) (c .before .before .before .before .before .list-length .last .1 .1 .1 .1 .1 .0) (c .before .x .given .0 .0) (rw (c .before .x .given .1) at (c .before .before .before .before .before .list-length .ensures))) ∙ ahead (c .before .before .before .before .before .before .before))
+    (omega arith, l .inv .1, sym (chosen-kept (now (s .args .letters)) (s .args .terms .protein) (these (c .before .before .before .before .before .before .before)) (rest (c .before .before .before .before .before .before .before)) (l .k) (l .out) (c .before .before .before .before .before .list-length .last .1 .1 .1 .1 .1 .1 .1 .1 .1 .0) (c .before .x .given .0 .0) (rw (c .before .x .given .1) at (c .before .before .before .before .before .list-length .ensures))) ∙ ahead (c .before .before .before .before .before .before .before))
 
 returns-2 : tie.Need-returns-2 Inv-loop μ-loop
-returns-2 c = let a = c .before .before .before .before .before .before .before .args in
+returns-2 c = let a = c .before .before .before .before .before .before .before .before .before .before .before .args in
     let l = c .before .loop in
     let t = l .inv .1 in
     rw (lengths-stop (length (now (a .letters))) (l .len) (a .terms .maximum) (omega arith)) at (l .inv .2)
