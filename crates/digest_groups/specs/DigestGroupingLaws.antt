@@ -60,20 +60,20 @@ module _ (bounds letters : List ℕ) (proteins : ℕ) (count : length bounds ≡
         flag = leb-true (decoyIn d) 1 (c .1);
       }
 
-  all-inside : (ds : List ℕ) → digestsTested bounds proteins ds ≡ Passed → (i : ℕ) → i < length ds / 16 → DigestInside bounds letters (digestAt ds i)
+  all-inside : (ds : List ℕ) → digestsTested bounds proteins ds ≡ Passed → (i : ℕ) → i < length ds / 20 → DigestInside bounds letters (digestAt ds i)
   unfolding firstBadDigest
-  all-inside ds e i h = good-inside (digestAt ds i) (not-false _ (none-tested (badDigest bounds proteins ds) (length ds / 16) e i h))
+  all-inside ds e i h = good-inside (digestAt ds i) (not-false _ (none-tested (badDigest bounds proteins ds) (length ds / 20) e i h))
 
 -- ---- sizes and lengths
 
 pub grouping-few-names : (names letters ds : List ℕ) → tooLarge names letters ds ≡ false → tooManyNames names ≡ false
-grouping-few-names names letters ds e = neither (tooManyNames names) (tooManyLetters letters) (neither (tooManyNames names || tooManyLetters letters) (ltb 1048576 (length ds / 16)) e .0) .0
+grouping-few-names names letters ds e = neither (tooManyNames names) (tooManyLetters letters) (neither (tooManyNames names || tooManyLetters letters) (ltb 1048576 (length ds / 20)) e .0) .0
 
 pub grouping-whole-names : (names bounds ds : List ℕ) → uneven names bounds ds ≡ false → wholeNames names ≡ true
-grouping-whole-names names bounds ds e = both (wholeNames names) (boundsOf bounds (nameCount names)) (both (wholeNames names && boundsOf bounds (nameCount names)) (eqb (length ds % 16) 0) (not-false _ e) .0) .0
+grouping-whole-names names bounds ds e = both (wholeNames names) (boundsOf bounds (nameCount names)) (both (wholeNames names && boundsOf bounds (nameCount names)) (eqb (length ds % 20) 0) (not-false _ e) .0) .0
 
 -- THE LAW
-pub grouping-passed : (names bounds letters ds : List ℕ) (words : ℕ) → tested names bounds letters ds words ≡ Passed → GoodDigests bounds letters ds (length ds / 16) × (5 * (length ds / 16) ≤ words)
+pub grouping-passed : (names bounds letters ds : List ℕ) (words : ℕ) → tested names bounds letters ds words ≡ Passed → GoodDigests bounds letters ds (length ds / 20) × (5 * (length ds / 20) ≤ words)
 grouping-passed names bounds letters ds words e =
     let a = passed-first (tooLarge names letters ds) Size _ e in
     let b = passed-first (uneven names bounds ds) Length _ (a .1) in
@@ -81,13 +81,13 @@ grouping-passed names bounds letters ds words e =
     let d = passed-both (namesTested names) _ (c .1) in
     let f = passed-both (boundsTested bounds (length letters)) _ (d .1) in
     let g = passed-both (lettersTested letters) _ (f .1) in
-    let s = neither (tooManyNames names || tooManyLetters letters) (ltb 1048576 (length ds / 16)) (a .0) in
+    let s = neither (tooManyNames names || tooManyLetters letters) (ltb 1048576 (length ds / 20)) (a .0) in
     let t = neither (tooManyNames names) (tooManyLetters letters) (s .0) in
-    let u = both (wholeNames names && boundsOf bounds (nameCount names)) (eqb (length ds % 16) 0) (not-false _ (b .0)) in
+    let u = both (wholeNames names && boundsOf bounds (nameCount names)) (eqb (length ds % 20) 0) (not-false _ (b .0)) in
     let v = both (wholeNames names) (boundsOf bounds (nameCount names)) (u .0) in
     let m : length bounds ≡ nameCount names + 1 = eqb-true (length bounds) (nameCount names + 1) (v .1) in
-    let w : length ds % 16 ≡ 0 = eqb-true (length ds % 16) 0 (u .1) in
+    let w : length ds % 20 ≡ 0 = eqb-true (length ds % 20) 0 (u .1) in
     let n : needed names ds ≤ words = ltb-false words (needed names ds) (c .0) in
-    let k : length ds / 16 ≤ 1048576 = ltb-false 1048576 (length ds / 16) (s .1) in
+    let k : length ds / 20 ≤ 1048576 = ltb-false 1048576 (length ds / 20) (s .1) in
     let book = passed-letters letters (ltb-false 268435456 (length letters) (t .1)) (g .0) in
     (record { whole = omega arith; few = k; inside = all-inside bounds letters (nameCount names) m (f .0) book ds (g .1) }, omega arith)

@@ -15,7 +15,7 @@ fn too_large(names: &[u8], letters: &[u8], digests: &[u8]) -> bool
 {
     catalogue_names::too_many_names(names)
         | catalogue_book::too_many_letters(letters)
-        | (1048576 < digests.len() / 16)
+        | (1048576 < digests.len() / 20)
 }
 
 fn is_uneven(names: &[u8], bounds: &[u32], digests: &[u8]) -> bool
@@ -24,14 +24,14 @@ fn is_uneven(names: &[u8], bounds: &[u32], digests: &[u8]) -> bool
     let proteins = catalogue_names::name_count(names);
     !(catalogue_names::are_whole_names(names)
         & catalogue_book::has_bounds(bounds, proteins)
-        & (digests.len() % 16 == 0))
+        & (digests.len() % 20 == 0))
 }
 
 // How many numbers of work memory a call takes.
 fn work_needed(names: &[u8], digests: &[u8]) -> usize
     ensures { λ r. ⌜ r ≡ needed (now (names .entry)) (now (digests .entry)) ⌝ }
 {
-    4 * (names.len() / 64) + 6 * (digests.len() / 16)
+    4 * (names.len() / 64) + 6 * (digests.len() / 20)
 }
 
 // How many letters a protein of the book has.
@@ -58,11 +58,11 @@ fn is_good_digest(bounds: &[u32], proteins: usize, digest: &[u8]) -> bool
 fn first_bad_digest(bounds: &[u32], proteins: usize, digests: &[u8]) -> usize
     ensures { λ r. ⌜ r ≡ firstBadDigest (now (bounds .entry)) proteins (now (digests .entry)) ⌝ }
 {
-    let n = digests.len() / 16;
+    let n = digests.len() / 20;
     let mut i = 0;
     while i < n {
-        let at = 16 * i;
-        if is_good_digest(bounds, proteins, &digests[at..at + 16]) {
+        let at = 20 * i;
+        if is_good_digest(bounds, proteins, &digests[at..at + 20]) {
             i += 1;
         } else {
             return i;
@@ -80,7 +80,7 @@ fn contents_tested(names: &[u8], bounds: &[u32], letters: &[u8], digests: &[u8])
     let bound = catalogue_book::bounds_tested(bounds, letters.len());
     let spelt = catalogue_book::letters_tested(letters);
     let bad = first_bad_digest(bounds, catalogue_names::name_count(names), digests);
-    let cut = field_tested(bad, digests.len() / 16);
+    let cut = field_tested(bad, digests.len() / 20);
     and_then(listed, and_then(bound, and_then(spelt, cut)))
 }
 

@@ -128,12 +128,12 @@ module _ {names letters bytes : List ℕ} {n : ℕ} {w₀ groups₀ : List ℕ} 
     low = hi-below;
     few = omega (arith, hi-above, a .few);
     same-length = t .list .same-length ∙ a .same-length;
-    same-groups = ap length (t .group) ∙ length-stored 24 1048576 groups g (digestAt bytes (getD w lo 0) ++ le 4 lo ++ le 4 (hi - lo)) ∙ a .same-groups;
+    same-groups = ap length (t .group) ∙ length-stored 28 1048576 groups g (digestAt bytes (getD w lo 0) ++ le 4 lo ++ le 4 (hi - lo)) ∙ a .same-groups;
     keys = keys ∙ a .keys;
     stores =
         rw (add-one g)
-        (ap (λ (x : List ℕ). storedFrom 24 1048576 x (suc g) (groupsFrom hi (runsFrom letters bytes n w′ hi))) (t .group)
-        ∙ sym (ap (storedFrom 24 1048576 groups g) records) ∙ a .stores);
+        (ap (λ (x : List ℕ). storedFrom 28 1048576 x (suc g) (groupsFrom hi (runsFrom letters bytes n w′ hi))) (t .group)
+        ∙ sym (ap (storedFrom 28 1048576 groups g) records) ∙ a .stores);
     lists =
         ap (λ (x : List ℕ). x ++ proteinList names (runsFrom letters bytes n w′ hi)) done
         ∙ append-assoc (take lo w) (proteinsOf names (map (digestAt bytes) (slice lo hi w))) (proteinList names (runsFrom letters bytes n w′ hi))
@@ -167,7 +167,7 @@ module _ {names letters bytes : List ℕ} {n : ℕ} {w₀ groups₀ : List ℕ} 
   pub ahead-all : RunsGathered names letters bytes n w₀ groups₀ g w groups
   ahead-all = record {
     same-length = a .same-length;
-    stores = sym (ap (λ (r : List (List (List ℕ))). storedFrom 24 1048576 groups g (groupsFrom lo r)) none) ∙ a .stores;
+    stores = sym (ap (λ (r : List (List (List ℕ))). storedFrom 28 1048576 groups g (groupsFrom lo r)) none) ∙ a .stores;
     lists = ap (λ (z : ℕ). take z w) (sym at-end) ∙ sym (append-nil (take lo w)) ∙ sym (ap (λ (r : List (List (List ℕ))). take lo w ++ proteinList names r) none) ∙ a .lists;
     number = omega (arith, a .count, ap (λ (r : List (List (List ℕ))). length r) none);
     few = omega (arith, a .few, a .low);
@@ -176,10 +176,10 @@ module _ {names letters bytes : List ℕ} {n : ℕ} {w₀ groups₀ : List ℕ} 
 -- ---- for the code
 
 -- a record in three stores
-pub group-stores : (out : List ℕ) (k : ℕ) (d : List ℕ) (a b : ℕ) → length d ≡ 16 → sets (sets (sets out k d) (k + 16) (le 4 a)) (k + 20) (le 4 b) ≡ sets out k (d ++ le 4 a ++ le 4 b)
+pub group-stores : (out : List ℕ) (k : ℕ) (d : List ℕ) (a b : ℕ) → length d ≡ 20 → sets (sets (sets out k d) (k + 20) (le 4 a)) (k + 24) (le 4 b) ≡ sets out k (d ++ le 4 a ++ le 4 b)
 group-stores out k d a b h =
-    let n : k + length d ≡ k + 16 = omega arith in
-    let m : k + length (d ++ le 4 a) ≡ k + 20 = omega (arith, length-append d (le 4 a), length-le 4 a) in
+    let n : k + length d ≡ k + 20 = omega arith in
+    let m : k + length (d ++ le 4 a) ≡ k + 24 = omega (arith, length-append d (le 4 a), length-le 4 a) in
     sym (
     sets-append (d ++ le 4 a) (le 4 b) out k
     ∙ ap₂ (λ (l : List ℕ) (z : ℕ). sets l z (le 4 b)) (sets-append d (le 4 a) out k ∙ ap (λ (z : ℕ). sets (sets out k d) z (le 4 a)) n) m
@@ -198,8 +198,8 @@ run-stops letters {bytes} {n} {lo} {w} {hi} r h p =
     record { is = e; above = omega arith; below = omega (arith, run-most (digestOrder letters n w) (slice lo n w), length-slice lo n w (omega (arith, r .fits))) }
 
 -- the digest at lo is one of them
-pub first-whole : {bytes : List ℕ} {n lo : ℕ} {w : List ℕ} → DigestsReady bytes n lo w → lo < n → (16 * getD w lo 0 + 16 ≤ length bytes) × (16 * getD w lo 0 + 16 ≤ 16777216)
+pub first-whole : {bytes : List ℕ} {n lo : ℕ} {w : List ℕ} → DigestsReady bytes n lo w → lo < n → (20 * getD w lo 0 + 20 ≤ length bytes) × (20 * getD w lo 0 + 20 ≤ 20971520)
 first-whole {lo = lo} r h = let k = r .numbers lo (omega arith) h in (omega (arith, r .whole), omega (arith, r .few))
 
-pub length-digest : (bytes : List ℕ) (i : ℕ) → 16 * i + 16 ≤ length bytes → length (digestAt bytes i) ≡ 16
-length-digest bytes i h = length-take-le 16 (drop (16 * i) bytes) (omega (arith, length-drop (16 * i) bytes))
+pub length-digest : (bytes : List ℕ) (i : ℕ) → 20 * i + 20 ≤ length bytes → length (digestAt bytes i) ≡ 20
+length-digest bytes i h = length-take-le 20 (drop (20 * i) bytes) (omega (arith, length-drop (20 * i) bytes))

@@ -28,7 +28,7 @@ pub record RunListed (names bytes old new : List ℕ) (lo hi n : ℕ) : Type 0 w
 
 -- numbers of digests stand from lo up to n
 pub record DigestsReady (bytes : List ℕ) (n lo : ℕ) (w : List ℕ) : Type 0 where
-  pub whole : length bytes ≡ 16 * n
+  pub whole : length bytes ≡ 20 * n
   pub few : n ≤ 1048576
   pub fits : 2 * n ≤ length w
   pub numbers : (i : ℕ) → lo ≤ i → i < n → getD w i 0 < n
@@ -44,7 +44,7 @@ runsFrom letters bytes n w lo = map (map (digestAt bytes)) (runsOf (digestOrder 
 -- the run from lo on, which ends at hi, became group g
 pub record RunGrouped (names letters bytes : List ℕ) (n lo : ℕ) (w groups : List ℕ) (g hi : ℕ) (w′ groups′ : List ℕ) : Type 0 where
   pub ends : hi ≡ lo + runLength (digestOrder letters n w) (slice lo n w)
-  pub group : groups′ ≡ stored 24 1048576 groups g (digestAt bytes (getD w lo 0) ++ le 4 lo ++ le 4 (hi - lo))
+  pub group : groups′ ≡ stored 28 1048576 groups g (digestAt bytes (getD w lo 0) ++ le 4 lo ++ le 4 (hi - lo))
   pub list : RunListed names bytes w w′ lo hi n
 
 -- what is still to come from lo and g on gives all
@@ -55,14 +55,14 @@ pub record RunsAhead (names letters bytes : List ℕ) (n : ℕ) (w₀ groups₀ 
   pub same-length : length w ≡ length w₀
   pub same-groups : length groups ≡ length groups₀
   pub keys : drop (2 * n) w ≡ drop (2 * n) w₀
-  pub stores : storedFrom 24 1048576 groups g (groupsFrom lo (runsFrom letters bytes n w lo)) ≡ storedFrom 24 1048576 groups₀ 0 (groupsFrom 0 (runsFrom letters bytes n w₀ 0))
+  pub stores : storedFrom 28 1048576 groups g (groupsFrom lo (runsFrom letters bytes n w lo)) ≡ storedFrom 28 1048576 groups₀ 0 (groupsFrom 0 (runsFrom letters bytes n w₀ 0))
   pub lists : take lo w ++ proteinList names (runsFrom letters bytes n w lo) ≡ proteinList names (runsFrom letters bytes n w₀ 0)
   pub count : g + length (runsFrom letters bytes n w lo) ≡ length (runsFrom letters bytes n w₀ 0)
 
 -- all runs became count groups
 pub record RunsGathered (names letters bytes : List ℕ) (n : ℕ) (w groups : List ℕ) (count : ℕ) (w′ groups′ : List ℕ) : Type 0 where
   pub same-length : length w′ ≡ length w
-  pub stores : groups′ ≡ storedFrom 24 1048576 groups 0 (groupsFrom 0 (runsFrom letters bytes n w 0))
+  pub stores : groups′ ≡ storedFrom 28 1048576 groups 0 (groupsFrom 0 (runsFrom letters bytes n w 0))
   pub lists : take n w′ ≡ proteinList names (runsFrom letters bytes n w 0)
   pub number : count ≡ length (runsFrom letters bytes n w 0)
   pub few : count ≤ n

@@ -12,16 +12,16 @@ ghost use Rattle.digest_groups_runs.specs.Turns.{Replaced, RunListed, Di
 
 // The number of a digest's protein.
 fn protein_of(digests: &[u8], x: u32) -> u32
-    requires { ⌜ 16 * x + 16 ≤ length (now digests) ⌝ }
+    requires { ⌜ 20 * x + 20 ≤ length (now digests) ⌝ }
     ensures { λ r. ⌜ r ≡ proteinIn (digestAt (now (digests .entry)) x) ⌝ }
 {
-    let at = 16 * (x as usize);
-    records::u32_at(&digests[at..at + 16], 12)
+    let at = 20 * (x as usize);
+    records::u32_at(&digests[at..at + 20], 12)
 }
 
 // Puts the number of its protein in the place of each digest's.
 fn take_proteins(digests: &[u8], w: &mut [u32], lo: usize, hi: usize)
-    requires { ⌜ (lo ≤ hi) × (hi ≤ length (now w)) × ((i : ℕ) → lo ≤ i → i < hi → 16 * getD (now w) i 0 + 16 ≤ length (now digests)) ⌝ }
+    requires { ⌜ (lo ≤ hi) × (hi ≤ length (now w)) × ((i : ℕ) → lo ≤ i → i < hi → 20 * getD (now w) i 0 + 20 ≤ length (now digests)) ⌝ }
     ensures { λ _. ⌜ Replaced (λ x. proteinIn (digestAt (now (digests .entry)) x)) (now (w .entry)) (now (w .exit)) lo hi ⌝ }
 {
     let mut i = lo;
@@ -34,18 +34,18 @@ fn take_proteins(digests: &[u8], w: &mut [u32], lo: usize, hi: usize)
 
 // Writes record g, where there is room for it: the reference, where its proteins begin, and how many they are.
 fn put_group(digest: &[u8], at: usize, count: usize, out: &mut [u8], g: usize)
-    requires { ⌜ (length (now digest) ≡ 16) × (at ≤ 1048576) × (count ≤ 1048576) ⌝ }
-    ensures { λ _. ⌜ now (out .exit) ≡ stored 24 1048576 (now (out .entry)) g (now (digest .entry) ++ le 4 at ++ le 4 count) ⌝ }
+    requires { ⌜ (length (now digest) ≡ 20) × (at ≤ 1048576) × (count ≤ 1048576) ⌝ }
+    ensures { λ _. ⌜ now (out .exit) ≡ stored 28 1048576 (now (out .entry)) g (now (digest .entry) ++ le 4 at ++ le 4 count) ⌝ }
 {
-    if records::room_for(out.len(), 24, 1048576) <= g {
+    if records::room_for(out.len(), 28, 1048576) <= g {
         return;
     }
-    let k = 24 * g;
+    let k = 28 * g;
     let first = at as u32;
     let number = count as u32;
     records::put_bytes(out, k, digest);
-    records::put_u32(out, k + 16, first);
-    records::put_u32(out, k + 20, number);
+    records::put_u32(out, k + 20, first);
+    records::put_u32(out, k + 24, number);
 }
 
 // Makes the numbers from lo up to hi the list of their proteins, sorted by name.
@@ -73,8 +73,8 @@ fn gather_run(
 {
     let all = n as u32;
     let hi = sorting_runs::run_end(By::Spelled(all), letters, w, lo, n, 2 * n);
-    let at = 16 * (w[lo] as usize);
-    put_group(&digests[at..at + 16], lo, hi - lo, groups, g);
+    let at = 20 * (w[lo] as usize);
+    put_group(&digests[at..at + 20], lo, hi - lo, groups, g);
     list_proteins(names, digests, w, lo, hi, n);
     hi
 }

@@ -20,17 +20,19 @@ use Rattle.digest_groups_spec.specs.DigestGroups.{digestAt, digestsIn, g
 
 -- 1: more than 65,536 names, 2^28 letters or 1,048,576 digests, counted in whole records
 abbrev pub tooLarge : List ℕ → List ℕ → List ℕ → Bool
-tooLarge names letters ds = tooManyNames names || tooManyLetters letters || ltb 1048576 (length ds / 16)
+tooLarge names letters ds = tooManyNames names || tooManyLetters letters || ltb 1048576 (length ds / 20)
 
--- 8: names or digests that are not whole records, or boundaries that are not one more than the names
+-- 8: names or digests that are not whole records, or boundaries that are not one more than the names; document 02, [7]: "8 now reads
+-- on 20 bytes"
 abbrev pub uneven : List ℕ → List ℕ → List ℕ → Bool
-uneven names bounds ds = not (wholeNames names && boundsOf bounds (nameCount names) && eqb (length ds % 16) 0)
+uneven names bounds ds = not (wholeNames names && boundsOf bounds (nameCount names) && eqb (length ds % 20) 0)
 
 -- 10: fewer than 4 numbers for each protein and 6 for each digest
 abbrev pub needed : List ℕ → List ℕ → ℕ
-needed names ds = 4 * nameCount names + 6 * (length ds / 16)
+needed names ds = 4 * nameCount names + 6 * (length ds / 20)
 
--- "start below end, end within a protein of the book, missed to 16, position to 3, flags 0 or 1"
+-- "start below end, end within a protein of the book, missed to 16, position to 3, flags 0 or 1"; how often the letters occur may be
+-- any number
 abbrev pub goodDigest : List ℕ → ℕ → List ℕ → Bool
 goodDigest bounds proteins d = goodRecord d && ltb (proteinIn d) proteins && leb (endOf d) (getD bounds (proteinIn d + 1) 0 - getD bounds (proteinIn d) 0)
 
@@ -40,11 +42,11 @@ badDigest bounds proteins ds i = not (goodDigest bounds proteins (digestAt ds i)
 -- the lowest bad digest, or their number
 unfoldable pub firstBadDigest : List ℕ → ℕ → List ℕ → ℕ
 unfolding seek
-firstBadDigest bounds proteins ds = seek (badDigest bounds proteins ds) 0 (length ds / 16)
+firstBadDigest bounds proteins ds = seek (badDigest bounds proteins ds) 0 (length ds / 20)
 
 -- 9 there
 abbrev pub digestsTested : List ℕ → ℕ → List ℕ → Tested
-digestsTested bounds proteins ds = fieldTested (firstBadDigest bounds proteins ds) (length ds / 16)
+digestsTested bounds proteins ds = fieldTested (firstBadDigest bounds proteins ds) (length ds / 20)
 
 -- the contents, list by list: catalogue (12, 13), boundaries (9), letters (2), digests (9)
 abbrev pub contents : List ℕ → List ℕ → List ℕ → List ℕ → Tested

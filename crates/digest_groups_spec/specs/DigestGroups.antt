@@ -19,12 +19,12 @@ use Rattle.sorting_spec.specs.Lex.{lexLe}
 use Rattle.sorting_spec.specs.Joined.{nameOf}
 use Rattle.sorting_spec.specs.Distinct.{distinct}
 
--- digest i of a list: the 16 bytes of its record
+-- digest i of a list: the 20 bytes of its record
 abbrev pub digestAt : List ℕ → ℕ → List ℕ
-digestAt bytes i = take 16 (drop (16 * i) bytes)
+digestAt bytes i = take 20 (drop (20 * i) bytes)
 
 abbrev pub digestsIn : List ℕ → List (List ℕ)
-digestsIn bytes = map (digestAt bytes) (upFrom 0 (length bytes / 16))
+digestsIn bytes = map (digestAt bytes) (upFrom 0 (length bytes / 20))
 
 -- "Digest ranges count from their protein's first letter"; a decoy's letters are reversed
 abbrev pub lettersIn : List ℕ → List ℕ → List ℕ → List ℕ
@@ -45,7 +45,8 @@ byName names a b = lexLe (nameOf names a) (nameOf names b)
 abbrev pub proteinsOf : List ℕ → List (List ℕ) → List ℕ
 proteinsOf names ms = sorted (byName names) (map proteinIn ms)
 
--- a group's record: the reference, which is the first in input order, and the first place and the number of its proteins
+-- a group's record: the reference, which is the first in input order, and the first place and the number of its proteins; document
+-- 02, [7]: "Grouping keeps the reference's number, its record grows to 28 bytes"
 abbrev pub groupOf : ℕ → List (List ℕ) → List (List ℕ)
 groupOf at [] = []
 groupOf at (d ∷ ds) = (d ++ le 4 at ++ le 4 (length (d ∷ ds))) ∷ []
@@ -66,5 +67,5 @@ abbrev pub digestsGrouped : List ℕ → List (List (List ℕ)) → List ℕ →
 digestsGrouped names mss work groups proteins =
     let rs = groupsFrom 0 mss in
     let ps = singly (proteinList names mss) in
-    outcome (cond (fits 24 1048576 groups rs && fits 1 1048576 proteins ps) (Count (length rs)) (Refused Room))
-    (replicate (length work) 0 ∷ fitted 24 1048576 groups rs ∷ fitted 1 1048576 proteins ps ∷ [])
+    outcome (cond (fits 28 1048576 groups rs && fits 1 1048576 proteins ps) (Count (length rs)) (Refused Room))
+    (replicate (length work) 0 ∷ fitted 28 1048576 groups rs ∷ fitted 1 1048576 proteins ps ∷ [])

@@ -24,29 +24,29 @@ use Rattle.digest_groups_spec.specs.DigestGroups.{digestAt, digestsIn, keyOf, g
 use Rattle.digest_groups_runs.specs.Turns.{digestOrder, DigestsSorted, RunsGathered}
 use Rattle.digest_groups_runs.specs.TurnLaws.{length-digest}
 
--- ---- every record of a group has 24 bytes
+-- ---- every record of a group has 28 bytes
 
-whole-digests : (bytes : List ℕ) (a n : ℕ) → 16 * (a + n) ≤ length bytes → Sized 16 (map (digestAt bytes) (upFrom a n))
+whole-digests : (bytes : List ℕ) (a n : ℕ) → 20 * (a + n) ≤ length bytes → Sized 20 (map (digestAt bytes) (upFrom a n))
 whole-digests bytes a zero h = tt
 whole-digests bytes a (suc n) h = (length-digest bytes a (omega arith), whole-digests bytes (suc a) n (omega arith))
 
-sized-group : (at : ℕ) (ms : List (List ℕ)) → Sized 16 ms → Sized 24 (groupOf at ms)
+sized-group : (at : ℕ) (ms : List (List ℕ)) → Sized 20 ms → Sized 28 (groupOf at ms)
 sized-group at [] h = tt
 sized-group at (d ∷ ds) h =
     (length-append (d ++ le 4 at) (le 4 (length (d ∷ ds))) ∙ omega (arith, length-append d (le 4 at), length-le 4 at, length-le 4 (length (d ∷ ds)), h .0), tt)
 
-sized-groups : (q : List ℕ → List ℕ → Bool) (ds : List (List ℕ)) → Sized 16 ds → (at : ℕ) (ks : List (List ℕ)) → Sized 24 (groupsFrom at (map (λ (k : List ℕ). keep (λ (d : List ℕ). q d k) ds) ks))
+sized-groups : (q : List ℕ → List ℕ → Bool) (ds : List (List ℕ)) → Sized 20 ds → (at : ℕ) (ks : List (List ℕ)) → Sized 28 (groupsFrom at (map (λ (k : List ℕ). keep (λ (d : List ℕ). q d k) ds) ks))
 sized-groups q ds h at [] = tt
 sized-groups q ds h at (k ∷ ks) =
-    all-both (λ (r : List ℕ). length r ≡ 24) (groupOf at (keep (λ (d : List ℕ). q d k) ds)) (groupsFrom (at + length (keep (λ (d : List ℕ). q d k) ds)) (map (λ (k : List ℕ). keep (λ (d : List ℕ). q d k) ds) ks))
-    (sized-group at (keep (λ (d : List ℕ). q d k) ds) (all-keep (λ (r : List ℕ). length r ≡ 16) (λ (d : List ℕ). q d k) ds h))
+    all-both (λ (r : List ℕ). length r ≡ 28) (groupOf at (keep (λ (d : List ℕ). q d k) ds)) (groupsFrom (at + length (keep (λ (d : List ℕ). q d k) ds)) (map (λ (k : List ℕ). keep (λ (d : List ℕ). q d k) ds) ks))
+    (sized-group at (keep (λ (d : List ℕ). q d k) ds) (all-keep (λ (r : List ℕ). length r ≡ 20) (λ (d : List ℕ). q d k) ds h))
     (sized-groups q ds h (at + length (keep (λ (d : List ℕ). q d k) ds)) ks)
 
-pub sized-gathered : (bounds letters bytes : List ℕ) (n : ℕ) → length bytes ≡ 16 * n → Sized 24 (groupsFrom 0 (gathered bounds letters (digestsIn bytes)))
+pub sized-gathered : (bounds letters bytes : List ℕ) (n : ℕ) → length bytes ≡ 20 * n → Sized 28 (groupsFrom 0 (gathered bounds letters (digestsIn bytes)))
 sized-gathered bounds letters bytes n h =
-    let e : n ≡ length bytes / 16 = omega arith in
+    let e : n ≡ length bytes / 20 = omega arith in
     sized-groups (λ (d k : List ℕ). same (keyOf bounds letters d) k) (digestsIn bytes)
-    (subst (λ (k : ℕ). Sized 16 (map (digestAt bytes) (upFrom 0 k))) e (whole-digests bytes 0 n (omega arith))) 0 (distinct (map (keyOf bounds letters) (digestsIn bytes)))
+    (subst (λ (k : ℕ). Sized 20 (map (digestAt bytes) (upFrom 0 k))) e (whole-digests bytes 0 n (omega arith))) 0 (distinct (map (keyOf bounds letters) (digestsIn bytes)))
 
 -- ---- there are as many records as runs
 
@@ -85,10 +85,10 @@ module _ (names bounds letters bytes : List ℕ) (n : ℕ) (work w w′ groups g
   abbrev mss : List (List (List ℕ))
   mss = gathered bounds letters (digestsIn bytes)
 
-  records : groups′ ≡ fitted 24 1048576 groups (groupsFrom 0 mss)
+  records : groups′ ≡ fitted 28 1048576 groups (groupsFrom 0 mss)
   records =
-      d .stores ∙ ap (λ (m : List (List (List ℕ))). storedFrom 24 1048576 groups 0 (groupsFrom 0 m)) (s .runs)
-      ∙ stored-all 24 1048576 groups (groupsFrom 0 mss) (sized-gathered bounds letters bytes n (s .ready .whole))
+      d .stores ∙ ap (λ (m : List (List (List ℕ))). storedFrom 28 1048576 groups 0 (groupsFrom 0 m)) (s .runs)
+      ∙ stored-all 28 1048576 groups (groupsFrom 0 mss) (sized-gathered bounds letters bytes n (s .ready .whole))
 
   list : take n w′ ≡ proteinList names mss
   list = d .lists ∙ ap (proteinList names) (s .runs)
@@ -104,10 +104,10 @@ module _ (names bounds letters bytes : List ℕ) (n : ℕ) (work w w′ groups g
   numbers : sets proteins 0 (take n w′) ≡ fitted 1 1048576 proteins (singly (proteinList names mss))
   numbers = ap (sets proteins 0) list ∙ stored-text 1048576 (proteinList names mss) proteins (omega (arith, wide, s .ready .few))
 
-  pub left-grouped : r ≡ cond (leb g (min (length groups / 24) 1048576) && leb n (min (length proteins / 1) 1048576)) (Count g) (Refused Room)
+  pub left-grouped : r ≡ cond (leb g (min (length groups / 28) 1048576) && leb n (min (length proteins / 1) 1048576)) (Count g) (Refused Room)
       → outcome r (replicate (length w′) 0 ∷ groups′ ∷ sets proteins 0 (take n w′) ∷ []) ≡ digestsGrouped names mss work groups proteins
   left-grouped e =
       let z : length w′ ≡ length work = d .same-length ∙ same in
       let m : length (singly (proteinList names mss)) ≡ n = length-map (proteinList names mss) (λ (b : ℕ). b ∷ []) ∙ wide in
-      let a : r ≡ cond (fits 24 1048576 groups (groupsFrom 0 mss) && fits 1 1048576 proteins (singly (proteinList names mss))) (Count (length (groupsFrom 0 mss))) (Refused Room) = rw m (rw count-grouped at e) in
+      let a : r ≡ cond (fits 28 1048576 groups (groupsFrom 0 mss) && fits 1 1048576 proteins (singly (proteinList names mss))) (Count (length (groupsFrom 0 mss))) (Refused Room) = rw m (rw count-grouped at e) in
       rw (records, numbers, z, a)

@@ -91,7 +91,7 @@ module _ (bounds letters bytes : List ℕ) (n : ℕ) (w : List ℕ) (g : GoodDig
   alike a b p q = let x = up-in a 0 n p in let y = up-in b 0 n q in agree a b (omega (arith, x .1)) (omega (arith, y .1))
 
   -- THE LAW
-  pub gathered-runs : n ≡ length bytes / 16
+  pub gathered-runs : n ≡ length bytes / 20
       → map (map (digestAt bytes)) (runsOf (leBy (Spelled n) letters (drop (2 * n) w)) (sorted (leBy (Spelled n) letters (drop (2 * n) w)) (upFrom 0 n))) ≡ gathered bounds letters (digestsIn bytes)
   gathered-runs e =
       ap (map (map (digestAt bytes)))

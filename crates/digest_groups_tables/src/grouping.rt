@@ -28,9 +28,9 @@ fn arrange(letters: &[u8], bounds: &[u32], digests: &[u8], w: &mut [u32], n: usi
 // How many groups there are, or that a list has no room for all.
 fn answer(g: usize, groups: usize, n: usize, proteins: usize) -> Counted
     requires { ⌜ (g ≤ 1048576) × (n ≤ 1048576) ⌝ }
-    ensures { λ r. ⌜ r ≡ cond (leb g (min (groups / 24) 1048576) && leb n (min (proteins / 1) 1048576)) (Counted.Count g) (Counted.Refused Refusal.Room) ⌝ }
+    ensures { λ r. ⌜ r ≡ cond (leb g (min (groups / 28) 1048576) && leb n (min (proteins / 1) 1048576)) (Counted.Count g) (Counted.Refused Refusal.Room) ⌝ }
 {
-    let most = records::room_for(groups, 24, 1048576);
+    let most = records::room_for(groups, 28, 1048576);
     let longest = records::room_for(proteins, 1, 1048576);
     if (g <= most) & (n <= longest) {
         Counted::Count(g as u32)
@@ -49,10 +49,10 @@ pub fn gather(
     groups: &mut [u8],
     proteins: &mut [u32],
 ) -> Counted
-    requires { ⌜ GoodDigests (now bounds) (now letters) (now digests) (length (now digests) / 16) × (5 * (length (now digests) / 16) ≤ length (now w)) ⌝ }
+    requires { ⌜ GoodDigests (now bounds) (now letters) (now digests) (length (now digests) / 20) × (5 * (length (now digests) / 20) ≤ length (now w)) ⌝ }
     ensures { λ r. ⌜ outcome r (now (w .exit) ∷ now (groups .exit) ∷ now (proteins .exit) ∷ []) ≡ digestsGrouped (now (names .entry)) (gathered (now (bounds .entry)) (now (letters .entry)) (digestsIn (now (digests .entry)))) (now (w .entry)) (now (groups .entry)) (now (proteins .entry)) ⌝ }
 {
-    let n = digests.len() / 16;
+    let n = digests.len() / 20;
     let free = groups.len();
     let open = proteins.len();
     arrange(letters, bounds, digests, w, n);

@@ -25,7 +25,7 @@ pub record DigestInside (bounds letters d : List ℕ) : Type 0 where
 
 -- n digests that do
 pub record GoodDigests (bounds letters bytes : List ℕ) (n : ℕ) : Type 0 where
-  pub whole : length bytes ≡ 16 * n
+  pub whole : length bytes ≡ 20 * n
   pub few : n ≤ 1048576
   pub inside : (i : ℕ) → i < n → DigestInside bounds letters (digestAt bytes i)
 

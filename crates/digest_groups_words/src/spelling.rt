@@ -34,7 +34,7 @@ fn size(start: u32, end: u32, decoy: u8) -> u32
     2 * (end - start) + decoy as u32
 }
 
-// What a digest's 16 bytes are sorted by.
+// What a digest's 20 bytes are sorted by.
 fn spelled(letters: &[u8], bounds: &[u32], digest: &[u8]) -> Spelling
     requires { ⌜ DigestInside (now bounds) (now letters) (now digest) ⌝ }
     ensures { λ r. ⌜ r ≡ digestSpelling (now (bounds .entry)) (now (letters .entry)) (now (digest .entry)) ⌝ }
@@ -73,8 +73,8 @@ pub fn spell_all(letters: &[u8], bounds: &[u32], digests: &[u8], w: &mut [u32], 
 {
     let mut i = 0;
     while i < n {
-        let at = 16 * i;
-        let s = spelled(letters, bounds, &digests[at..at + 16]);
+        let at = 20 * i;
+        let s = spelled(letters, bounds, &digests[at..at + 20]);
         put_spelling(w, n, i, s);
         i += 1;
     }

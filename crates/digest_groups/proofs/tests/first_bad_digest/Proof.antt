@@ -13,17 +13,17 @@ use Rattle.digest_groups.proofs.tests.first_bad_digest.Statement.{state
 use Rattle.digest_groups.proofs.tests.first_bad_digest.Tie as tie
 
 abbrev Inv-loop : tie.InvT-loop
-Inv-loop bounds proteins digests n i₀ i = Seeking (badDigest bounds proteins digests) (length digests / 16) i (firstBadDigest bounds proteins digests)
+Inv-loop bounds proteins digests n i₀ i = Seeking (badDigest bounds proteins digests) (length digests / 20) i (firstBadDigest bounds proteins digests)
 
 abbrev μ-loop : tie.MeasureT-loop
-μ-loop bounds proteins digests n i₀ i = length digests / 16 - i
+μ-loop bounds proteins digests n i₀ i = length digests / 20 - i
 
 -- what the test of the digest's part says of the digest
 told : (c : tie.After-is-good-digest Inv-loop μ-loop)
     → c .is-good-digest .result ≡ goodDigest (now (c .before .before .before .before .before .before .args .bounds)) (c .before .before .before .before .before .before .args .proteins) (digestAt (now (c .before .before .before .before .before .before .args .digests)) (c .before .before .before .loop .i))
 told c =
     let i = c .before .before .before .loop .i in
-    let n : 16 * i + 16 - 16 * i ≡ 16 = omega arith in
+    let n : 20 * i + 20 - 20 * i ≡ 20 = omega arith in
     rw n at (c .is-good-digest .ensures)
 
 loop-holds : tie.Need-loop-holds Inv-loop μ-loop

@@ -13,7 +13,7 @@ put-group-requires c κs =
     let s = c .before .before .before .before .before .before .before .before .before .before in
     let e = run-stops (s .args .letters .now) (s .pre .1) (s .pre .0) (c .before .before .before .run-end .ensures) in
     let x = getD (s .args .w .now) (s .args .lo) 0 in
-    let n : 16 * x + 16 - 16 * x ≡ 16 = omega arith in
+    let n : 20 * x + 20 - 20 * x ≡ 20 = omega arith in
     (rw n (length-digest (s .args .digests .now) x (first-whole (s .pre .1) (s .pre .0) .0)), omega (arith, s .pre .1 .few), omega (arith, s .pre .1 .few, e .below))
 
 list-proteins-requires : tie.Need-list-proteins-requires
@@ -26,7 +26,7 @@ returns : tie.Need-returns
 returns c =
     let s = c .before .before .before .before .before .before .before .before .before .before .before .before .before .before .before .before .before in
     let x = getD (s .args .w .now) (s .args .lo) 0 in
-    let n : 16 * x + 16 - 16 * x ≡ 16 = omega arith in
+    let n : 20 * x + 20 - 20 * x ≡ 20 = omega arith in
     record {
       ends = run-stops (s .args .letters .now) (s .pre .1) (s .pre .0) (c .before .before .before .before .before .before .before .before .before .before .run-end .ensures) .is;
       group = rw n at (c .before .before .before .before .before .before .put-group .ensures);

@@ -7,7 +7,7 @@ use Rattle.digest_groups_runs.proofs.groups.protein_of.Statement.{state
 use Rattle.digest_groups_runs.proofs.groups.protein_of.Tie as tie
 
 returns : tie.Need-returns
-returns c = let x = c .before .before .before .args .x in let n : 16 * x + 16 - 16 * x ≡ 16 = omega arith in rw n at (c .u32-at .ensures)
+returns c = let x = c .before .before .before .args .x in let n : 20 * x + 20 - 20 * x ≡ 20 = omega arith in rw n at (c .u32-at .ensures)
 
 pub protein-of-spec : {M : Type 1} → statement M
 protein-of-spec =

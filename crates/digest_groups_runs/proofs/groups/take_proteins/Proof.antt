@@ -26,7 +26,7 @@ protein-of-requires c κs =
     let a = c .before .before .before .before .before .args in
     let l = c .before .before .loop in
     let e : getD (l .w) (l .i) 0 ≡ getD (a .w .now) (l .i) 0 = l .inv .2 .rest (l .i) (inr (omega arith)) in
-    subst (λ (x : ℕ). 16 * x + 16 ≤ length (a .digests .now)) (sym e) (c .before .before .before .before .before .pre .2 (l .i) (l .inv .0) (omega arith))
+    subst (λ (x : ℕ). 20 * x + 20 ≤ length (a .digests .now)) (sym e) (c .before .before .before .before .before .pre .2 (l .i) (l .inv .0) (omega arith))
 
 loop-again : tie.Need-loop-again Inv-loop μ-loop
 loop-again c =

@@ -15,7 +15,7 @@ answer-requires c κs = let p = c .before .before .before .before .before .befor
 returns : tie.Need-returns
 returns c =
     let a = c .before .before .before .before .before .before .before .before .before .before .before .before .before .before .before .before .before .before .before .before .before .before .before .before .before .before .before .before .before .args in
-    let n = length (a .digests .now) / 16 in
+    let n = length (a .digests .now) / 20 in
     let w = c .before .before .before .before .before .before .before .before .before .before .before .before .before .before .before .before .before .before .before .before .arrange .last .1 .1 .1 .0 in
     let t = c .before .before .before .before .before .before .before .before .before .before .before .before .before .before .before .gather-runs in
     let z : n - 0 ≡ n = omega arith in

@@ -31,14 +31,14 @@ part-spelled-end c = let g = c .before .before .before .before .before .before .
 spelled-requires : tie.Need-spelled-requires Inv-loop μ-loop
 spelled-requires c κs =
     let i = c .before .before .loop .i in
-    let n : 16 * i + 16 - 16 * i ≡ 16 = omega arith in
+    let n : 20 * i + 20 - 20 * i ≡ 20 = omega arith in
     rw n (c .before .before .before .before .before .before .before .pre .0 .inside i (omega arith))
 
 loop-again : tie.Need-loop-again Inv-loop μ-loop
 loop-again c =
     let a = c .before .before .before .before .before .before .before .before .before .before .before .before .args in
     let l = c .before .before .before .before .before .before .before .loop in
-    let n : 16 * l .i + 16 - 16 * l .i ≡ 16 = omega arith in
+    let n : 20 * l .i + 20 - 20 * l .i ≡ 20 = omega arith in
     let s : c .before .before .before .before .spelled .result ≡ digestSpelling (a .bounds .now) (a .letters .now) (digestAt (a .digests .now) (l .i)) = rw n at (c .before .before .before .before .spelled .ensures) in
     let t = tables-more (a .bounds .now) (a .letters .now) (a .digests .now) (a .n) (l .i) (l .w) (omega arith) (omega (arith, c .before .before .before .before .before .before .before .before .before .before .before .before .pre .1, l .inv .0)) (l .inv .2) in
     (rw (c .before .before .put-spelling .ensures) (simp length-set (l .inv .0)), omega arith, rw (c .before .before .put-spelling .ensures, s) t)
