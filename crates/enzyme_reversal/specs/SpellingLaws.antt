@@ -60,7 +60,7 @@ module _ (old text : List ℕ) where
 -- ---- what is known where the tests passed
 
 pub spelling-passed : (s r : List ℕ) → spellingTested s r ≡ Passed → (length s ≤ 65536) × (numberAt 4 r 0 ≤ numberAt 4 r 4) × (numberAt 4 r 4 ≤ length s)
-spelling-passed s r e = go (ltb 65536 (length s)) (eqb (length r) 16) (ltb (firstBad s) (length s)) (goodRecord r && leb (numberAt 4 r 4) (length s)) refl refl e
+spelling-passed s r e = go (ltb 65536 (length s)) (eqb (length r) 20) (ltb (firstBad s) (length s)) (goodRecord r && leb (numberAt 4 r 4) (length s)) refl refl e
   where
     go : (a b c d : Bool) → ltb 65536 (length s) ≡ a → (goodRecord r && leb (numberAt 4 r 4) (length s)) ≡ d
         → cond a (RefusedBy Size) (cond b (cond c (RefusedBy (Letter (firstBad s))) (cond d Passed (RefusedBy (Field 0)))) (RefusedBy Length)) ≡ Passed

@@ -60,7 +60,7 @@ pub fn reverse_letters(letters: &mut [u8]) -> Tested
 fn record_tested(bytes: &[u8]) -> Tested
     ensures { λ r. ⌜ r ≡ recordTested (now (bytes .entry)) ⌝ }
 {
-    if bytes.len() != 16 {
+    if bytes.len() != 20 {
         return Tested::Refused(Refusal::Length);
     }
     if is_good(bytes) {

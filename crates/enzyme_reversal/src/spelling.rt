@@ -38,7 +38,7 @@ fn spelling_tested(letters: &[u8], bytes: &[u8]) -> Tested
     if 65536 < n {
         return Tested::Refused(Refusal::Size);
     }
-    if bytes.len() != 16 {
+    if bytes.len() != 20 {
         return Tested::Refused(Refusal::Length);
     }
     let bad = letters::first_bad(letters);

@@ -35,7 +35,7 @@ reverseOutcome s = unlessRefused (stretchTested s) Refused (s ∷ []) (outcome P
 abbrev pub recordTested : List ℕ → Tested
 recordTested r = cond (eqb (length r) 20) (cond (goodRecord r) Passed (Refused (Field 0))) (Refused Length)
 
--- decoy, the byte at 11, is 1: a decoy stays as it was
+-- decoy, the byte at 11, is 1: a decoy stays as it was, and so does how often the letters occur
 abbrev pub reverseRecordOutcome : List ℕ → Outcome Tested
 reverseRecordOutcome r = unlessRefused (recordTested r) Refused (r ∷ []) (outcome Passed (set r 11 1 ∷ []))
 

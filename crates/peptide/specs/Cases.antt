@@ -176,9 +176,9 @@ formCases =
 abbrev protein : List ℕ
 protein = 90 ∷ 65 ∷ 66 ∷ 67 ∷ 65 ∷ 90 ∷ []
 
--- 16 bytes: the range, missed, semi, position and decoy
+-- 20 bytes: the range, missed, semi, position and decoy; the letters occur 0 times, which passes
 abbrev digest : ℕ → ℕ → ℕ → ℕ → ℕ → ℕ → List ℕ
-digest start end missed semi position decoy = le 4 start ++ (le 4 end ++ (missed ∷ semi ∷ position ∷ decoy ∷ le 4 9))
+digest start end missed semi position decoy = le 4 start ++ (le 4 end ++ (missed ∷ semi ∷ position ∷ decoy ∷ (le 4 9 ++ le 4 0)))
 
 -- B is 2 ^ 24, the greatest number up to which a mass can be odd; Z is minus zero; all others are 1
 abbrev masses : List Float
@@ -217,11 +217,12 @@ digestCases =
     ∷ cutting (90 ∷ replicate 64 65) (digest 1 65 0 0 1 0) masses (0 ∷ 0 ∷ 1 ∷ 0 ∷ replicate 64 65) (0 ∷ 0 ∷ 64 ∷ [])
     ∷ without (replicate 65 65) (digest 0 65 0 0 2 0) masses 1 0
     ∷ without protein (digest 1 66 0 0 2 0) [] 1 0
-    -- 8: 15 bytes, 17 bytes, no masses for Z, also where the first byte is no letter; 15 bytes have no range
-    ∷ without protein (take 15 (digest 1 5 0 0 3 0)) masses 8 0
+    -- 8: 19 bytes, 21 bytes, no masses for Z, also where the first byte is no letter; 19 bytes have no range; the 16 of an older record
+    ∷ without protein (take 19 (digest 1 5 0 0 3 0)) masses 8 0
     ∷ without (42 ∷ protein) (digest 1 5 0 0 3 0 ++ (0 ∷ [])) masses 8 0
     ∷ without protein (digest 1 5 0 0 3 0) (take 25 masses) 8 0
-    ∷ without protein (take 15 (digest 1 66 0 0 3 0)) masses 8 0
+    ∷ without protein (take 19 (digest 1 66 0 0 3 0)) masses 8 0
+    ∷ without protein (take 16 (digest 1 5 0 0 3 0)) masses 8 0
     -- 2: no letter before the range, behind it; a letter of mass zero inside, of which the place counts from the first letter
     ∷ without (42 ∷ protein) (digest 2 5 0 0 3 0) masses 2 0
     ∷ without (protein ++ (42 ∷ [])) (digest 1 5 0 0 3 0) masses 2 6

@@ -34,7 +34,7 @@ abbrev pub unfitAt : List Float → ℕ → ℕ → List ℕ → ℕ → Bool
 unfitAt masses start end s i = unfit masses (leb start i && ltb i end) (getD s i 0)
 
 pub whole-masses : (r : List ℕ) (masses : List Float) → notWhole r masses ≡ false → length masses ≡ 26
-whole-masses r masses e = eqb-true (length masses) 26 (both (eqb (length r) 16) (eqb (length masses) 26) (not-false (eqb (length r) 16 && eqb (length masses) 26) e) .1)
+whole-masses r masses e = eqb-true (length masses) 26 (both (eqb (length r) 20) (eqb (length masses) 26) (not-false (eqb (length r) 20 && eqb (length masses) 26) e) .1)
 
 module _ (s r : List ℕ) (masses : List Float) where
   pub tested-digest-size : tooLong s r ≡ true → Tested.Refused Size ≡ testedDigest s r masses
@@ -104,8 +104,8 @@ module _ (s r : List ℕ) (masses : List Float) where
     where
       few-of : tooLong s r ≡ false → notWhole r masses ≡ false → endOf r ≤ startOf r + 64
       few-of e w =
-          let x = neither (ltb 65536 (length s)) (eqb (length r) 16 && ltb (startOf r + 64) (endOf r)) e in
-          let y = both (eqb (length r) 16) (eqb (length masses) 26) (not-false (eqb (length r) 16 && eqb (length masses) 26) w) in
+          let x = neither (ltb 65536 (length s)) (eqb (length r) 20 && ltb (startOf r + 64) (endOf r)) e in
+          let y = both (eqb (length r) 20) (eqb (length masses) 26) (not-false (eqb (length r) 20 && eqb (length masses) 26) w) in
           ltb-false (startOf r + 64) (endOf r) (rw (y .0) at (x .1))
 
       fit-at : endOf r ≤ length s → length s ≤ firstUnfit masses (startOf r) (endOf r) s → (i : ℕ) → i < endOf r - startOf r → noMass masses (getD rangeIn i 0) ≡ false

@@ -12,13 +12,13 @@ use Rattle.records.specs.Search.{seek}
 use Rattle.letters.specs.Letters.{isLetter}
 use Rattle.enzyme_keep.specs.Digests.{startOf, endOf, goodRecord}
 
--- 1: more letters than a protein has; of 16 bytes, a range of more than 64
+-- 1: more letters than a protein has; of 20 bytes, a range of more than 64
 abbrev pub tooLong : List ℕ → List ℕ → Bool
-tooLong s r = ltb 65536 (length s) || (eqb (length r) 16 && ltb (startOf r + 64) (endOf r))
+tooLong s r = ltb 65536 (length s) || (eqb (length r) 20 && ltb (startOf r + 64) (endOf r))
 
--- 8: the record is not 16 bytes, or the masses are not 26
+-- 8: the record is not 20 bytes, or the masses are not 26
 abbrev pub notWhole : List ℕ → List Float → Bool
-notWhole r masses = not (eqb (length r) 16 && eqb (length masses) 26)
+notWhole r masses = not (eqb (length r) 20 && eqb (length masses) 26)
 
 -- a byte that is no letter; inside the range also a letter of mass zero
 unfoldable pub unfit : List Float → Bool → ℕ → Bool

@@ -11,13 +11,13 @@ fn too_long(letters: &[u8], bytes: &[u8]) -> bool
 {
     let start = records::u32_at(bytes, 0) as usize;
     let end = records::u32_at(bytes, 4) as usize;
-    (65536 < letters.len()) | ((bytes.len() == 16) & (start + 64 < end))
+    (65536 < letters.len()) | ((bytes.len() == 20) & (start + 64 < end))
 }
 
 fn not_whole(bytes: &[u8], masses: &[f32]) -> bool
     ensures { λ r. ⌜ r ≡ notWhole (now (bytes .entry)) (now (masses .entry)) ⌝ }
 {
-    !((bytes.len() == 16) & (masses.len() == 26))
+    !((bytes.len() == 20) & (masses.len() == 26))
 }
 
 // Whether a byte is no letter or, inside the range, a letter of mass zero.
