@@ -23,7 +23,7 @@
 
 /* docs/CHANGES.md says what each version changed. The second number rises where a declaration, an answer or a refusal does. */
 #define SENDUMAAL_VERSION_MAJOR 0
-#define SENDUMAAL_VERSION_MINOR 6
+#define SENDUMAAL_VERSION_MINOR 7
 #define SENDUMAAL_VERSION_PATCH 0
 
 #ifdef __cplusplus
@@ -55,6 +55,10 @@ enum {
 #define SENDUMAAL_NO_LIMIT UINT32_C(0xffffffff) /* of a rule */
 #define SENDUMAAL_NO_NAME UINT32_C(0xffffffff)  /* of a modification */
 #define SENDUMAAL_NO_CAP UINT32_C(0xffffffff)   /* of a list of forms */
+
+/* What a record takes. */
+#define SENDUMAAL_DIGEST_BYTES 20
+#define SENDUMAAL_GROUP_BYTES 28 /* of a group of digests */
 
 /* ---- letters ---- */
 
@@ -142,15 +146,19 @@ static inline uint32_t sendumaal_mass_bits(float mass)
 }
 
 /* ---- digests ----
- * A digest record is 16 bytes: start u32, end u32, missed u8, semi u8, position u8 (0 N-terminal, 1 C-terminal, 2 the whole
- * protein, 3 internal), decoy u8, protein u32, all little-endian. Its letters are those from start up to end of its
- * protein, with decoy 1 all but the first and the last of them reversed. */
+ * A digest record is 20 bytes: start u32, end u32, missed u8, semi u8, position u8 (0 N-terminal, 1 C-terminal, 2 the whole
+ * protein, 3 internal), decoy u8, protein u32, and at byte 16 times u32, all little-endian. Its letters are those from start up
+ * to end of its protein, with decoy 1 all but the first and the last of them reversed. times says how often they occur: of the
+ * ranges that the enzyme makes of this protein, kept or not, so many different ones have the letters of this one, itself
+ * included. As input it may be any number. Up to version 0.6 a record was 16 bytes, without times. 80 bytes are four records of
+ * this version and five of an older one; nothing tells them apart. */
 
 /* Cuts a protein, and writes a record for each digest that is kept to the front of out; the rest of out stays.
  * kind: 0 none, 1 end, 2 set; cleave is the set of kind 2, skip the letters at which no set cuts; side: 0 C, 1 N;
  * semi: 0 or 1. missed is at most 16, minimum, maximum and letters_len at most 65536, protein is any number.
  * Refuses with 1; 3 (alphabet bits above 25, or a member of cleave, for kind 2, or of skip that is not in alphabet); 2; 9
- * (a kind, side or semi that is none: 0); 11: the records that fit stand in order. Accepted: *count is their number.
+ * (a kind, side or semi that is none: 0); 11: the records that fit stand in order, each with its full times. Accepted: *count
+ * is their number.
  * It takes up to 1 MB of stack: 76 KB for 1024 letters, 375 KB for 8192. */
 uint32_t sendumaal_digest(const uint8_t *letters, size_t letters_len, uint32_t alphabet,
                           uint32_t kind, uint32_t cleave, uint32_t skip, uint32_t side, uint32_t semi,
@@ -161,11 +169,12 @@ uint32_t sendumaal_digest(const uint8_t *letters, size_t letters_len, uint32_t a
  * than 65536), 2. */
 uint32_t sendumaal_letters_reverse(uint8_t *letters, size_t letters_len, size_t *place);
 
-/* Makes a digest record that of its decoy; a decoy's stays. Refuses with 8 (not 16 bytes), 9 (a field out of range: 0). */
+/* Makes a digest record that of its decoy; a decoy's stays, and so does times. Refuses with 8 (not 20 bytes), 9 (a field out of
+ * range: 0). */
 uint32_t sendumaal_digest_reverse(uint8_t *record, size_t record_len, size_t *place);
 
 /* Writes the letters of a digest as capitals, reversed inside for a decoy, to the front of out; the rest of out stays.
- * letters are those of its protein. Refuses with 1 (letters_len above 65536), 8 (the record is not 16 bytes), 2, 9 (a field out of
+ * letters are those of its protein. Refuses with 1 (letters_len above 65536), 8 (the record is not 20 bytes), 2, 9 (a field out of
  * range, or an end past the letters: 0), 11: the letters that fit stand in order. Accepted: *count is their number. */
 uint32_t sendumaal_digest_letters(const uint8_t *letters, size_t letters_len, const uint8_t *record, size_t record_len,
                                   uint8_t *out, size_t out_len, uint32_t *count, size_t *place);
@@ -181,8 +190,8 @@ uint32_t sendumaal_base_mass(const uint8_t *letters, size_t letters_len, const f
                              float water, float *mass, size_t *place);
 
 /* The same of a digest's peptide, from the letters of its protein and its record: the letters are not copied out. A decoy's
- * are added in their own order. Refuses with 1 (letters_len above 65536, or, in a record of 16 bytes, a range of more than
- * 64 letters), 8 (the record is not 16 bytes, or masses are not 26), 2 (in all of letters, no letter, and in the range also
+ * are added in their own order. Refuses with 1 (letters_len above 65536, or, in a record of 20 bytes, a range of more than
+ * 64 letters), 8 (the record is not 20 bytes, or masses are not 26), 2 (in all of letters, no letter, and in the range also
  * one whose mass is zero: its index in letters), 9 (a field out of range, or an end past the letters: 0). Accepted:
  * *mass, and *position is the record's. */
 uint32_t sendumaal_digest_mass(const uint8_t *letters, size_t letters_len, const uint8_t *record, size_t record_len,
@@ -214,15 +223,17 @@ uint32_t sendumaal_forms(const uint8_t *letters, size_t letters_len, const uint8
 /* ---- groups of digests ----
  * A book is the letters of all proteins in a row, and their boundaries, one more than names: the first 0, none below the one
  * before or more than 65536 above it, the last letters_len. A digest's range counts from its protein's first letter. A group
- * is 24 bytes: the record of a digest, first u32 and count u32, little-endian, which name a stretch of proteins. */
+ * is 28 bytes: the record of a digest, at byte 20 first u32 and at byte 24 count u32, little-endian, which name a stretch of
+ * proteins. */
 
 /* Groups digests that are equal in position, decoy and letters, sorted by these; the record of a group is the first of its
- * digests, and its proteins, one for each digest, are sorted by the bytes of their names. names are at most 65536, letters
- * 2^28, digests 1048576. work has at least 4 x names + 6 x digests words, of any content; it is all zero afterwards, but
- * untouched by a refusal other than 11. Refuses with 1; 8 (names or digests are not whole records, bounds are not one more
- * than names); 10; 12 and 13 in names, the lowest place; 9 in bounds; 2; 9 in digests (a field out of range, a protein that
- * is none, an end past its protein); 11 (groups or proteins are too short): the records that fit stand in order, in each.
- * Accepted: *count is the number of groups, and as many proteins stand as digests; the rest of groups and proteins stays. */
+ * digests, with its own times, and its proteins, one for each digest, are sorted by the bytes of their names. names are at
+ * most 65536, letters 2^28, digests 1048576. work has at least 4 x names + 6 x digests words, of any content; it is all
+ * zero afterwards, but untouched by a refusal other than 11. Refuses with 1; 8 (names or digests are not whole records,
+ * bounds are not one more than names); 10; 12 and 13 in names, the lowest place; 9 in bounds; 2; 9 in digests (a field out
+ * of range, a protein that is none, an end past its protein); 11 (groups or proteins are too short): the records that fit
+ * stand in order, in each. Accepted: *count is the number of groups, and as many proteins stand as digests; the rest of
+ * groups and proteins stays. */
 uint32_t sendumaal_group_digests(const uint8_t *names, size_t names_len, const uint32_t *bounds, size_t bounds_len,
                                  const uint8_t *letters, size_t letters_len,
                                  const uint8_t *digests, size_t digests_len, uint32_t *work, size_t work_len,
