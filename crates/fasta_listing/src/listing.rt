@@ -24,10 +24,10 @@ ghost use Prim.Native.Nat.{_≤_};
 ghost use lib.ListN.{length};
 
 // 65,536 digests.
-fn digest_table() -> [u8; 1048576]
-    ensures { λ r. ⌜ 1048576 ≡ length r ⌝ }
+fn digest_table() -> [u8; 1310720]
+    ensures { λ r. ⌜ 1310720 ≡ length r ⌝ }
 {
-    [0; 1048576]
+    [0; 1310720]
 }
 
 // The first reading took the file, so what is wrong now was not there.

@@ -2,8 +2,8 @@
 //
 // `fasta_listing FILE..` tells of each file, one after the other. Standard input has on its first line, parted by single blanks,
 //     CLEAVE SKIP SIDE SEMI MISSED MINIMUM MAXIMUM
-// as `list_digests` has them. For each entry of a file it prints `>NAME`, then its digests, one to a line, as seven numbers: start end
-// missed semi position decoy protein. A protein is the entry's number, from 0.
+// as `list_digests` has them. For each entry of a file it prints `>NAME`, then its digests, one to a line, as eight numbers: start end
+// missed semi position decoy protein, and how often its letters occur. A protein is the entry's number, from 0.
 //
 // A file is read twice, so that a pipe is none: nothing is printed of it before all its entries and names are known to be good. Else
 // one line says why not, with the number and the place in the file that documents 01 and 02 give. It may be of any size, as it is read

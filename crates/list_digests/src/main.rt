@@ -1,4 +1,5 @@
-// Lists the digests of a protein, one to a line, as seven numbers: start end missed semi position decoy protein.
+// Lists the digests of a protein, one to a line, as eight numbers: start end missed semi position decoy protein
+// and how often its letters occur.
 //
 // Standard input has on its first line, parted by single blanks,
 //     CLEAVE SKIP SIDE SEMI MISSED MINIMUM MAXIMUM PROTEIN
@@ -23,10 +24,10 @@ fn input() -> [u8; 131072]
     [0; 131072]
 }
 
-fn output() -> [u8; 2097152]
-    ensures { λ r. ⌜ 2097152 ≡ length r ⌝ }
+fn output() -> [u8; 2621440]
+    ensures { λ r. ⌜ 2621440 ≡ length r ⌝ }
 {
-    [0; 2097152]
+    [0; 2621440]
 }
 
 fn say(line: &[u8]) {

@@ -1,6 +1,6 @@
 // Digests. A line is the letters or `-` for none, the kind of the enzyme (0 none, 1 the end alone, 2 a set), its sets in
 // hexadecimal, its side (0 C, 1 N), semi, the settings, the number of the Rust's digests, and these: start, end, missed,
-// semi and position of each.
+// semi and position of each, and how many different ranges of the Rust's own list of sites show its letters.
 use enzyme::Enzyme;
 use enzyme::Kind;
 use enzyme::Settings;
@@ -69,20 +69,22 @@ fn settings_of(line: &[u8]) -> Settings {
 
 // Whether record k has the range that stands at a place of a line.
 fn has_range(line: &[u8], at: usize, out: &[u8], k: u32) -> bool {
-    let from = 16 * k as usize;
+    let from = 20 * k as usize;
     let start = decimal(line, at);
     let end = decimal(line, behind(line, at));
     (start == u32_at(out, from)) & (end == u32_at(out, from + 4))
 }
 
-// Whether record k has the missed cleavages, the semi flag and the position that stand at a place of a line.
+// Whether record k has the missed cleavages, the semi flag, the position and the number of ranges that stand at a place of a line.
 fn has_marks(line: &[u8], at: usize, out: &[u8], k: u32) -> bool {
-    let from = 16 * k as usize;
+    let from = 20 * k as usize;
     let semi = behind(line, at);
     let position = behind(line, semi);
+    let times = behind(line, position);
     (decimal(line, at) == byte_at(out, from + 8) as u32)
         & (decimal(line, semi) == byte_at(out, from + 9) as u32)
         & (decimal(line, position) == byte_at(out, from + 10) as u32)
+        & (decimal(line, times) == u32_at(out, from + 16))
 }
 
 // Whether the first count records are the Rust's digests.
@@ -93,7 +95,7 @@ fn are_digests(line: &[u8], out: &[u8], count: u32) -> bool {
     while k < count {
         let marks = behind(line, behind(line, at));
         same = same & has_range(line, at, out, k) & has_marks(line, marks, out, k);
-        at = behind(line, behind(line, behind(line, marks)));
+        at = behind(line, behind(line, behind(line, behind(line, marks))));
         k += 1;
     }
     same

@@ -16,23 +16,24 @@ use text_fields::names_at;
 use text_fields::numbers_at;
 use text_fields::same_numbers;
 
-// Whether record k begins with the 16 bytes of a digest.
+// Whether record k begins with the 20 bytes of a digest.
 fn has_reference(digests: &[u8], reference: u32, groups: &[u8], k: u32) -> bool {
-    let from = 16 * reference as usize;
-    let at = 24 * k as usize;
+    let from = 20 * reference as usize;
+    let at = 28 * k as usize;
     (u32_at(digests, from) == u32_at(groups, at))
         & (u32_at(digests, from + 4) == u32_at(groups, at + 4))
         & (u32_at(digests, from + 8) == u32_at(groups, at + 8))
         & (u32_at(digests, from + 12) == u32_at(groups, at + 12))
+        & (u32_at(digests, from + 16) == u32_at(groups, at + 16))
 }
 
 // Whether record k is group k of the Rust, which has three numbers for each.
 fn is_group(theirs: &[u32], digests: &[u8], groups: &[u8], k: u32) -> bool {
     let i = 3 * k as usize;
-    let at = 24 * k as usize;
+    let at = 28 * k as usize;
     has_reference(digests, number_at(theirs, i), groups, k)
-        & (number_at(theirs, i + 1) == u32_at(groups, at + 16))
-        & (number_at(theirs, i + 2) == u32_at(groups, at + 20))
+        & (number_at(theirs, i + 1) == u32_at(groups, at + 20))
+        & (number_at(theirs, i + 2) == u32_at(groups, at + 24))
 }
 
 // Whether the first count records are the Rust's groups.
@@ -63,7 +64,7 @@ fn has_proteins(line: &[u8], proteins: &[u32]) -> bool {
 // Whether the library groups as the Rust did: 136 numbers of work memory are enough for 4 names and 20 digests.
 fn is_grouped(line: &[u8], names: &[u8], bounds: &[u32], letters: &[u8], digests: &[u8]) -> bool {
     let mut work = [1u32; 136];
-    let mut groups = [0u8; 504];
+    let mut groups = [0u8; 588];
     let mut proteins = [9u32; 21];
     let answer = digest_groups::group_digests(
         names,
@@ -95,11 +96,11 @@ fn is_spelt(line: &[u8], names: &[u8], bounds: &[u32], digests: &[u8]) -> bool {
 pub fn replay_groups(line: &[u8]) -> Verdict {
     let mut names = [0u8; 320];
     let mut bounds = [0u32; 6];
-    let mut digests = [0u8; 336];
+    let mut digests = [0u8; 420];
     let n = names_at(line, &mut names);
     let b = numbers_at(line, 1, &mut bounds);
     let d = bytes_at(line, 3, &mut digests);
-    if (n < 320) & (b < 6) & (d < 336) {
+    if (n < 320) & (b < 6) & (d < 420) {
         return Verdict::of(is_spelt(line, &names[..n], &bounds[..b], &digests[..d]));
     }
     Verdict::TooLarge

@@ -9,21 +9,22 @@ use text_lines::up_to;
 ghost use Prim.Native.Nat.{_+_, _≤_};
 ghost use Rattle.io.specs.Counts.{Counts};
 
-// One of the seven numbers of the record at a place.
+// One of the eight numbers of the record at a place.
 fn number_of(out: &[u8], at: usize, k: usize) -> u32
-    requires { ⌜ (at ≤ 16777200) × (k ≤ 6) ⌝ }
+    requires { ⌜ (at ≤ 20971500) × (k ≤ 7) ⌝ }
 {
     match k {
         0 => u32_at(out, at),
         1 => u32_at(out, at + 4),
         6 => u32_at(out, at + 12),
+        7 => u32_at(out, at + 16),
         _ => byte_at(out, at + 6 + k) as u32,
     }
 }
 
 // What stands behind a number: a blank, or behind the last the line's end.
 fn behind(k: usize) -> u8 {
-    if k == 6 { b'\n' } else { b' ' }
+    if k == 7 { b'\n' } else { b' ' }
 }
 
 // No number has more than 20 digits.
@@ -46,14 +47,14 @@ fn put_number(line: &mut [u8], at: usize, n: u32, behind: u8) -> usize
     end + 1
 }
 
-// Puts the seven numbers of the record at a place into a line: how many bytes there are.
+// Puts the eight numbers of the record at a place into a line: how many bytes there are.
 fn put_record(out: &[u8], at: usize, line: &mut [u8]) -> usize
-    requires { ⌜ at ≤ 16777200 ⌝ }
+    requires { ⌜ at ≤ 20971500 ⌝ }
     ensures { λ r. ⌜ Counts r (now (line .exit)) ⌝ }
 {
     let mut n = 0;
     let mut k = 0;
-    while k < 7 {
+    while k < 8 {
         n = put_number(line, n, number_of(out, at, k), behind(k));
         k += 1;
     }
@@ -62,9 +63,9 @@ fn put_record(out: &[u8], at: usize, line: &mut [u8]) -> usize
 
 // The line of the record at a place, in one write: a file of sequences has millions of them.
 fn print_record(out: &[u8], at: usize)
-    requires { ⌜ at ≤ 16777200 ⌝ }
+    requires { ⌜ at ≤ 20971500 ⌝ }
 {
-    let mut line = [0u8; 160];
+    let mut line = [0u8; 168];
     let n = put_record(out, at, &mut line);
     io::write_all(STDOUT_FILENO, &line[..n]);
 }
@@ -85,7 +86,7 @@ pub fn print_all(out: &[u8], count: u32) {
     let n = capped(count);
     let mut k = 0;
     while k < n {
-        print_record(out, 16 * k);
+        print_record(out, 20 * k);
         k += 1;
     }
 }

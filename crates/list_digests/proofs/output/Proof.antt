@@ -6,7 +6,7 @@ use Rattle.list_digests.proofs.output.Statement.{statement}
 use Rattle.list_digests.proofs.output.Tie as tie
 
 returns : tie.Need-returns
-returns c = sym (length-replicate {0} {A = ℕ} 2097152 0)
+returns c = sym (length-replicate {0} {A = ℕ} 2621440 0)
 
 pub output-spec : {M : Type 1} → statement M
 output-spec = tie.close (tie.spec returns)

@@ -6,7 +6,7 @@ use Rattle.fasta_listing.proofs.listing.digest_table.Statement.{stateme
 use Rattle.fasta_listing.proofs.listing.digest_table.Tie as tie
 
 returns : tie.Need-returns
-returns c = sym (length-replicate {0} {A = ℕ} 1048576 0)
+returns c = sym (length-replicate {0} {A = ℕ} 1310720 0)
 
 pub digest-table-spec : {M : Type 1} → statement M
 digest-table-spec = tie.close (tie.spec returns)

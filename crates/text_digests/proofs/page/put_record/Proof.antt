@@ -7,10 +7,10 @@ use Rattle.text_digests.proofs.page.put_record.Statement.{statement}
 use Rattle.text_digests.proofs.page.put_record.Tie as tie
 
 abbrev Inv-loop : tie.InvT-loop
-Inv-loop out at line₀ n₀ k₀ line n k = (n ≤ 21 * k) × (k ≤ 7) × (length line ≡ length line₀)
+Inv-loop out at line₀ n₀ k₀ line n k = (n ≤ 21 * k) × (k ≤ 8) × (length line ≡ length line₀)
 
 abbrev μ-loop : tie.MeasureT-loop
-μ-loop out at line₀ n₀ k₀ line n k = 7 - k
+μ-loop out at line₀ n₀ k₀ line n k = 8 - k
 
 pub put-record-spec : {M : Type 1} → statement M
 put-record-spec =
