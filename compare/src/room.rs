@@ -7,11 +7,11 @@ pub fn enough(rng: &mut Rng, count: usize, size: usize) -> usize {
     count * size + rng.pick(&[0, 0, 0, 1, size - 1, size, 3 * size + 5])
 }
 
-/// One byte short, one record, none at all, or any, for a list that is not empty.
+/// One byte short, one record, none at all, a single record, or any, for a list that is not empty.
 pub fn short(rng: &mut Rng, count: usize, size: usize) -> usize {
     let fewer = (count - 1) * size;
     let any = rng.below(count * size);
-    rng.pick(&[fewer, fewer + 1, fewer + size - 1, 0, any])
+    rng.pick(&[fewer, fewer + 1, fewer + size - 1, 0, size.min(fewer), any])
 }
 
 /// Bytes for so many records: too few if that is asked.

@@ -221,7 +221,7 @@ fn sequence_files() -> Vec<Run> {
 }
 
 fn of_records() -> Vec<Run> {
-    let record = [0, 0, 0, 0, 0, 0, 1, 0, 0, 0, 2, 0, 0, 0, 0, 0].to_vec();
+    let record = [0, 0, 0, 0, 0, 0, 1, 0, 0, 0, 2, 0, 0, 0, 0, 0, 1, 0, 0, 0].to_vec();
     let (again, letters, out) = (record.clone(), letters(MOST_LETTERS), vec![0; MOST_LETTERS]);
     vec![
         run("set_insert", || calls::set_insert(0, b'M') == 1 << 12),

@@ -1,15 +1,16 @@
 //! A sample of the original's answers for the gate to replay: plain lines of ASCII, nothing of ours in them.
 //!
 //! rules.txt: the text in hexadecimal (`-` if empty), the number of the answer, its place, kind and letter (0 unless
-//! accepted). table.txt: `N` starts an empty table, `I` inserts: the mass's bit pattern and the name's number in
-//! hexadecimal, and the id, 0 where the table is full. digest.txt: the letters (`-` if none), kind, cleave set and skip
-//! set in hexadecimal, side, semi, missed, minimum, maximum as the header numbers them, the number of digests, and each as
-//! `start.end.missed.semi.position`, divided by `;` (`-` if none); the alphabet is all letters. masses.txt: letters, and the
-//! bit pattern of their base mass in hexadecimal, by the original's own masses. forms.txt: the letters, their ids in
-//! hexadecimal, the ids of the two ends, the position, the variable rules, then the fixed ones in hexadecimal (`-` if none),
-//! the combination limit, the cap (4294967295 if none), the number of forms, and each in hexadecimal as the ids of the two
-//! ends and of the letters, divided by `;`. fasta.txt: the file in hexadecimal (`-` if empty), and each entry as its name in
-//! hexadecimal, `=` and its letters, divided by `;` (`-` if none).
+//! accepted). table.txt: `N` starts an empty table, `I` inserts: the mass's bit pattern and the name's number in hexadecimal,
+//! and the id, 0 where the table is full. digest.txt: the letters (`-` if none), kind, cleave set and skip set in
+//! hexadecimal, side, semi, missed, minimum, maximum as the header numbers them, the number of digests, and each as
+//! `start.end.missed.semi.position.count`, divided by `;` (`-` if none); the alphabet is all letters, and the count is how
+//! many different ranges of the original's sites have the digest's letters. masses.txt: letters, and the bit pattern of their
+//! base mass in hexadecimal, by the original's own masses. forms.txt: the letters, their ids in hexadecimal, the ids of the
+//! two ends, the position, the variable rules, then the fixed ones in hexadecimal (`-` if none), the combination limit, the
+//! cap (4294967295 if none), the number of forms, and each in hexadecimal as the ids of the two ends and of the letters,
+//! divided by `;`. fasta.txt: the file in hexadecimal (`-` if empty), and each entry as its name in hexadecimal, `=` and its
+//! letters, divided by `;` (`-` if none).
 //!
 //! groups.txt: the names in hexadecimal without the zeros behind them, divided by `;`, the boundaries, divided by `.`, the
 //! letters, the digest records in hexadecimal, one behind the other, the number of groups, each group as the number of its

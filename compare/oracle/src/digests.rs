@@ -2,6 +2,7 @@
 use crate::fields::*;
 use oracle::enzyme::{group_digests, probe, Digest, DigestGroup, Enzyme, EnzymeParameters};
 use std::cell::RefCell;
+use std::collections::HashMap;
 use std::rc::Rc;
 use std::sync::Arc;
 
@@ -43,16 +44,35 @@ pub fn sites(f: &[&str]) -> String {
     or_dash(join(written, ";"))
 }
 
+/// How many different ranges of the Rust's own sites have the letters of a digest. It keeps none that is shorter or longer than its
+/// parameters allow, so such ranges are equal to no digest.
+fn times<'a>(parameters: &EnzymeParameters, letters: &'a str) -> HashMap<&'a str, usize> {
+    let lengths = parameters.min_len..=parameters.max_len;
+    let sites = probe::all_sites(parameters, letters);
+    let ranges = sites.iter().map(|s| (s.site.start, s.site.end));
+    let mut ranges: Vec<_> = ranges.filter(|(start, end)| lengths.contains(&(end - start))).collect();
+    ranges.sort_unstable();
+    ranges.dedup();
+    let mut times = HashMap::new();
+    for peptide in ranges.iter().filter_map(|(start, end)| letters.get(*start..*end)) {
+        *times.entry(peptide).or_default() += 1;
+    }
+    times
+}
+
 pub fn digest(f: &[&str]) -> String {
-    let digests = parameters(&f[1..]).digest(text(f[0]), Arc::from("p"));
+    let parameters = parameters(&f[1..]);
+    let digests = parameters.digest(text(f[0]), Arc::from("p"));
+    let times = times(&parameters, text(f[0]));
     let written = digests.iter().map(|d| {
         format!(
-            "{}.{}.{}.{}.{}",
+            "{}.{}.{}.{}.{}.{}",
             d.sequence,
             d.missed_cleavages,
             d.semi_enzymatic as u8,
             position_number(d.position),
-            d.decoy as u8
+            d.decoy as u8,
+            times[&*d.sequence]
         )
     });
     or_dash(join(written, ";"))

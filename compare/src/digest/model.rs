@@ -1,8 +1,10 @@
-//! Document 01's "Cutting" as plain Rust, sentence by sentence: quadratic, so for small proteins.
+//! Document 01's "Cutting" as plain Rust, sentence by sentence, and what document 02, [7], adds to it: quadratic, so for small
+//! proteins.
 use crate::answer::*;
 use crate::model::{self, put_word};
 use crate::room;
 use crate::small_letters::Lettered;
+use std::collections::BTreeSet;
 use std::fmt;
 
 pub const NONE: u32 = 0;
@@ -12,7 +14,7 @@ pub const C_SIDE: u32 = 0;
 pub const N_SIDE: u32 = 1;
 
 /// The bytes of a digest record, and the most that a list has.
-pub const DIGEST: usize = 16;
+pub const DIGEST: usize = 20;
 pub const MOST_DIGESTS: usize = 1_048_576;
 /// The most letters of a protein, and the greatest minimum and maximum.
 pub const MOST_LETTERS: usize = 65_536;
@@ -160,6 +162,17 @@ pub fn kept(letters: &[u8], enzyme: &Enzyme) -> Vec<Site> {
     kept
 }
 
+/// Every range of some sites once, however many sites have it.
+pub fn ranges(sites: &[Site]) -> BTreeSet<(usize, usize)> {
+    sites.iter().map(|site| (site.start, site.end)).collect()
+}
+
+/// "The number of different ranges among the sites of that protein whose letters equal this peptide's" (document 02, [7]); the
+/// letters are capitals here.
+pub fn times(letters: &[u8], ranges: &BTreeSet<(usize, usize)>, peptide: &[u8]) -> u32 {
+    ranges.iter().filter(|(start, end)| letters[*start..*end] == *peptide).count() as u32
+}
+
 pub fn position(site: &Site, count: usize) -> u8 {
     match (site.start == 0, site.end == count) {
         (true, false) => 0,
@@ -169,13 +182,25 @@ pub fn position(site: &Site, count: usize) -> u8 {
     }
 }
 
-fn record(site: &Site, count: usize, protein: u32) -> [u8; DIGEST] {
+fn record(site: &Site, count: usize, protein: u32, times: u32) -> [u8; DIGEST] {
     let mut record = [0; DIGEST];
     put_word(&mut record, 0, site.start as u32);
     put_word(&mut record, 4, site.end as u32);
     record[8..12].copy_from_slice(&[site.missed, site.semi, position(site, count), 0]);
     put_word(&mut record, 12, protein);
+    put_word(&mut record, 16, times);
     record
+}
+
+/// The records of a call that passes its tests, whatever room there is.
+pub fn records(call: &Call) -> Vec<[u8; DIGEST]> {
+    let letters = model::capitals(&call.letters);
+    let ranges = ranges(&sites(&letters, &call.enzyme));
+    let of = |site: &Site| {
+        let times = times(&letters, &ranges, &letters[site.start..site.end]);
+        record(site, letters.len(), call.protein, times)
+    };
+    kept(&letters, &call.enzyme).iter().map(of).collect()
 }
 
 pub fn room(out: &[u8]) -> usize {
@@ -204,7 +229,5 @@ pub fn digest(call: &Call, out: &[u8]) -> Filled<u32> {
     if let Err(refusal) = test(call) {
         return Filled { answer: Err(refusal), buffer: out.to_vec() };
     }
-    let kept = kept(&call.letters, &call.enzyme);
-    let records: Vec<_> = kept.iter().map(|site| record(site, call.letters.len(), call.protein)).collect();
-    room::filled(&records, DIGEST, MOST_DIGESTS, out)
+    room::filled(&records(call), DIGEST, MOST_DIGESTS, out)
 }

@@ -1,4 +1,5 @@
-//! What the original says of a protein: its digests, of which it keeps the letters and no range, and its sites.
+//! What the original says of a protein: its digests, of which it keeps the letters and no range, and its sites, on which it is
+//! counted how often the letters of a digest stand.
 use super::model::{Call, Enzyme, Site, DIGEST, END, N_SIDE, SET};
 use crate::answer::{Checked, Fault};
 use crate::fields::capitals_field;
@@ -14,12 +15,15 @@ pub struct Seen<'a> {
     pub position: u8,
     pub decoy: u8,
     pub protein: u32,
+    /// How often its letters stand: the original's own sites say it.
+    pub times: u32,
 }
 
 impl std::fmt::Debug for Seen<'_> {
     fn fmt(&self, f: &mut std::fmt::Formatter<'_>) -> std::fmt::Result {
-        let Seen { letters, missed, semi, position, decoy, protein } = self;
-        write!(f, "{}.{missed}.{semi}.{position}.{decoy} of {protein:x}", super::model::shown(letters))
+        let Seen { letters, missed, semi, position, decoy, protein, times } = self;
+        let letters = super::model::shown(letters);
+        write!(f, "{letters}.{missed}.{semi}.{position}.{decoy} of {protein:x}, {times} times")
     }
 }
 
@@ -29,7 +33,8 @@ impl Seen<'_> {
         let range = word(record, 0) as usize..word(record, 4) as usize;
         let letters = letters.get(range.clone()).ok_or(Fault(format!("it wrote the range {range:?}")))?;
         let [missed, semi, position, decoy] = std::array::from_fn(|field| record[8 + field]);
-        Ok(Seen { letters, missed, semi, position, decoy, protein: word(record, 12) })
+        let (protein, times) = (word(record, 12), word(record, 16));
+        Ok(Seen { letters, missed, semi, position, decoy, protein, times })
     }
 
     pub fn all<'a>(records: &[u8], letters: &'a [u8]) -> Checked<Vec<Seen<'a>>> {
@@ -85,7 +90,7 @@ fn read_digest(item: &str, protein: u32) -> Seen<'_> {
     let mut fields = item.split('.');
     let letters = fields.next().expect("letters").as_bytes();
     let [missed, semi, position, decoy] = std::array::from_fn(|_| number(fields.next()));
-    Seen { letters, missed, semi, position, decoy, protein }
+    Seen { letters, missed, semi, position, decoy, protein, times: number(fields.next()) }
 }
 
 /// The original walks also ranges that end past the letters, and keeps none of them: document 01 has no such sites.

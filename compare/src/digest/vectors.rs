@@ -21,7 +21,7 @@ fn example(letters: &[u8], kind: u32, cleave: &[u8], missed: u32, bounds: (u32, 
     Call { letters: letters.to_vec(), alphabet: set_of(cleave), enzyme, protein: 0 }
 }
 
-/// Document 01's examples, and the empty protein with each kind.
+/// Document 01's examples, two with repeats, and the empty protein with each kind.
 fn examples() -> Vec<Call> {
     let mut p1 = example(b"MAKCRDK", SET, b"KR", 1, (2, 50));
     p1.enzyme.skip = set_of(b"P");
@@ -30,8 +30,11 @@ fn examples() -> Vec<Call> {
     let mut p4 = example(b"ACK", SET, b"KR", 0, (1, 50));
     p4.enzyme.semi = 1;
     let p5 = example(b"AAC", NONE, b"", 0, (1, 2));
+    let windows = example(b"AKAKAK", SET, b"K", 1, (1, 50));
+    let mut parts = example(b"ACKAC", SET, b"K", 0, (1, 50));
+    parts.enzyme.semi = 1;
     let empty = [NONE, END, SET].map(|kind| example(b"", kind, b"K", 1, (0, 3)));
-    [vec![p1, p3, p4, p5], empty.to_vec()].concat()
+    [vec![p1, p3, p4, p5, windows, parts], empty.to_vec()].concat()
 }
 
 fn random(rng: &mut Rng) -> Call {
@@ -62,17 +65,17 @@ fn kept(letters: &[u8], sites: &[Site], digests: &[Seen<'_>]) -> Vec<Site> {
     digests.iter().map(&mut site_of).collect()
 }
 
-fn line(call: &Call, kept: &[Site]) -> String {
+fn line(call: &Call, kept: &[Site], digests: &[Seen<'_>]) -> String {
     let Enzyme { kind, cleave, skip, side, semi, missed, minimum, maximum } = call.enzyme;
     let count = call.letters.len();
-    let write = |site: &Site| {
+    let write = |(site, digest): (&Site, &Seen<'_>)| {
         let Site { start, end, missed, semi } = site;
-        format!("{start}.{end}.{missed}.{semi}.{}", position(site, count))
+        format!("{start}.{end}.{missed}.{semi}.{}.{}", position(site, count), digest.times)
     };
     let letters = letters_field(&call.letters);
     let enzyme = format!("{kind} {cleave:08x} {skip:08x} {side} {semi} {missed} {minimum} {maximum}");
-    let digests = list_field(kept.iter().map(write), ";");
-    format!("{letters} {enzyme} {} {digests}\n", kept.len())
+    let written = list_field(kept.iter().zip(digests).map(write), ";");
+    format!("{letters} {enzyme} {} {written}\n", kept.len())
 }
 
 pub fn lines(context: &Context) -> String {
@@ -82,8 +85,9 @@ pub fn lines(context: &Context) -> String {
     let (sites, digests) = (ask_sites(&context.oracle, &calls), ask_digests(&context.oracle, &calls));
     for ((call, sites), digests) in calls.iter().zip(sites).zip(digests) {
         let sites = read_sites(&sites, call.letters.len());
-        let kept = kept(&call.letters, &sites, &read_digests(&digests, 0));
-        sample.add(&line(call, &kept), kept.is_empty());
+        let digests = read_digests(&digests, 0);
+        let kept = kept(&call.letters, &sites, &digests);
+        sample.add(&line(call, &kept, &digests), kept.is_empty());
     }
     sample.lines
 }

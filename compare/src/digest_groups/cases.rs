@@ -86,7 +86,14 @@ fn digest(rng: &mut Rng, kind: &Kind, bounds: &[u32]) -> Option<Digest> {
         position: rng.pick(&kind.positions),
         decoy: rng.pick(&kind.decoys),
         protein: protein as u32,
+        times: times(rng),
     })
+}
+
+/// Any number: of a group the first digest's is kept, whatever the others' are.
+fn times(rng: &mut Rng) -> u32 {
+    let any = rng.word();
+    rng.pick(&[0, 1, 1, 2, 65_536, 65_537, any, any, any, u32::MAX])
 }
 
 /// Work memory that is just enough, or with some to spare, filled with anything.
@@ -132,7 +139,8 @@ fn all_digests(positions: &[u8], longest: u32) -> Vec<Digest> {
             for position in positions {
                 for decoy in 0..2 {
                     let (missed, semi, position) = (digests.len() as u8 % 17, 0, *position);
-                    digests.push(Digest { start, end, missed, semi, position, decoy, protein });
+                    let times = digests.len() as u32 * 0x0102_0304;
+                    digests.push(Digest { start, end, missed, semi, position, decoy, protein, times });
                 }
             }
         }

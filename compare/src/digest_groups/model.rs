@@ -10,7 +10,7 @@ use std::fmt;
 
 /// The bytes of a name and of a group.
 pub const NAME: usize = 64;
-pub const GROUP: usize = 24;
+pub const GROUP: usize = 28;
 pub const MOST_NAMES: usize = 65_536;
 
 /// A call of `group_digests` but for its two lists.
@@ -39,22 +39,26 @@ pub struct Digest {
     pub position: u8,
     pub decoy: u8,
     pub protein: u32,
+    /// "As input any count passes" (document 02, [7]).
+    pub times: u32,
 }
 
 impl Digest {
     fn of(record: &[u8]) -> Digest {
         let word = |at| word(record, at);
         let [missed, semi, position, decoy] = std::array::from_fn(|field| record[8 + field]);
-        Digest { start: word(0), end: word(4), missed, semi, position, decoy, protein: word(12) }
+        let (protein, times) = (word(12), word(16));
+        Digest { start: word(0), end: word(4), missed, semi, position, decoy, protein, times }
     }
 
     pub fn bytes(&self) -> [u8; DIGEST] {
-        let Digest { start, end, missed, semi, position, decoy, protein } = *self;
+        let Digest { start, end, missed, semi, position, decoy, protein, times } = *self;
         let mut record = [0; DIGEST];
         put_word(&mut record, 0, start);
         put_word(&mut record, 4, end);
         record[8..12].copy_from_slice(&[missed, semi, position, decoy]);
         put_word(&mut record, 12, protein);
+        put_word(&mut record, 16, times);
         record
     }
 }
@@ -94,8 +98,8 @@ impl fmt::Debug for Call {
         write!(f, "{}, ", shown_names(&self.names))?;
         write!(f, "boundaries {bounds:?} of {}, letters {}, ", self.bounds.len(), shown(&self.letters))?;
         for record in self.digests.chunks_exact(DIGEST).take(20) {
-            let Digest { start, end, missed, semi, position, decoy, protein } = Digest::of(record);
-            write!(f, "{start}.{end}.{missed}.{semi}.{position}.{decoy}.{protein} ")?;
+            let Digest { start, end, missed, semi, position, decoy, protein, times } = Digest::of(record);
+            write!(f, "{start}.{end}.{missed}.{semi}.{position}.{decoy}.{protein}.{times:x} ")?;
         }
         write!(f, "of {} bytes, {} words", self.digests.len(), self.work.len())
     }
@@ -154,7 +158,7 @@ fn bounds_test(bounds: &[u32], letters: usize) -> Answer<()> {
 
 fn digests_test(call: &Call) -> Answer<()> {
     let good = |digest: Digest| {
-        let Digest { start, end, missed, semi, position, decoy, protein } = digest;
+        let Digest { start, end, missed, semi, position, decoy, protein, .. } = digest;
         let fields = u32::from(missed) <= MOST_MISSED && semi <= 1 && position <= 3 && decoy <= 1;
         let known = (protein as usize) < call.names.len() / NAME;
         fields && known && start < end && end as usize <= call.protein(protein).len()

@@ -7,6 +7,7 @@ use crate::entry::{Against, Context, Tally};
 use crate::letters::NEAR_LETTERS;
 use crate::model::{put_word, word, MOST_BOOK};
 use crate::refusals::{cut_within, scatter, spoil, Spoil, Turns};
+use crate::reversal::cases::FORMER;
 use crate::rng::Rng;
 
 fn short_work(rng: &mut Rng, call: &mut Call) {
@@ -98,11 +99,19 @@ fn bad_digests(rng: &mut Rng, call: &mut Call) {
     }
 }
 
+/// Digests as a file had them before document 02, [7]: whole records of 16 bytes, and none of 20.
+fn former_digests(rng: &mut Rng, digests: &mut Vec<u8>) {
+    let count = digests.len() / DIGEST + rng.below(2);
+    let count = if count % 5 == 0 { count + 1 } else { count };
+    digests.resize(count * FORMER, 0);
+}
+
 /// Lists that end within a record, and boundaries that are not one more than names.
 fn no_length(rng: &mut Rng, call: &mut Call) {
-    match rng.below(3) {
+    match rng.below(4) {
         0 => call.names.extend(vec![b'A'; 1 + rng.below(NAME - 1)]),
         1 => cut_within(rng, &mut call.digests, DIGEST),
+        2 => former_digests(rng, &mut call.digests),
         _ => {
             let count = call.bounds.len();
             call.bounds.resize(rng.pick(&[0, count - 1, count + 1, count + 2, 2 * count]), 0);

@@ -1,6 +1,6 @@
 //! A sample of the original's groups, of lists in which document 01 puts nothing right.
 use super::cases::{random, STABLE};
-use super::model::{Call, Lists};
+use super::model::{Call, Lists, GROUP};
 use super::said::{ask, read, Read};
 use crate::asked::drawn;
 use crate::digest::model::DIGEST;
@@ -19,7 +19,7 @@ const LIMITS: Limits =
 fn line(call: &Call, lists: &Lists) -> String {
     let (names, letters) = (names_field(&call.names), letters_field(&call.letters));
     let given = format!("{names} {} {letters} {}", list_field(&call.bounds, "."), hex(&call.digests));
-    let group = |record: &[u8; 24]| {
+    let group = |record: &[u8; GROUP]| {
         let number = call.digests.chunks(DIGEST).position(|digest| digest == &record[..DIGEST]);
         format!("{}.{}.{}", number.expect("a digest"), word(record, DIGEST), word(record, DIGEST + 4))
     };

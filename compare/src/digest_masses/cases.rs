@@ -7,7 +7,7 @@ use crate::masses::model::MASSES;
 use crate::model::{put_word, word};
 use crate::peptide_letters::{len, of_len};
 use crate::refusals::Spoil;
-use crate::reversal::cases::{exactly, record_of};
+use crate::reversal::cases::{exactly, record_of, FORMER};
 use crate::rng::Rng;
 use std::ops::Range;
 
@@ -66,9 +66,10 @@ fn with_bad_size(rng: &mut Rng, call: &mut Call) {
 }
 
 fn with_bad_length(rng: &mut Rng, call: &mut Call) {
-    match rng.below(3) {
+    match rng.below(4) {
         0 => call.record.truncate(rng.below(DIGEST)),
         1 => call.record.extend(rng.bytes(1)),
+        2 => call.record.truncate(FORMER),
         _ => call.masses.resize(rng.pick(&[0, 1, MASSES - 1, MASSES + 1]), 1),
     }
 }

@@ -36,9 +36,13 @@ pub fn record_of(rng: &mut Rng, range: Range<usize>, decoy: u8) -> Vec<u8> {
     record.extend((range.start as u32).to_le_bytes());
     record.extend((range.end as u32).to_le_bytes());
     record.extend([rng.below(17) as u8, rng.below(2) as u8, rng.below(4) as u8, decoy]);
-    record.extend(rng.bytes(4));
+    // The protein's number, and how often the letters stand in it: any are taken.
+    record.extend(rng.bytes(8));
     record
 }
+
+/// The bytes of a record before document 02, [7].
+pub const FORMER: usize = 16;
 
 /// A protein, and a good record of it; its position need not agree with its range.
 pub fn with_record(rng: &mut Rng) -> (Vec<u8>, Vec<u8>) {
@@ -63,9 +67,10 @@ pub fn damaged(rng: &mut Rng) -> (Vec<u8>, Vec<u8>) {
         1 => letters.truncate(rng.below(41)),
         2 => record.truncate(rng.below(DIGEST + 1)),
         3 => {
-            let more = rng.pick(&[1, 2, DIGEST, DIGEST + 1]);
+            let more = rng.pick(&[1, 2, FORMER, DIGEST, DIGEST + 1, 3 * DIGEST]);
             record.extend(rng.bytes(more));
         }
+        4 if rng.once_in(2) => record.truncate(FORMER),
         _ => {}
     }
     if rng.once_in(2000) {
