@@ -1,6 +1,6 @@
 //! Times the original Rust and the proved library on the same proteins, peptides, digests, edges, pairs and files, in turns, and
 //! prints tables of both: `bench digest`, `bench greatest`, `bench doubling`, `bench letters`, `bench forms`, `bench groups`,
-//! `bench cover`, `bench inference`, `bench lines`, `bench fasta`.
+//! `bench cover`, `bench inference`, `bench lines`, `bench fasta`. With the word `ours` behind it the original is asked and not timed.
 mod clock;
 #[path = "../../compare/src/digest/colliding.rs"]
 mod colliding;

@@ -1,7 +1,7 @@
 //! The two sides: each answers how many digests a protein has, after it has made all of them.
 use super::rows::Cutting;
 use crate::ffi::sendumaal_digest;
-use crate::records::{range, DIGEST};
+use crate::records::{digest_bytes, range};
 use oracle::enzyme::{Digest, Enzyme, EnzymeParameters};
 use std::hint::black_box;
 use std::sync::Arc;
@@ -49,7 +49,7 @@ pub fn set_of(letters: &str) -> u32 {
 impl Ours {
     /// Filled with ones: memory that is only reserved would have to be found in the time of the first call.
     pub fn new() -> Ours {
-        Ours { out: vec![1; MOST_DIGESTS * DIGEST] }
+        Ours { out: vec![1; MOST_DIGESTS * digest_bytes()] }
     }
 
     pub fn count(&mut self, cutting: &Cutting, letters: &str) -> usize {
@@ -59,7 +59,7 @@ impl Ours {
     /// The records of a protein that has a number.
     pub fn records(&mut self, cutting: &Cutting, letters: &str, protein: u32) -> Vec<u8> {
         let count = self.cut(cutting, letters, protein);
-        self.out[..count * DIGEST].to_vec()
+        self.out[..count * digest_bytes()].to_vec()
     }
 
     fn cut(&mut self, cutting: &Cutting, letters: &str, protein: u32) -> usize {
@@ -81,7 +81,7 @@ impl Ours {
 
     /// The letters of the digests that stand in the buffer.
     pub fn letters<'a>(&'a self, count: usize, letters: &'a str) -> impl Iterator<Item = &'a str> {
-        let records = self.out[..count * DIGEST].chunks(DIGEST);
+        let records = self.out[..count * digest_bytes()].chunks(digest_bytes());
         records.map(move |record| &letters[range(record)])
     }
 }

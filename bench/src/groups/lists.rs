@@ -1,7 +1,7 @@
 //! What is grouped: the tryptic digests of generated proteins and their decoys.
 use crate::digest::cut;
 use crate::proteins::{letters, name, protein};
-use crate::records::{range, DIGEST, NAME};
+use crate::records::{digest_bytes, range, NAME};
 use crate::rng::Rng;
 use oracle::enzyme::{Digest, Position};
 use std::sync::Arc;
@@ -62,7 +62,7 @@ impl List {
         let mut padded = [0; NAME];
         padded[..name.len()].copy_from_slice(name.as_bytes());
         self.names.extend(padded);
-        for record in cut(protein, number).chunks(DIGEST) {
+        for record in cut(protein, number).chunks(digest_bytes()) {
             for decoy in [0, 1] {
                 if self.rust.len() == most {
                     return;
@@ -70,7 +70,7 @@ impl List {
                 let target = digest(record, protein, &shared);
                 self.rust.push(if decoy == 1 { target.reverse() } else { target });
                 self.digests.extend(record);
-                let last = self.digests.len() - DIGEST;
+                let last = self.digests.len() - digest_bytes();
                 self.digests[last + 11] = decoy;
             }
         }

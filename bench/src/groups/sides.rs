@@ -1,7 +1,7 @@
 //! Our side: lent buffers, which are made once and not cleared between calls.
 use super::lists::List;
 use crate::ffi::sendumaal_group_digests;
-use crate::records::{range, word, GROUP, NAME};
+use crate::records::{digest_bytes, group_bytes, range, word, NAME};
 use oracle::enzyme::DigestGroup;
 use std::hint::black_box;
 
@@ -18,7 +18,7 @@ impl Ours {
         let (names, digests) = (list.bounds.len() - 1, list.rust.len());
         Ours {
             work: vec![1; 4 * names + 6 * digests],
-            groups: vec![1; GROUP * digests],
+            groups: vec![1; group_bytes() * digests],
             proteins: vec![1; digests],
         }
     }
@@ -47,12 +47,12 @@ impl Ours {
         let same = |(record, group): (&[u8], &DigestGroup)| {
             let mut names: Vec<&str> = group.proteins.iter().map(|name| &**name).collect();
             names.sort_unstable();
-            let (first, count) = (word(record, 16) as usize, word(record, 20) as usize);
+            let [first, count] = [0, 4].map(|at| word(record, digest_bytes() + at) as usize);
             let stretch = &self.proteins[first..first + count];
             list.letters_of(record) == group.reference.sequence.as_bytes()
                 && stretch.iter().map(|protein| list.name(*protein)).eq(names)
         };
-        count == groups.len() && self.groups.chunks(GROUP).zip(groups).all(same)
+        count == groups.len() && self.groups.chunks(group_bytes()).zip(groups).all(same)
     }
 }
 
