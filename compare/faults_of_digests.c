@@ -90,21 +90,98 @@ static int has_bad_letter(const uint8_t *letters, size_t len)
 /* What is wrong with the records of an accepted call. */
 static void spoil_records(uint8_t *out, size_t out_len, uint32_t count, const uint8_t *letters, size_t len)
 {
-    uint8_t *last = out + 16 * (count - 1);
+    uint8_t *last = out + DIGEST * (count - 1);
     if (planted("digest: the later of two equal peptides is kept"))
         move_to_last(last, letters, len);
     if (planted("digest: of equal peptides the one in capitals is kept") ||
         (planted("digest: of equal peptides of a long protein the one in capitals is kept") && len > 1024))
         for (uint32_t i = 0; i < count && i < 50; i++)
-            move_to_capitals(out + 16 * i, letters, len);
+            move_to_capitals(out + DIGEST * i, letters, len);
     if (planted("digest: the semi flag is lost"))
         last[9] = 0;
     if (planted("digest: the whole protein is called its front") && out[10] == 2)
         out[10] = 0;
-    if (planted("digest: a byte past the answer is written") && out_len > 16 * (size_t)count)
-        out[16 * count] ^= 1;
+    if (planted("digest: a byte past the answer is written") && out_len > DIGEST * (size_t)count)
+        out[DIGEST * count] ^= 1;
     if (planted("digest: the protein's number is cut to 16 bits"))
         last[14] = last[15] = 0;
+}
+
+/* What a call asks of the counting. */
+struct counted {
+    const uint8_t *letters;
+    size_t len;
+    uint32_t kind, cleave, side, semi, missed;
+    int full;
+};
+
+static int in_set(uint32_t set, uint8_t letter)
+{
+    return set >> (capital(letter) - 'A') & 1;
+}
+
+/* Whether a window that ends in the empty site behind the last letter has the range of a record, too. */
+static int ends_empty(const struct counted *call, const uint8_t *record)
+{
+    int cuts = call->kind == 2 && call->side == 0 && in_set(call->cleave, call->letters[call->len - 1]);
+    return (cuts || call->kind == 1) && record[8] < call->missed && !record[9] && word(record + 4) == call->len;
+}
+
+/* Whether the letters of a record stand last in the protein, and the record elsewhere. */
+static int stands_last(const struct counted *call, const uint8_t *record)
+{
+    size_t start = word(record), size = word(record + 4) - start, last = call->len - size;
+    return last != start && capitals_order(call->letters + start, call->letters + last, size) == 0;
+}
+
+/* The number of one record as the fault has it. */
+static uint32_t spoilt_times(const struct counted *call, const uint8_t *record)
+{
+    uint32_t times = times_of(record), start = word(record), size = word(record + 4) - start;
+    int is_none = call->kind == 0 || (call->kind == 2 && call->cleave == 0);
+    int is_semi = call->kind == 2 && call->cleave && call->semi, of_one = call->missed > 0 && !record[8];
+    if (planted("digest: a new record counts 0"))
+        return times - 1;
+    if (planted("digest: a count is one short") && times > 1)
+        return times - 1;
+    if (planted("digest: the count is always 1"))
+        return 1;
+    if (planted("digest: a count is cut to 8 bits"))
+        return times & 255;
+    if (planted("digest: a count is cut to 16 bits"))
+        return times & 65535;
+    if (planted("digest: an empty site is counted") && call->kind == 2)
+        return times + ends_empty(call, record);
+    if (planted("digest: the empty site of end is counted") && call->kind == 1)
+        return times + ends_empty(call, record);
+    if (planted("digest: a site is counted again as a part of a window") && is_semi && of_one && !record[9])
+        return times + (start + size < call->len);
+    if (planted("digest: a part is counted again as that of a window") && is_semi && of_one && record[9])
+        return times + (start > 0 && start + size < call->len);
+    if (planted("digest: the last start of none is not counted") && is_none)
+        return times - stands_last(call, record);
+    if (planted("digest: parts are not counted") && is_semi && !record[9] && times > 1)
+        return 1;
+    if (planted("digest: letters are counted apart from their capitals") && first_small(call->letters + start, size) < size)
+        return 1;
+    return times;
+}
+
+/* What is wrong with the numbers of the records that stand. */
+static void spoil_counts(const struct counted *call, uint8_t *out, size_t count)
+{
+    for (size_t i = 0; i < count; i++)
+        put_times(out + DIGEST * i, spoilt_times(call, out + DIGEST * i));
+    for (size_t i = count; i-- > 1 && planted("digest: the count is added to the record behind");) {
+        uint8_t *record = out + DIGEST * i;
+        put_times(record, times_of(record - DIGEST));
+    }
+    if (planted("digest: the count is added to the record behind"))
+        put_times(out, 1);
+    if (planted("digest: counting ends where the buffer is full") && call->full)
+        put_times(out + DIGEST * (count - 1), 1);
+    if (planted("digest: the first record is not counted on where the buffer is full") && call->full)
+        put_times(out, 1);
 }
 
 /* In a frame of its own: in the caller's it would be taken where no fault is planted, too. */
@@ -113,6 +190,11 @@ static __attribute__((noinline)) void take_stack(void)
     volatile uint8_t more[2 << 20];
     for (size_t i = 0; i < sizeof more; i += 4096)
         more[i] = 1;
+}
+
+static size_t most_records(size_t out_len)
+{
+    return out_len / DIGEST < 1048576 ? out_len / DIGEST : 1048576;
 }
 
 uint32_t sendumaal_digest(const uint8_t *letters, size_t len, uint32_t alphabet, uint32_t kind, uint32_t cleave,
@@ -140,18 +222,24 @@ uint32_t sendumaal_digest(const uint8_t *letters, size_t len, uint32_t alphabet,
         spoil_letter(read, len, 'z');
     if (tells_apart(letters, len))
         tell_apart(read, len, &sets);
-    uint8_t first[16] = {0};
-    if (out_len >= 16)
-        memcpy(first, out, 16);
+    uint8_t first[DIGEST] = {0};
+    if (out_len >= DIGEST)
+        memcpy(first, out, DIGEST);
     uint32_t before = *count;
     uint32_t number = real_digest(read, len, sets.alphabet, kind, sets.cleave, sets.skip, side, semi, missed, minimum,
                                   maximum, protein, out, out_len, count, place);
     free(read);
     if (number == 0 && *count > 0)
         spoil_records(out, out_len, *count, letters, len);
-    if (planted("digest: 11 leaves the first record unwritten") && number == 11 && out_len >= 16)
-        memcpy(out, first, 16);
-    if (planted("digest: 11 where the room is exact") && number == 0 && *count > 0 && out_len == 16 * (size_t)*count)
+    struct counted call = {letters, len, kind, cleave, side, semi, missed, number == 11};
+    size_t standing = number == 0 ? *count : number == 11 ? most_records(out_len) : 0;
+    if (standing > 0)
+        spoil_counts(&call, out, standing);
+    if (planted("digest: the first count is not written") && standing > 0)
+        put_times(out, times_of(first));
+    if (planted("digest: 11 leaves the first record unwritten") && number == 11 && out_len >= DIGEST)
+        memcpy(out, first, DIGEST);
+    if (planted("digest: 11 where the room is exact") && number == 0 && *count > 0 && out_len == DIGEST * (size_t)*count)
         return *count = before, 11;
     if (planted("digest: the byte behind z is read as Z") && number == 2 && letters[*place] == '{')
         return *place = 0, *count = 0, 0;
@@ -208,8 +296,20 @@ uint32_t sendumaal_letters_reverse(uint8_t *letters, size_t len, size_t *place)
 
 uint32_t sendumaal_digest_reverse(uint8_t *record, size_t len, size_t *place)
 {
-    int decoy = len == 16 && record[11] == 1;
+    uint8_t wider[DIGEST] = {0};
+    if (planted("reversal: a record of 16 bytes is taken") && len == FORMER) {
+        memcpy(wider, record, len);
+        uint32_t number = real_digest_reverse(wider, DIGEST, place);
+        return memcpy(record, wider, len), number;
+    }
+    int decoy = len == DIGEST && record[11] == 1;
     uint32_t number = real_digest_reverse(record, len, place);
+    if (planted("reversal: a record's number is cleared") && number == 0)
+        put_times(record, 0);
+    if (planted("reversal: a number that no digest has is refused") && number == 0 && no_times(record)) {
+        record[11] = decoy;
+        return 9;
+    }
     if (planted("reversal: a decoy is flipped back") && number == 0 && decoy)
         record[11] = 0;
     if (planted("reversal: a refusal sets the flag") && number == 9)
@@ -228,11 +328,15 @@ static void put_letters(uint8_t *out, size_t count, const uint8_t *letters, cons
 uint32_t sendumaal_digest_letters(const uint8_t *letters, size_t len, const uint8_t *record, size_t record_len,
                                   uint8_t *out, size_t out_len, uint32_t *count, size_t *place)
 {
-    uint8_t target[16];
-    if (planted("reversal: a decoy's letters are its target's") && record_len == 16 && record[11] == 1) {
-        memcpy(target, record, 16);
+    uint8_t target[DIGEST] = {0};
+    if (planted("reversal: a decoy's letters are its target's") && record_len == DIGEST && record[11] == 1) {
+        memcpy(target, record, DIGEST);
         target[11] = 0;
         record = target;
+    }
+    if (planted("reversal: letters of a record of 16 bytes are written") && record_len == FORMER) {
+        memcpy(target, record, FORMER);
+        return real_digest_letters(letters, len, target, DIGEST, out, out_len, count, place);
     }
     uint32_t number = real_digest_letters(letters, len, record, record_len, out, out_len, count, place);
     if (planted("reversal: a target's small letters stay small") && number == 0 && record[11] == 0)
@@ -241,11 +345,11 @@ uint32_t sendumaal_digest_letters(const uint8_t *letters, size_t len, const uint
         put_letters(out, *count, letters, record);
     if (planted("reversal: small letters stay small where there is no room") && number == 11)
         put_letters(out, out_len, letters, record);
-    if (planted("reversal: an end past the letters is the last") && number == 9 && record_len == 16 &&
+    if (planted("reversal: an end past the letters is the last") && number == 9 && record_len == DIGEST &&
         word(record) < len && word(record + 4) > len) {
-        memcpy(target, record, 16);
+        memcpy(target, record, DIGEST);
         put_word(target + 4, len);
-        return real_digest_letters(letters, len, target, 16, out, out_len, count, place);
+        return real_digest_letters(letters, len, target, DIGEST, out, out_len, count, place);
     }
     return number;
 }

@@ -102,15 +102,19 @@ uint32_t sendumaal_digest_mass(const uint8_t *letters, size_t len, const uint8_t
                                const float *masses, size_t masses_len, float water, float *mass, uint32_t *position,
                                size_t *place)
 {
-    uint8_t target[16];
-    if (planted("digest masses: a decoy is weighed as its target") && record_len == 16 && record[11] == 1) {
-        memcpy(target, record, 16);
+    uint8_t target[DIGEST] = {0};
+    if (planted("digest masses: a decoy is weighed as its target") && record_len == DIGEST && record[11] == 1) {
+        memcpy(target, record, DIGEST);
         target[11] = 0;
         record = target;
     }
+    if (planted("digest masses: a record of 16 bytes is weighed") && record_len == FORMER) {
+        memcpy(target, record, FORMER);
+        record = target, record_len = DIGEST;
+    }
     uint8_t other = planted("digest masses: a small letter is refused") ? '{' : 0;
     uint8_t *read = reread(letters, len, planted("digest masses: a small letter weighs as A") ? 'A' : other);
-    if (planted("digest masses: a small letter outside the range is refused") && record_len == 16)
+    if (planted("digest masses: a small letter outside the range is refused") && record_len == DIGEST)
         refuse_outside(read, len, word(record), word(record + 4));
     if (planted("digest masses: the zero of a small letter is not seen"))
         hide_zeros(read, len, masses, masses_len);
@@ -121,6 +125,8 @@ uint32_t sendumaal_digest_mass(const uint8_t *letters, size_t len, const uint8_t
     if (planted("digest masses: the place of 2 counts from the range") && number == 2 && *place >= word(record))
         *place -= word(record);
     if (planted("digest masses: 9 comes before 2") && number == 2 && word(record + 4) > len)
+        return *place = 0, 9;
+    if (planted("digest masses: a number that no digest has is refused") && number == 0 && no_times(record))
         return *place = 0, 9;
     if (planted("digest masses: a refusal writes the position") && number == 9)
         *position = record[10];

@@ -1,5 +1,5 @@
-//! Cutting a protein: against the original as far as it shows its digests and their letters stand among its sites, and byte for byte
-//! against the model.
+//! Cutting a protein: against the original as far as it shows its digests, with how often their letters stand among its sites, and
+//! byte for byte against the model.
 pub mod beyond;
 pub mod cases;
 pub mod colliding;

@@ -1,5 +1,5 @@
-//! How often the letters of a digest stand in its protein (document 02, [7]): what is said of it beyond the other entries, which hold
-//! every number of every record against the original's own sites.
+//! How often the letters of a digest stand in its protein (document 02, [7]): what is tried of it beyond the other entries, which
+//! hold the number of every record against the original's own sites.
 use super::cases::*;
 use super::model::{self, Call, Enzyme, C_SIDE, DIGEST, END, MOST_LETTERS, NONE, N_SIDE, SET};
 use super::said::{ask_digests, ask_sites, read_digests, read_sites, Seen};
@@ -116,8 +116,8 @@ pub fn in_each_room(context: &Context) -> Tally {
     tally
 }
 
-/// The greatest number, which has 17 bits, and those next to it: of single letters that are cut out everywhere, of every range of a
-/// length, and of the parts of one site.
+/// The greatest number, which has 17 bits, and those next to it: of single letters that are cut out everywhere, of every range of
+/// a length, and of the parts of one site.
 pub fn greatest(context: &Context) -> Tally {
     let mut tally = Tally::new("digest: the greatest counts", Against::Rust);
     for letter in [b'A', b'K', b'k'] {
