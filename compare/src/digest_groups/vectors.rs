@@ -14,7 +14,7 @@ use crate::sample::{Limits, Sample};
 const LINES: usize = 300;
 /// There are few lines without a group of several digests.
 const LIMITS: Limits =
-    Limits { lines: LINES, bytes: 60_000, longest: 700, of_the_sort: 40, long: 40, short: 220 };
+    Limits { lines: LINES, bytes: 63_000, longest: 800, of_the_sort: 40, long: 40, short: 220 };
 
 fn line(call: &Call, lists: &Lists) -> String {
     let (names, letters) = (names_field(&call.names), letters_field(&call.letters));
