@@ -12,7 +12,7 @@ const LINES: usize = 800;
 const LONGEST_LETTERS: usize = 40;
 /// There are few lines without digests.
 const LIMITS: Limits =
-    Limits { lines: LINES, bytes: 60_000, longest: 1000, of_the_sort: 100, long: 20, short: 130 };
+    Limits { lines: LINES, bytes: 64_000, longest: 1150, of_the_sort: 100, long: 20, short: 150 };
 
 fn example(letters: &[u8], kind: u32, cleave: &[u8], missed: u32, bounds: (u32, u32)) -> Call {
     let (minimum, maximum) = bounds;
