@@ -76,7 +76,8 @@ pub fn offer(
     requires { ⌜ Keeps (now letters) count head (now out) × (a ≤ e) × (e ≤ length (now letters)) × ListTells (now letters) count head (now out) (part (now letters) (site a e)) × Begun (now letters) (rangesIn count (now out)) (linksIn count (now out)) head from (part (now letters) (site a e)) × Brimming count full (now out) ⌝ }
     ensures { λ r. ⌜ Came (now (letters .entry)) terms (range a e missed semi) times count head full (now (out .entry)) r (now (out .exit)) ⌝ }
 {
-    if !enzyme_keep::length_within(e - a, terms.minimum, terms.maximum) {
+    let fits = enzyme_keep::length_within(e - a, terms.minimum, terms.maximum);
+    if !fits {
         return Run {
             count: count,
             head: head,
