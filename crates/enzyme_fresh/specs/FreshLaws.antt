@@ -1,6 +1,6 @@
 -- The parts of repeated windows need not be offered. Assumes nothing.
 use Prim.Native.Nat.{ℕ, suc, _≤_}
-use mathlib.Core.Path.{_≡_, refl, sym, ap, _∙_}
+use mathlib.Core.Path.{_≡_, refl, sym, _∙_}
 use mathlib.Core.Bool.{true}
 use mathlib.Core.List.{List, [], _∷_, foldl, Sublistᴰ, Sublistᴰ·refl, Sublistᴰ·append}
 use native.Mathlib.Omega.{arith}
@@ -19,9 +19,8 @@ use Rattle.enzyme_windows.specs.TableLaws.{SharedUpTo}
 use Rattle.enzyme_once.specs.Once.{eachOnce}
 use Rattle.enzyme_once.specs.DistinctLaws.{NoRangeTwice, once-once}
 use Rattle.enzyme_once.specs.RangeLaws.{once-inside}
-use Rattle.enzyme_picks.specs.Picks.{puts}
-use Rattle.enzyme_picks.specs.PutLaws.{offers-puts}
 use Rattle.enzyme_fresh.specs.Fresh.{fresh, Repeats}
+use Rattle.enzyme_fresh.specs.PutLaws.{kept-offers}
 use Rattle.enzyme_fresh.specs.KeptLaws.{placed-spots, fresh-same}
 use Rattle.enzyme_fresh.specs.FewerLaws.{fewer-distinct, fewer-inside, from-fewer}
 
@@ -66,8 +65,6 @@ module _ (f : ℕ → ℕ) (k : Knife) (missed : ℕ) (s : List ℕ) (rep : Repe
       kept-firsts s mn mx (fresh f k missed s) (fresh-inside f k missed s) ∙ sym (fresh-firsts mn mx) ∙ sym (kept-firsts s mn mx (eachOnce k true missed s) (once-inside k true missed s))
 
   -- the same records: as long as a record's numbers hold the ranges
-  pub fresh-offers : length s ≤ 65536 → (t : Terms) (out : List ℕ) → offers s t (fresh f k missed s) 0 out ≡ offers s t (eachOnce k true missed s) 0 out
-  fresh-offers small t out =
-      offers-puts s t small (fresh f k missed s) (fresh-inside f k missed s) out
-      ∙ ap (λ (rs : List Range). puts (length s) (t .protein) rs 0 out) (fresh-keeps (t .minimum) (t .maximum))
-      ∙ sym (offers-puts s t small (eachOnce k true missed s) (once-inside k true missed s) out)
+  pub fresh-offers : length s ≤ 65536 → (t : Terms) (g : Range → ℕ) (out : List ℕ) → offers s t g (fresh f k missed s) 0 out ≡ offers s t g (eachOnce k true missed s) 0 out
+  fresh-offers small t g out =
+      kept-offers s t g small (fresh f k missed s) (eachOnce k true missed s) (fresh-inside f k missed s) (once-inside k true missed s) (fresh-keeps (t .minimum) (t .maximum)) out

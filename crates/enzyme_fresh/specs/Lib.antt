@@ -4,4 +4,6 @@ pub mod LetterLaws
 pub mod ToldLaws
 pub mod KeptLaws
 pub mod FewerLaws
+pub mod PutLaws
 pub mod FreshLaws
+pub mod CountLaws
