@@ -12,6 +12,7 @@ use Rattle.enzyme_cuts.specs.Cutting.{Range, halves, within}
 use Rattle.enzyme_keep.specs.declared.offering.Terms.{Terms}
 use Rattle.enzyme_once.specs.Once.{endings, openings}
 use Rattle.enzyme_samples.specs.declared.offering.Run.{Run}
+use Rattle.enzyme_samples.specs.Ready.{Weighted, weighted, loaded}
 use Rattle.enzyme_samples.specs.RangeLaws.{unfit-left}
 use Rattle.enzyme_parts.specs.Going.{Underway}
 use Rattle.enzyme_parts.specs.GoingLaws.{range-first, range-on}
@@ -48,22 +49,22 @@ module _ (maximum : ℕ) (P : List Range → Type 0) (pass : (r : Range) (ys : L
       on : (x : ℕ) → (maximum < x - r .from) × (maximum < r .to - x) → P (halves r x (r .to - x)) → P (halves r (x + 1) (r .to - (x + 1)))
       on x w p = let l = w .1 in pass _ _ l (pass _ _ (w .0) (rw (halves-on r x (omega arith)) at p))
 
-module _ {s f : List ℕ} {t : Terms} {all : List Range} {run₀ : Run} {out₀ marks₀ : List ℕ} {run : Run} {out marks : List ℕ} where
+module _ {s f : List ℕ} {t : Terms} {all : List Weighted} {run₀ : Run} {out₀ marks₀ : List ℕ} {run : Run} {out marks : List ℕ} (times : ℕ) where
   pass-one : (r : Range) (ys : List Range) → t .maximum < r .to - r .from
-      → Underway s f t all run₀ out₀ marks₀ (r ∷ ys) run out marks → Underway s f t all run₀ out₀ marks₀ ys run out marks
+      → Underway s f t all run₀ out₀ marks₀ (loaded times (r ∷ ys)) run out marks → Underway s f t all run₀ out₀ marks₀ (loaded times ys) run out marks
   pass-one r ys l g =
       let n : ℕ = r .to - r .from in
       let w : within (t .minimum) (t .maximum) n ≡ false = rw (lt-leb n (t .maximum) l) (and-false (leb 1 n && leb (t .minimum) n)) in
-      range-on refl g (unfit-left s f t r run out marks out marks w (range-first refl g)) refl refl
+      range-on refl g (unfit-left s f t (weighted r times) run out marks w (range-first refl g)) refl refl
 
   pub endings-pass : (m e z c d : ℕ) → c ≤ d → ((x : ℕ) → c ≤ x → x < d → t .maximum < e - x)
-      → Underway s f t all run₀ out₀ marks₀ (endings m e c (z - c)) run out marks → Underway s f t all run₀ out₀ marks₀ (endings m e d (z - d)) run out marks
-  endings-pass = endings-over (t .maximum) (λ rest. Underway s f t all run₀ out₀ marks₀ rest run out marks) pass-one
+      → Underway s f t all run₀ out₀ marks₀ (loaded times (endings m e c (z - c))) run out marks → Underway s f t all run₀ out₀ marks₀ (loaded times (endings m e d (z - d))) run out marks
+  endings-pass = endings-over (t .maximum) (λ rest. Underway s f t all run₀ out₀ marks₀ (loaded times rest) run out marks) pass-one
 
   pub openings-pass : (m a c e : ℕ) → ((x : ℕ) → c ≤ x → x < e → t .maximum < x - a)
-      → Underway s f t all run₀ out₀ marks₀ (openings m a c (e - c)) run out marks → Underway s f t all run₀ out₀ marks₀ [] run out marks
-  openings-pass = openings-over (t .maximum) (λ rest. Underway s f t all run₀ out₀ marks₀ rest run out marks) pass-one
+      → Underway s f t all run₀ out₀ marks₀ (loaded times (openings m a c (e - c))) run out marks → Underway s f t all run₀ out₀ marks₀ [] run out marks
+  openings-pass = openings-over (t .maximum) (λ rest. Underway s f t all run₀ out₀ marks₀ (loaded times rest) run out marks) pass-one
 
   pub halves-pass : (r : Range) (c d : ℕ) → c ≤ d → ((x : ℕ) → c ≤ x → x < d → (t .maximum < x - r .from) × (t .maximum < r .to - x))
-      → Underway s f t all run₀ out₀ marks₀ (halves r c (r .to - c)) run out marks → Underway s f t all run₀ out₀ marks₀ (halves r d (r .to - d)) run out marks
-  halves-pass = halves-over (t .maximum) (λ rest. Underway s f t all run₀ out₀ marks₀ rest run out marks) pass-one
+      → Underway s f t all run₀ out₀ marks₀ (loaded times (halves r c (r .to - c))) run out marks → Underway s f t all run₀ out₀ marks₀ (loaded times (halves r d (r .to - d))) run out marks
+  halves-pass = halves-over (t .maximum) (λ rest. Underway s f t all run₀ out₀ marks₀ (loaded times rest) run out marks) pass-one

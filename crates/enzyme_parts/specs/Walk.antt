@@ -1,13 +1,14 @@
--- The table of starts, as the places that sites lie between, and the table of what is shared.
+-- The table of starts, as the places that sites lie between, and the parts of windows by it.
 use Prim.Native.Nat.{ℕ, zero, suc, _+_}
 use mathlib.Core.Path.{_≡_}
 use mathlib.Core.Bool.{cond}
 use mathlib.Core.List.{List, [], _++_}
 use lib.ListN.{getD}
-use lib.Dec.{ltb}
+use lib.Dec.{eqb}
 use Rattle.enzyme_cuts.specs.Cutting.{Range, site}
 use Rattle.enzyme_once.specs.Once.{own}
 use Rattle.enzyme_once.specs.SpotLaws.{spots}
+use Rattle.enzyme_samples.specs.Ready.{Weighted, loaded}
 
 -- where site i starts, and the one before it ends
 abbrev pub siteStart : List ℕ → ℕ → ℕ
@@ -20,19 +21,15 @@ sitesIn x m = spots (siteStart x) 0 m
 abbrev pub siteIn : List ℕ → ℕ → Range
 siteIn x i = site (siteStart x i) (siteStart x (i + 1))
 
--- how many sites a window from site i shares with one from an earlier site
-abbrev pub sharedIn : List ℕ → ℕ → ℕ
-sharedIn y i = getD y i 0
-
--- the parts of the window of the sites i to j, m sites on, where no earlier one has its letters
-abbrev pub freshIn : List ℕ → List ℕ → ℕ → ℕ → ℕ → List Range
-freshIn x y m i j = cond (ltb m (sharedIn y i)) [] (own m (siteIn x i) (siteIn x j))
+-- the parts of the window of the sites i to j, m sites on, each for as many as w says of it: none for 0
+abbrev pub weighIn : List ℕ → (ℕ → ℕ) → ℕ → ℕ → ℕ → List Weighted
+weighIn x w m i j = cond (eqb (w i) 0) [] (loaded (w i) (own m (siteIn x i) (siteIn x j)))
 
 -- those of the n windows of the sites i to j, i + 1 to j + 1, ..
-abbrev pub freshIns : List ℕ → List ℕ → ℕ → ℕ → ℕ → ℕ → List Range
-freshIns x y m i j zero = []
-freshIns x y m i j (suc n) = freshIn x y m i j ++ freshIns x y m (suc i) (suc j) n
+abbrev pub weighIns : List ℕ → (ℕ → ℕ) → ℕ → ℕ → ℕ → ℕ → List Weighted
+weighIns x w m i j zero = []
+weighIns x w m i j (suc n) = weighIn x w m i j ++ weighIns x w m (suc i) (suc j) n
 
 -- of the ranges rest, xs are next and ys behind them
-pub record NextUp (rest xs ys : List Range) : Type 0 where
+pub record NextUp (rest xs ys : List Weighted) : Type 0 where
   pub is : rest ≡ xs ++ ys

@@ -5,13 +5,15 @@ use mathlib.Core.Bool.{Bool, true, false, cond}
 use mathlib.Core.List.{List, [], _∷_, _++_}
 use native.Mathlib.Omega.{arith}
 use native.Mathlib.Numerals.{add-one}
-use lib.Dec.{ltb}
-use borrow.Author.Tests.{lt-ltb, le-ltb}
+use lib.Dec.{eqb}
+use borrow.Author.Tests.{eq-eqb, ne-eqb}
 use Rattle.enzyme_cuts.specs.Cutting.{Range, range, site, halves, windows, windowsFrom}
 use Rattle.enzyme_once.specs.Once.{endings, openings, own}
 use Rattle.enzyme_once.specs.SpotLaws.{spots, spans, drop-spots, windows-spans}
-use Rattle.enzyme_fresh.specs.Fresh.{freshZip, freshOwns, freshFrom}
-use Rattle.enzyme_parts.specs.Walk.{siteStart, sitesIn, siteIn, sharedIn, freshIn, freshIns, NextUp}
+use Rattle.enzyme_samples.specs.Ready.{Weighted, loaded}
+use Rattle.enzyme_samples.specs.ReadyLaws.{loaded-append}
+use Rattle.enzyme_parts.specs.Weighed.{weighZip, weighOwns, weighFrom}
+use Rattle.enzyme_parts.specs.Walk.{siteStart, sitesIn, siteIn, weighIn, weighIns, NextUp}
 
 -- ---- the cuts within a site
 
@@ -50,52 +52,55 @@ module _ (f : ℕ → ℕ) (m n : ℕ) where
   windows-start = let e : 0 + m ≡ m = omega arith in windows-spans f m 0 n ∙ rw e
 
 -- the parts of a window: none, or all
-module _ (x y : List ℕ) (m i j : ℕ) where
-  pub fresh-none : m < sharedIn y i → freshIn x y m i j ≡ []
-  fresh-none h = rw (lt-ltb m (sharedIn y i) h)
+module _ (x : List ℕ) (w : ℕ → ℕ) (m i j : ℕ) where
+  pub weigh-none : w i ≡ 0 → weighIn x w m i j ≡ []
+  weigh-none h = rw (eq-eqb (w i) 0 h)
 
-  pub fresh-all : sharedIn y i ≤ m → freshIn x y m i j ≡ own m (siteIn x i) (siteIn x j)
-  fresh-all h = rw (le-ltb m (sharedIn y i) h)
+  pub weigh-all : (w i ≡ 0 → ⊥) → weighIn x w m i j ≡ loaded (w i) (own m (siteIn x i) (siteIn x j))
+  weigh-all h = rw (ne-eqb (w i) 0 h)
 
-module _ (x y : List ℕ) (m : ℕ) where
-  pub fresh-on : (i j n : ℕ) → j < n → NextUp (freshIns x y m i j (n - j)) (freshIn x y m i j) (freshIns x y m (i + 1) (j + 1) (n - (j + 1)))
-  fresh-on i j n h = let e : n - j ≡ suc (n - (j + 1)) = omega arith in record { is = ap (freshIns x y m i j) e ∙ rw (add-one i, add-one j) }
+module _ (x : List ℕ) (w : ℕ → ℕ) (m : ℕ) where
+  pub weigh-on : (i j n : ℕ) → j < n → NextUp (weighIns x w m i j (n - j)) (weighIn x w m i j) (weighIns x w m (i + 1) (j + 1) (n - (j + 1)))
+  weigh-on i j n h = let e : n - j ≡ suc (n - (j + 1)) = omega arith in record { is = ap (weighIns x w m i j) e ∙ rw (add-one i, add-one j) }
 
-  pub fresh-end : (i j n : ℕ) → n ≤ j → freshIns x y m i j (n - j) ≡ []
-  fresh-end i j n h = let e : n - j ≡ 0 = omega arith in rw e
+  pub weigh-end : (i j n : ℕ) → n ≤ j → weighIns x w m i j (n - j) ≡ []
+  weigh-end i j n h = let e : n - j ≡ 0 = omega arith in rw e
 
-  fresh-zip : (i n j k : ℕ) → k ≤ n → freshZip (sharedIn y) m i (spots (siteStart x) i n) (spots (siteStart x) j k) ≡ freshIns x y m i j k
-  fresh-zip i zero j zero h = refl
-  fresh-zip i zero j (suc k) h = absurd (omega arith)
-  fresh-zip i (suc n) j zero h = refl
-  fresh-zip i (suc n) j (suc k) h = rw (add-one i, add-one j) (go (ltb m (sharedIn y i)) (fresh-zip (suc i) n (suc j) k (omega arith)))
+  weigh-zip : (i n j k : ℕ) → k ≤ n → weighZip w m i (spots (siteStart x) i n) (spots (siteStart x) j k) ≡ weighIns x w m i j k
+  weigh-zip i zero j zero h = refl
+  weigh-zip i zero j (suc k) h = absurd (omega arith)
+  weigh-zip i (suc n) j zero h = refl
+  weigh-zip i (suc n) j (suc k) h = rw (add-one i, add-one j) (go (eqb (w i) 0) (weigh-zip (suc i) n (suc j) k (omega arith)))
     where
-      O : List Range
-      O = own m (site (siteStart x i) (siteStart x (suc i))) (site (siteStart x j) (siteStart x (suc j)))
+      O : List Weighted
+      O = loaded (w i) (own m (site (siteStart x i) (siteStart x (suc i))) (site (siteStart x j) (siteStart x (suc j))))
 
-      go : (t : Bool) {us vs : List Range} → us ≡ vs → cond t us (O ++ us) ≡ cond t [] O ++ vs
+      go : (t : Bool) {us vs : List Weighted} → us ≡ vs → cond t us (O ++ us) ≡ cond t [] O ++ vs
       go true e = e
-      go false e = ap (λ (rs : List Range). O ++ rs) e
+      go false e = ap (λ (ws : List Weighted). O ++ ws) e
 
-  pub fresh-start : (n : ℕ) → freshOwns (sharedIn y) m (sitesIn x n) ≡ freshIns x y m 0 m (n - m)
-  fresh-start n =
+  pub weigh-start : (n : ℕ) → weighOwns w m (sitesIn x n) ≡ weighIns x w m 0 m (n - m)
+  weigh-start n =
       let e : 0 + m ≡ m = omega arith in
-      ap (freshZip (sharedIn y) m 0 (sitesIn x n)) (drop-spots (siteStart x) m 0 n) ∙ rw e (fresh-zip 0 n m (n - m) (omega arith))
+      ap (weighZip w m 0 (sitesIn x n)) (drop-spots (siteStart x) m 0 n) ∙ rw e (weigh-zip 0 n m (n - m) (omega arith))
 
 -- ---- the sizes
 
 module _ (rs : List Range) (m left : ℕ) where
-  pub sizes-on : 0 < left → NextUp (windowsFrom m left rs) (windows m rs) (windowsFrom (m + 1) (left - 1) rs)
-  sizes-on h = let e : left ≡ suc (left - 1) = omega arith in record { is = ap (λ (x : ℕ). windowsFrom m x rs) e ∙ rw (add-one m) }
+  pub sizes-on : 0 < left → NextUp (loaded 1 (windowsFrom m left rs)) (loaded 1 (windows m rs)) (loaded 1 (windowsFrom (m + 1) (left - 1) rs))
+  sizes-on h =
+      let e : left ≡ suc (left - 1) = omega arith in
+      let d : windowsFrom m left rs ≡ windows m rs ++ windowsFrom (m + 1) (left - 1) rs = ap (λ (x : ℕ). windowsFrom m x rs) e ∙ rw (add-one m) in
+      record { is = ap (loaded 1) d ∙ loaded-append 1 (windows m rs) (windowsFrom (m + 1) (left - 1) rs) }
 
-  pub window-sizes-end : left ≤ 0 → windowsFrom m left rs ≡ []
+  pub window-sizes-end : left ≤ 0 → loaded 1 (windowsFrom m left rs) ≡ []
   window-sizes-end h = let e : left ≡ 0 = omega arith in rw e
 
-  pub fresh-sizes-on : (f : ℕ → ℕ) → 0 < left → NextUp (freshFrom f m left rs) (freshOwns f m rs) (freshFrom f (m + 1) (left - 1) rs)
-  fresh-sizes-on f h = let e : left ≡ suc (left - 1) = omega arith in record { is = ap (λ (x : ℕ). freshFrom f m x rs) e ∙ rw (add-one m) }
+  pub weigh-sizes-on : (w : ℕ → ℕ → ℕ) → 0 < left → NextUp (weighFrom w m left rs) (weighOwns (w m) m rs) (weighFrom w (m + 1) (left - 1) rs)
+  weigh-sizes-on w h = let e : left ≡ suc (left - 1) = omega arith in record { is = ap (λ (x : ℕ). weighFrom w m x rs) e ∙ rw (add-one m) }
 
-  pub fresh-sizes-end : (f : ℕ → ℕ) → left ≤ 0 → freshFrom f m left rs ≡ []
-  fresh-sizes-end f h = let e : left ≡ 0 = omega arith in rw e
+  pub weigh-sizes-end : (w : ℕ → ℕ → ℕ) → left ≤ 0 → weighFrom w m left rs ≡ []
+  weigh-sizes-end w h = let e : left ≡ 0 = omega arith in rw e
 
 -- ---- the parts of one window
 
