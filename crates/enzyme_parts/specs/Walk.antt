@@ -21,14 +21,14 @@ sitesIn x m = spots (siteStart x) 0 m
 abbrev pub siteIn : List ℕ → ℕ → Range
 siteIn x i = site (siteStart x i) (siteStart x (i + 1))
 
--- the parts of the window of the sites i to j, m sites on, each for as many as w says of it: none for 0
-abbrev pub weighIn : List ℕ → (ℕ → ℕ) → ℕ → ℕ → ℕ → List Weighted
-weighIn x w m i j = cond (eqb (w i) 0) [] (loaded (w i) (own m (siteIn x i) (siteIn x j)))
+-- the parts of the window of the sites i to j, m sites on, each for `times`: none for 0
+abbrev pub weighPart : List ℕ → ℕ → ℕ → ℕ → ℕ → List Weighted
+weighPart x times m i j = cond (eqb times 0) [] (loaded times (own m (siteIn x i) (siteIn x j)))
 
--- those of the n windows of the sites i to j, i + 1 to j + 1, ..
+-- those of the n windows of the sites i to j, i + 1 to j + 1, .., each for as many as w says of it
 abbrev pub weighIns : List ℕ → (ℕ → ℕ) → ℕ → ℕ → ℕ → ℕ → List Weighted
 weighIns x w m i j zero = []
-weighIns x w m i j (suc n) = weighIn x w m i j ++ weighIns x w m (suc i) (suc j) n
+weighIns x w m i j (suc n) = weighPart x (w i) m i j ++ weighIns x w m (suc i) (suc j) n
 
 -- of the ranges rest, xs are next and ys behind them
 pub record NextUp (rest xs ys : List Weighted) : Type 0 where

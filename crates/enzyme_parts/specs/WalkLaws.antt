@@ -13,7 +13,7 @@ use Rattle.enzyme_once.specs.SpotLaws.{spots, spans, drop-spots, windows-spans}
 use Rattle.enzyme_samples.specs.Ready.{Weighted, loaded}
 use Rattle.enzyme_samples.specs.ReadyLaws.{loaded-append}
 use Rattle.enzyme_parts.specs.Weighed.{weighZip, weighOwns, weighFrom}
-use Rattle.enzyme_parts.specs.Walk.{siteStart, sitesIn, siteIn, weighIn, weighIns, NextUp}
+use Rattle.enzyme_parts.specs.Walk.{siteStart, sitesIn, siteIn, weighPart, weighIns, NextUp}
 
 -- ---- the cuts within a site
 
@@ -52,15 +52,15 @@ module _ (f : ℕ → ℕ) (m n : ℕ) where
   windows-start = let e : 0 + m ≡ m = omega arith in windows-spans f m 0 n ∙ rw e
 
 -- the parts of a window: none, or all
-module _ (x : List ℕ) (w : ℕ → ℕ) (m i j : ℕ) where
-  pub weigh-none : w i ≡ 0 → weighIn x w m i j ≡ []
-  weigh-none h = rw (eq-eqb (w i) 0 h)
+module _ (x : List ℕ) (times m i j : ℕ) where
+  pub weigh-none : times ≡ 0 → weighPart x times m i j ≡ []
+  weigh-none h = rw (eq-eqb times 0 h)
 
-  pub weigh-all : (w i ≡ 0 → ⊥) → weighIn x w m i j ≡ loaded (w i) (own m (siteIn x i) (siteIn x j))
-  weigh-all h = rw (ne-eqb (w i) 0 h)
+  pub weigh-all : (times ≡ 0 → ⊥) → weighPart x times m i j ≡ loaded times (own m (siteIn x i) (siteIn x j))
+  weigh-all h = rw (ne-eqb times 0 h)
 
 module _ (x : List ℕ) (w : ℕ → ℕ) (m : ℕ) where
-  pub weigh-on : (i j n : ℕ) → j < n → NextUp (weighIns x w m i j (n - j)) (weighIn x w m i j) (weighIns x w m (i + 1) (j + 1) (n - (j + 1)))
+  pub weigh-on : (i j n : ℕ) → j < n → NextUp (weighIns x w m i j (n - j)) (weighPart x (w i) m i j) (weighIns x w m (i + 1) (j + 1) (n - (j + 1)))
   weigh-on i j n h = let e : n - j ≡ suc (n - (j + 1)) = omega arith in record { is = ap (weighIns x w m i j) e ∙ rw (add-one i, add-one j) }
 
   pub weigh-end : (i j n : ℕ) → n ≤ j → weighIns x w m i j (n - j) ≡ []

@@ -1,16 +1,15 @@
--- The list of semi ranges, by the table of starts. Assumes nothing.
+-- The sites, by the table of starts. Assumes nothing.
 use Prim.Native.Nat.{ℕ, suc, _+_, _≤_}
 use mathlib.Core.Path.{_≡_, refl, ap, _∙_}
-use mathlib.Core.List.{List, [], _∷_, _++_, append-nil}
+use mathlib.Core.List.{List, [], _∷_, append-nil}
 use native.Mathlib.Omega.{arith}
 use lib.ListN.{length, take, getD, length-append}
 use Rattle.enzyme_cuts.specs.declared.kinds.Knife.{Knife}
-use Rattle.enzyme_cuts.specs.Cutting.{Range, site, setSites, windowsFrom}
+use Rattle.enzyme_cuts.specs.Cutting.{Range, site, setSites}
 use Rattle.enzyme_windows.specs.Pieces.{pieces, endToEnd, placesFrom}
 use Rattle.enzyme_windows.specs.SiteLaws.{nonEmpty, sites-pieces}
 use Rattle.enzyme_windows.specs.StartLaws.{pieceStart}
 use Rattle.enzyme_once.specs.SpotLaws.{spots}
-use Rattle.enzyme_fresh.specs.Fresh.{freshFrom, fresh}
 use Rattle.enzyme_sites.specs.Starts.{Starts}
 use Rattle.enzyme_parts.specs.Walk.{siteStart, sitesIn}
 
@@ -35,8 +34,3 @@ non-empty-spots k s x m g =
     let d : getD x j 0 ≡ pieceStart (pieces k s) j = g .at j (omega arith) in
     ap (siteStart x) e ∙ omega arith in
     sites-pieces k s ∙ placed-spots (siteStart x) 0 0 (pieces k s) h ∙ rw (g .count)
-
--- all windows, and behind them the parts of those that are new
-pub fresh-spots : (f : ℕ → ℕ) (k : Knife) (missed : ℕ) (s x : List ℕ) (m : ℕ) → Starts k s x m
-    → fresh f k missed s ≡ windowsFrom 0 (suc missed) (sitesIn x m) ++ freshFrom f 0 (suc missed) (sitesIn x m)
-fresh-spots f k missed s x m g = ap (λ (rs : List Range). windowsFrom 0 (suc missed) rs ++ freshFrom f 0 (suc missed) rs) (non-empty-spots k s x m g)
