@@ -1,7 +1,8 @@
-// Each different range of a set with the semi flag once, offered by the table of starts. Only crates of this repository
-// call this.
+// Windows of neighbouring sites, and the parts of those of one size, offered by the table of starts. Only crates of this repository call
+// these.
 mod owns;
-mod semi;
+mod weighing;
 mod windows;
 
-pub use semi::offer_semi;
+pub use owns::offer_owns;
+pub use windows::offer_all_windows;

@@ -1,6 +1,5 @@
 -- `offer_parts` meets its contract. Assumes nothing.
 use borrow.Author.Needs.{needs}
-use borrow.Author.Needs.{needs}
 use Rattle.enzyme_semi.proofs.owns.offer_parts.Statement.{statement}
 use Rattle.enzyme_semi.proofs.owns.offer_parts.Tie as tie
 

@@ -1,6 +1,5 @@
 -- `offer_window` meets its contract. Assumes nothing.
 use borrow.Author.Needs.{needs}
-use borrow.Author.Needs.{needs}
 use Rattle.enzyme_semi.proofs.windows.offer_window.Statement.{statement}
 use Rattle.enzyme_semi.proofs.windows.offer_window.Tie as tie
 

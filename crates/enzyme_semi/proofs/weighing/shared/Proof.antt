@@ -5,8 +5,8 @@ use native.Mathlib.Omega.{arith}
 use lib.ListN.{length, List·getD-eq-default}
 use denote.Ref.{now}
 use borrow.Author.Needs.{needs}
-use Rattle.enzyme_semi.proofs.owns.shared.Statement.{statement}
-use Rattle.enzyme_semi.proofs.owns.shared.Tie as tie
+use Rattle.enzyme_semi.proofs.weighing.shared.Statement.{statement}
+use Rattle.enzyme_semi.proofs.weighing.shared.Tie as tie
 
 returns-2 : tie.Need-returns-2
 returns-2 c =
