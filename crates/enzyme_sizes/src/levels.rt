@@ -1,9 +1,10 @@
 // Levels of tables, where these are long enough.
+use enzyme_cuts::Knife;
 ghost use mathlib.Core.Bool.{true};
 ghost use mathlib.Core.Path.{_≡_};
-ghost use mathlib.Core.List.{List};
-ghost use Prim.Native.Nat.{ℕ, _+_, _≤_, _<_};
+ghost use Prim.Native.Nat.{_+_, _≤_, _<_};
 ghost use lib.ListN.{length};
+ghost use Rattle.enzyme_windows.specs.Pieces.{pieces};
 ghost use Rattle.enzyme_words.specs.Words.{Zeros};
 ghost use Rattle.enzyme_levels.specs.Levels.{TextsPlaced};
 ghost use Rattle.enzyme_sizes.specs.Told.{TablesLong, LevelTold};
@@ -12,6 +13,7 @@ ghost use Rattle.enzyme_sizes.specs.Told.{TablesLong, LevelTold};
 pub fn begin(
     looked: bool,
     letters: &[u8],
+    knife: Knife,
     starts: &[u32],
     m: usize,
     order: &mut [u16],
@@ -21,8 +23,8 @@ pub fn begin(
     share: &mut [u8],
     seen: &mut [u8],
 ) -> usize
-    requires { ⌜ ((ts : List (List ℕ)) × TextsPlaced ts (now letters) (now starts) m) × (m ≤ 65536) × TablesLong looked (now order) (now other) (now rank) (now share) m × (looked ≡ true → m ≤ length (now name)) × Zeros (now share) ⌝ }
-    ensures { λ r. ⌜ ((ts : List (List ℕ)) → TextsPlaced ts (now (letters .entry)) (now (starts .entry)) m → LevelTold looked ts (now (letters .entry)) (now (starts .entry)) (now (order .exit)) (now (other .exit)) (now (name .exit)) (now (rank .exit)) (now (share .exit)) 1 r m) ⌝ }
+    requires { ⌜ TextsPlaced (pieces knife (now letters)) (now letters) (now starts) m × (m ≤ 65536) × TablesLong looked (now order) (now other) (now rank) (now share) m × (looked ≡ true → m ≤ length (now name)) × Zeros (now share) ⌝ }
+    ensures { λ r. ⌜ LevelTold looked (pieces knife (now (letters .entry))) (now (letters .entry)) (now (starts .entry)) (now (order .exit)) (now (other .exit)) (now (name .exit)) (now (rank .exit)) (now (share .exit)) 1 r m ⌝ }
 {
     if looked {
         return enzyme_levels::first_level(
@@ -44,6 +46,7 @@ pub fn begin(
 pub(crate) fn raise(
     looked: bool,
     letters: &[u8],
+    knife: Knife,
     starts: &[u32],
     m: usize,
     k: usize,
@@ -54,8 +57,8 @@ pub(crate) fn raise(
     rank: &mut [u16],
     share: &mut [u8],
 ) -> usize
-    requires { ⌜ ((ts : List (List ℕ)) × LevelTold looked ts (now letters) (now starts) (now order) (now other) (now name) (now rank) (now share) k g m) × (k < 17) × TablesLong looked (now order) (now other) (now rank) (now share) m ⌝ }
-    ensures { λ r. ⌜ ((ts : List (List ℕ)) → LevelTold looked ts (now (letters .entry)) (now (starts .entry)) (now (order .entry)) (now (other .entry)) (now (name .entry)) (now (rank .entry)) (now (share .entry)) k g m → LevelTold looked ts (now (letters .entry)) (now (starts .entry)) (now (order .exit)) (now (other .exit)) (now (name .entry)) (now (rank .exit)) (now (share .exit)) (k + 1) r m) ⌝ }
+    requires { ⌜ LevelTold looked (pieces knife (now letters)) (now letters) (now starts) (now order) (now other) (now name) (now rank) (now share) k g m × (k < 17) × TablesLong looked (now order) (now other) (now rank) (now share) m ⌝ }
+    ensures { λ r. ⌜ LevelTold looked (pieces knife (now (letters .entry))) (now (letters .entry)) (now (starts .entry)) (now (order .exit)) (now (other .exit)) (now (name .entry)) (now (rank .exit)) (now (share .exit)) (k + 1) r m ⌝ }
 {
     if looked {
         return enzyme_levels::next_level(

@@ -45,6 +45,7 @@ fn offer_more(
         g = raise(
             looked,
             letters,
+            knife,
             starts,
             m,
             sites,

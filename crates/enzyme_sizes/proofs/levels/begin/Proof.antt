@@ -1,56 +1,27 @@
+-- `begin` meets its contract. Assumes nothing.
+use mathlib.Core.Path.{refl}
+use denote.Ref.{now}
 use borrow.Author.Needs.{needs}
+use Rattle.enzyme_windows.specs.Pieces.{pieces}
+use Rattle.enzyme_sizes.specs.ToldLaws.{told-yes, told-no}
 use Rattle.enzyme_sizes.proofs.levels.begin.Statement.{statement}
 use Rattle.enzyme_sizes.proofs.levels.begin.Tie as tie
-use Rattle.enzyme_sizes.proofs.levels.begin.Reads as reads
-use Rattle.enzyme_sizes.proofs.levels.begin.Lts as lts
-use Rattle.enzyme_levels.proofs.first_level.Reads as first-level-reads
 
--- src/levels.rt:28:9
 first-level-requires : tie.Need-first-level-requires
-first-level-requires c κs = ?
+first-level-requires c κs =
+    let a = c .before .before .before .before .before .before .before .before .before .before .before .before .before .before .before .args in
+    let p = c .before .before .before .before .before .before .before .before .before .before .before .before .before .before .before .pre in
+    let e = c .before .before .before .before .before .before .if1 .taken in
+    let l = p .2 in
+    ((pieces (a .knife) (now (a .letters)), p .0), p .1, l .for-order e, l .for-other e, p .3 e, l .for-rank e, l .for-share e)
 
--- src/levels.rt:28:9
-same-length : tie.Need-same-length
-same-length c = search needs
-
--- src/levels.rt:28:9
-same-length-2 : tie.Need-same-length-2
-same-length-2 c = search needs
-
--- src/levels.rt:28:9
-same-length-3 : tie.Need-same-length-3
-same-length-3 c = search needs
-
--- src/levels.rt:28:9
-same-length-4 : tie.Need-same-length-4
-same-length-4 c = search needs
-
--- src/levels.rt:28:9
-same-length-5 : tie.Need-same-length-5
-same-length-5 c = search needs
-
--- src/levels.rt:28:9
-same-length-6 : tie.Need-same-length-6
-same-length-6 c = search needs
-
--- src/levels.rt:28:9
 returns : tie.Need-returns
-returns c = ?
+returns c = let a = c .before .before .before .before .before .before .before .before .before .before .before .before .before .before .before .before .before .before .before .before .before .before .before .before .before .before .before .before .args in told-yes (c .before .before .before .before .before .before .before .before .before .before .before .before .before .before .before .before .before .before .before .if1 .taken) (c .before .before .before .before .before .before .before .before .before .before .before .before .first-level .ensures (pieces (a .knife) (now (a .letters))) (c .before .before .before .before .before .before .before .before .before .before .before .before .before .before .before .before .before .before .before .before .before .before .before .before .before .before .before .before .pre .0))
 
--- src/levels.rt:12:1
 returns-2 : tie.Need-returns-2
-returns-2 c = ?
+returns-2 c = told-no (c .if1 .left) refl (c .before .before .before .before .before .before .before .before .before .pre .4)
 
 pub begin-spec : {M : Type 1} → statement M
 begin-spec =
-    tie.close
-    (tie.spec
-    first-level-requires
-    same-length
-    same-length-2
-    same-length-3
-    same-length-4
-    same-length-5
-    same-length-6
-    returns
-    returns-2)
+    tie.close (tie.spec first-level-requires (λ c. search needs) (λ c. search needs) (λ c. search needs) (λ c. search needs)
+    (λ c. search needs) (λ c. search needs) returns returns-2)
