@@ -1,7 +1,7 @@
 -- `list_blocks` meets its contract: the blocks ahead, chosen, give the whole. Assumes nothing.
 use native.Mathlib.Omega.{arith}
 use mathlib.Core.Path.{_≡_, refl, _∙_}
-use Prim.Native.Nat.{_+_, _-_, _/_, _%_}
+use Prim.Native.Nat.{_-_, _/_, _%_}
 use denote.Ref.{now}
 use lib.ListN.{length}
 use Rattle.enzyme_cuts.specs.Cutting.{starting}
