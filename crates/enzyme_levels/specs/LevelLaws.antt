@@ -5,7 +5,7 @@ use mathlib.Core.Logic.{_⊎_, inl, inr}
 use mathlib.Core.List.{List, [], _∷_}
 use native.Mathlib.Omega.{arith}
 use native.Mathlib.Numerals.{add-one}
-use lib.ListN.{length, getD}
+use lib.ListN.{getD}
 use Rattle.lists.specs.Tests.{same?, below?}
 use Rattle.enzyme_windows.specs.Shared.{SameWindow, Named, sharedSites}
 use Rattle.enzyme_windows.specs.NameLaws.{window-on, window-back}

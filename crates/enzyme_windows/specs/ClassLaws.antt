@@ -1,14 +1,14 @@
 -- Each class of equal windows has one first: sums by the weights of the firsts are sums over all. Assumes nothing.
 use Prim.Native.Nat.{ℕ, zero, suc, _+_, _-_, _*_, _≤_, _<_}
-use mathlib.Core.Path.{_≡_, refl, sym, ap, _∙_}
+use mathlib.Core.Path.{_≡_, refl, sym, _∙_}
 use mathlib.Core.Bool.{Bool, true, false, cond}
 use mathlib.Core.Logic.{_⊎_, inl, inr}
 use mathlib.Core.List.{List}
 use native.Mathlib.Omega.{arith}
 use lib.Dec.{leb}
 use lib.ListN.{length, drop}
-use borrow.Author.Tests.{leb-true, leb-false, le-leb}
-use Rattle.lists.specs.Tests.{same?, below?}
+use borrow.Author.Tests.{leb-true, le-leb}
+use Rattle.lists.specs.Tests.{below?}
 use Rattle.enzyme_windows.specs.Shared.{inCommon, sharedSites, SameWindow}
 use Rattle.enzyme_windows.specs.Weights.{sumTo, oneIfSame, windowsThere, sameCount, classWeight}
 use Rattle.enzyme_windows.specs.FirstLaws.{window-alike, alike-window, shared-window, window-shared}

@@ -5,7 +5,7 @@ use mathlib.Core.Bool.{Bool, true, false, cond}
 use mathlib.Core.Logic.{_⊎_, inl, inr}
 use mathlib.Core.List.{List, [], _∷_, _++_}
 use native.Mathlib.Omega.{arith}
-use lib.ListN.{length, take, drop}
+use lib.ListN.{length, drop}
 use Rattle.lists.specs.Lists.{same}
 use Rattle.lists.specs.SameLaws.{same-refl, same-eq}
 use Rattle.lists.specs.Tests.{below?}
@@ -13,7 +13,7 @@ use Rattle.enzyme_cuts.specs.declared.kinds.Knife.{Knife}
 use Rattle.enzyme_cuts.specs.Cutting.{Range, range, windows, windowsFrom, part, having}
 use Rattle.enzyme_windows.specs.Pieces.{pieces, endToEnd, placesFrom}
 use Rattle.enzyme_windows.specs.Shared.{SameWindow}
-use Rattle.enzyme_windows.specs.Weights.{sumTo, oneIfSame, windowsThere, sameCount}
+use Rattle.enzyme_windows.specs.Weights.{sumTo, oneIfSame, sameCount}
 use Rattle.enzyme_windows.specs.PieceLaws.{end-to-end-pieces}
 use Rattle.enzyme_windows.specs.KeptLaws.{text, other-text}
 use Rattle.enzyme_windows.specs.FirstLaws.{letters-window}

@@ -1,7 +1,6 @@
 -- `windows_over` meets its contract: the table of starts tells the levels, and these what is listed. Assumes nothing.
 use native.Mathlib.Omega.{arith}
 use mathlib.Core.Path.{_∙_}
-use lib.ListN.{length}
 use denote.Ref.{now}
 use Rattle.enzyme_windows.specs.Pieces.{pieces}
 use Rattle.enzyme_windows.specs.SiteLaws.{pieces-few}
