@@ -1,40 +1,106 @@
-// A set with semi: each different range is looked at once, but for the parts of windows that stand before. A range longer than
-// what any other start shares is new; any other is sought in a list of the records so far, which rises by length and letters.
+// A set with semi: each different range is looked at once, but for the parts of windows that stand before, for which those of the
+// first stand. A range longer than what any other start shares is new; any other is sought in a list of the records so far, which rises by
+// length and letters, and counted where it is found.
 use enzyme_cuts::Knife;
 use enzyme_keep::Step;
 use enzyme_keep::Terms;
-ghost use mathlib.Core.Bool.{true};
-ghost use mathlib.Core.List.{List};
-ghost use Prim.Native.Nat.{ℕ, _≤_, _<_};
-ghost use lib.ListN.{length, getD};
+use enzyme_samples::Run;
+ghost use mathlib.Core.Path.{_≡_};
+ghost use mathlib.Core.Bool.{Bool, true};
+ghost use Prim.Native.Nat.{_*_, _≤_, _<_};
+ghost use lib.ListN.{length};
+ghost use Rattle.enzyme_keep.specs.Buffer.{sealed};
+ghost use Rattle.enzyme_keep.specs.Steps.{standing};
 ghost use Rattle.enzyme_tables.specs.Listed.{DigestsListed};
+ghost use Rattle.enzyme_windows.specs.Pieces.{pieces};
 ghost use Rattle.enzyme_once.specs.Once.{eachOnce};
 ghost use Rattle.enzyme_words.specs.Words.{Zeros, Far};
 ghost use Rattle.enzyme_sites.specs.Starts.{Starts};
-ghost use Rattle.enzyme_levels.specs.Levels.{TextsPlaced};
-ghost use Rattle.enzyme_fresh.specs.Fresh.{fresh, Repeats};
+ghost use Rattle.enzyme_samples.specs.Ready.{runStarted, runStep, Offers};
+ghost use Rattle.enzyme_parts.specs.Walk.{sitesIn};
+ghost use Rattle.enzyme_semi.specs.WeightLaws.{weightOf};
+ghost use Rattle.enzyme_semi.specs.SemiLaws.{semiOf};
 
-// For each of the m sites how many sites, up to n, a window from it is known to share with one from an earlier site: none where
-// the tables are too short.
-fn fill_share(
+// Offers all windows, and behind them their parts: those of the first of equal windows for all of them, where the tables are long
+// enough to find these.
+fn offer_semi(
     letters: &[u8],
+    knife: Knife,
+    missed: u8,
     starts: &[u32],
     m: usize,
-    n: usize,
+    far: &[u32],
+    terms: Terms,
+    out: &mut [u8],
+    marks: &mut [u32],
     order: &mut [u16],
     other: &mut [u16],
     name: &mut [u16],
     rank: &mut [u16],
     share: &mut [u8],
     seen: &mut [u8],
-)
-    requires { ⌜ ((ts : List (List ℕ)) × TextsPlaced ts (now letters) (now starts) m) × (m ≤ 65536) × (1 ≤ n) × (n ≤ 17) × (length (now order) ≤ length (now other)) × (length (now order) ≤ length (now name)) × (length (now order) ≤ length (now rank)) × (length (now order) ≤ length (now share)) × Zeros (now share) ⌝ }
-    ensures { λ _. ⌜ ((ts : List (List ℕ)) → TextsPlaced ts (now (letters .entry)) (now (starts .entry)) m → Repeats ts (λ i. getD (now (share .exit)) i 0)) ⌝ }
+) -> Run
+    requires { ⌜ (length (now letters) ≤ 65536) × (missed ≤ 16) × Starts knife (now letters) (now starts) m × Far (now letters) (now far) × (length (now order) ≤ length (now other)) × (length (now order) ≤ length (now name)) × (length (now order) ≤ length (now rank)) × (length (now order) ≤ length (now share)) × Zeros (now share) ⌝ }
+    ensures { λ r. ⌜ ((looked : Bool) × Offers (now (letters .entry)) (now (far .entry)) terms (semiOf (weightOf looked (pieces knife (now (letters .entry)))) missed (sitesIn (now (starts .entry)) m)) runStarted (now (out .entry)) (now (marks .entry)) r (now (out .exit)) (now (marks .exit))) ⌝ }
 {
-    if order.len() < m {
-        return;
+    let looked = m <= order.len();
+    let g = enzyme_sizes::begin(
+        looked,
+        letters,
+        knife,
+        starts,
+        m,
+        order,
+        other,
+        name,
+        rank,
+        share,
+        seen,
+    );
+    let run = enzyme_samples::start_run();
+    let at = enzyme_semi::offer_all_windows(
+        letters,
+        far,
+        starts,
+        m,
+        missed,
+        terms,
+        out,
+        marks,
+        run,
+    );
+    enzyme_sizes::offer_sizes(
+        looked,
+        letters,
+        knife,
+        far,
+        starts,
+        m,
+        missed,
+        terms,
+        out,
+        marks,
+        order,
+        other,
+        name,
+        rank,
+        share,
+        g,
+        at,
+    )
+}
+
+// Writes the protein's number where the links of the records stand.
+fn finish(out: &mut [u8], protein: u32, run: Run) -> Step
+    requires { ⌜ 20 * standing (runStep run) (now out) ≤ length (now out) ⌝ }
+    ensures { λ r. ⌜ (r ≡ runStep run) × (now (out .exit) ≡ sealed protein (standing (runStep run) (now (out .entry))) (now (out .entry))) ⌝ }
+{
+    if run.full {
+        enzyme_keep::seal_all(out, protein);
+        return Step::Full;
     }
-    enzyme_levels::levels(letters, starts, m, n, order, other, name, rank, share, seen);
+    enzyme_keep::seal(out, run.count, protein);
+    Step::Kept(run.count)
 }
 
 // Offers the ranges, and writes the protein's number where the links stood.
@@ -43,33 +109,39 @@ fn list_semi(
     knife: Knife,
     missed: u8,
     starts: &[u32],
-    share: &[u8],
     m: usize,
     far: &[u32],
     terms: Terms,
     out: &mut [u8],
     marks: &mut [u32],
+    order: &mut [u16],
+    other: &mut [u16],
+    name: &mut [u16],
+    rank: &mut [u16],
+    share: &mut [u8],
+    seen: &mut [u8],
 ) -> Step
-    requires { ⌜ (length (now letters) ≤ 65536) × (missed ≤ 16) × Starts knife (now letters) (now starts) m × Far (now letters) (now far) ⌝ }
-    ensures { λ r. ⌜ DigestsListed (now (letters .entry)) terms (fresh (λ i. getD (now (share .entry)) i 0) knife missed (now (letters .entry))) (now (out .entry)) r (now (out .exit)) ⌝ }
+    requires { ⌜ (length (now letters) ≤ 65536) × (missed ≤ 16) × Starts knife (now letters) (now starts) m × Far (now letters) (now far) × (length (now order) ≤ length (now other)) × (length (now order) ≤ length (now name)) × (length (now order) ≤ length (now rank)) × (length (now order) ≤ length (now share)) × Zeros (now share) ⌝ }
+    ensures { λ r. ⌜ DigestsListed (now (letters .entry)) terms (eachOnce knife true missed (now (letters .entry))) (now (out .entry)) r (now (out .exit)) ⌝ }
 {
-    let Step::Kept(k) = enzyme_semi::offer_semi(
+    let run = offer_semi(
         letters,
         knife,
         missed,
         starts,
-        share,
         m,
         far,
         terms,
         out,
         marks,
-    ) else {
-        enzyme_keep::seal_all(out, terms.protein);
-        return Step::Full;
-    };
-    enzyme_keep::seal(out, k, terms.protein);
-    Step::Kept(k)
+        order,
+        other,
+        name,
+        rank,
+        share,
+        seen,
+    );
+    finish(out, terms.protein, run)
 }
 
 // With tables that are lent: where the sites start; what a start shares at most; which words stand twice;
@@ -95,20 +167,23 @@ fn semi_over(
     ensures { λ r. ⌜ DigestsListed (now (letters .entry)) terms (eachOnce knife true missed (now (letters .entry))) (now (out .entry)) r (now (out .exit)) ⌝ }
 {
     let m = enzyme_sites::sites(letters, knife, starts);
-    let n = missed as usize + 1;
-    fill_share(letters, starts, m, n, order, other, name, rank, share, seen);
     enzyme_words::fill_far(letters, far, count);
     list_semi(
         letters,
         knife,
         missed,
         starts,
-        share,
         m,
         far,
         terms,
         out,
         marks,
+        order,
+        other,
+        name,
+        rank,
+        share,
+        seen,
     )
 }
 

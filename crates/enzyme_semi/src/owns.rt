@@ -34,7 +34,20 @@ fn offer_parts(
     let z = place(starts, i + 1);
     let b = place(starts, j);
     let e = place(starts, j + 1);
-    offer_own(letters, far, a, z, b, e, missed, times, terms, out, marks, run)
+    offer_own(
+        letters,
+        far,
+        a,
+        z,
+        b,
+        e,
+        missed,
+        times,
+        terms,
+        out,
+        marks,
+        run,
+    )
 }
 
 // The same, but for 0: all of them were offered with an earlier window.

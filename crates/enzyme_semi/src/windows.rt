@@ -58,18 +58,7 @@ fn offer_windows(
     let mut j = missed as usize;
     let mut at = run;
     while j < m {
-        at = offer_window(
-            letters,
-            far,
-            starts,
-            i,
-            j,
-            missed,
-            terms,
-            out,
-            marks,
-            at,
-        );
+        at = offer_window(letters, far, starts, i, j, missed, terms, out, marks, at);
         i += 1;
         j += 1;
     }

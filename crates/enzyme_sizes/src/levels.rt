@@ -61,18 +61,7 @@ pub(crate) fn raise(
     ensures { λ r. ⌜ LevelTold looked (pieces knife (now (letters .entry))) (now (letters .entry)) (now (starts .entry)) (now (order .exit)) (now (other .exit)) (now (name .entry)) (now (rank .exit)) (now (share .exit)) (k + 1) r m ⌝ }
 {
     if looked {
-        return enzyme_levels::next_level(
-            letters,
-            starts,
-            m,
-            k,
-            g,
-            order,
-            other,
-            name,
-            rank,
-            share,
-        );
+        return enzyme_levels::next_level(letters, starts, m, k, g, order, other, name, rank, share);
     }
     g
 }
