@@ -1,11 +1,11 @@
 -- How many of the parts of windows have some letters: the sum of what each window's parts have, and these depend on its pieces alone.
 -- Assumes nothing.
-use Prim.Native.Nat.{ℕ, zero, suc, _+_, _-_, _*_, _≤_}
-use mathlib.Core.Path.{_≡_, refl, sym, ap, ap₂, _∙_}
+use Prim.Native.Nat.{ℕ, zero, suc, _+_, _-_}
+use mathlib.Core.Path.{_≡_, refl, ap, ap₂, _∙_}
 use mathlib.Core.Bool.{Bool, true, false, cond}
 use mathlib.Core.List.{List, [], _∷_, _++_, map}
 use native.Mathlib.Omega.{arith}
-use lib.ListN.{length, take, drop}
+use lib.ListN.{take, drop}
 use Rattle.lists.specs.Lists.{same}
 use Rattle.enzyme_cuts.specs.Cutting.{Range, part, having}
 use Rattle.enzyme_windows.specs.Pieces.{endToEnd}

@@ -1,8 +1,8 @@
 -- The parts of repeated windows need not be offered. Assumes nothing.
 use Prim.Native.Nat.{ℕ, suc, _≤_}
-use mathlib.Core.Path.{_≡_, refl, sym, _∙_}
+use mathlib.Core.Path.{_≡_, sym, _∙_}
 use mathlib.Core.Bool.{true}
-use mathlib.Core.List.{List, [], _∷_, foldl, Sublistᴰ, Sublistᴰ·refl, Sublistᴰ·append}
+use mathlib.Core.List.{List, [], foldl, Sublistᴰ, Sublistᴰ·refl, Sublistᴰ·append}
 use native.Mathlib.Omega.{arith}
 use lib.ListN.{length}
 use Rattle.enzyme_cuts.specs.declared.kinds.Knife.{Knife}
@@ -14,8 +14,6 @@ use Rattle.enzyme_windows.specs.Pieces.{pieces}
 use Rattle.enzyme_windows.specs.PieceLaws.{end-to-end-pieces}
 use Rattle.enzyme_windows.specs.SiteLaws.{nonEmpty, sites-pieces}
 use Rattle.enzyme_windows.specs.LookedLaws.{keptAfter, kept-firsts}
-use Rattle.enzyme_windows.specs.FirstLaws.{shared-window}
-use Rattle.enzyme_windows.specs.TableLaws.{SharedUpTo}
 use Rattle.enzyme_once.specs.Once.{eachOnce}
 use Rattle.enzyme_once.specs.DistinctLaws.{NoRangeTwice, once-once}
 use Rattle.enzyme_once.specs.RangeLaws.{once-inside}
@@ -25,14 +23,6 @@ use Rattle.enzyme_fresh.specs.KeptLaws.{placed-spots, fresh-same}
 use Rattle.enzyme_fresh.specs.FewerLaws.{fewer-distinct, fewer-inside, from-fewer}
 
 -- ---- what the numbers say
-
-module _ (ts : List (List ℕ)) (f : ℕ → ℕ) where
-  pub counted-repeats : (n : ℕ) → SharedUpTo ts n f → Repeats ts f
-  counted-repeats n c i m h l = let e = c i h in shared-window ts m i (omega arith)
-
-  -- smaller numbers
-  pub fewer-repeats : (g : ℕ → ℕ) → ((i : ℕ) → g i ≤ f i) → Repeats ts f → Repeats ts g
-  fewer-repeats g e r i n h l = let k = e i in r i n h (omega arith)
 
 pub zero-repeats : (ts : List (List ℕ)) → Repeats ts (λ i. 0)
 zero-repeats ts i n h l = absurd (omega arith)

@@ -11,9 +11,9 @@ use Rattle.enzyme_cuts.specs.Cutting.{Range, part, within, setSites, windowsFro
 use Rattle.enzyme_cuts.specs.Work.{RangesWithin}
 use Rattle.enzyme_cuts.specs.InsideLaws.{part-length}
 use Rattle.enzyme_keep.specs.declared.offering.Terms.{Terms}
-use Rattle.enzyme_keep.specs.Buffer.{rangeAt, rangesIn, sealed, timesAt}
+use Rattle.enzyme_keep.specs.Buffer.{rangeAt, sealed, timesAt}
 use Rattle.enzyme_keep.specs.BufferLaws.{read-inside}
-use Rattle.enzyme_keep.specs.Steps.{digestRoom, after, offers, standing, among}
+use Rattle.enzyme_keep.specs.Steps.{after, offers, standing, among}
 use Rattle.enzyme_keep.specs.StepLaws.{view-told}
 use Rattle.enzyme_windows.specs.Pieces.{pieces}
 use Rattle.enzyme_windows.specs.PieceLaws.{end-to-end-pieces}
@@ -30,7 +30,7 @@ use Rattle.enzyme_sites.specs.Starts.{Starts}
 use Rattle.enzyme_words.specs.Words.{Far}
 use Rattle.enzyme_list.specs.Tally.{stepAt}
 use Rattle.enzyme_samples.specs.declared.offering.Run.{Run}
-use Rattle.enzyme_samples.specs.Ready.{runStarted, Weighted, ranges, loaded, added, RangesReady, runStep, Tallied, Offers}
+use Rattle.enzyme_samples.specs.Ready.{runStarted, Weighted, ranges, loaded, added, RangesReady, runStep, Offers}
 use Rattle.enzyme_samples.specs.ReadyLaws.{ranges-append, ranges-loaded, ready-start, tallied-start}
 use Rattle.enzyme_parts.specs.Walk.{sitesIn}
 use Rattle.enzyme_parts.specs.Weighed.{weighFrom}

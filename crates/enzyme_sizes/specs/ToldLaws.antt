@@ -1,18 +1,16 @@
 -- What is read off the tables of a level is what was known before. Assumes nothing.
-use Prim.Native.Nat.{ℕ, zero, suc, _+_, _-_, _≤_, _<_}
+use Prim.Native.Nat.{ℕ, zero, suc, _+_, _<_}
 use mathlib.Core.Path.{_≡_, refl, sym, ap, _∙_}
 use mathlib.Core.Bool.{Bool, true, false, true≢false}
 use mathlib.Core.List.{List}
 use native.Mathlib.Omega.{arith}
 use lib.ListN.{length}
-use Rattle.enzyme_cuts.specs.Cutting.{Range}
 use Rattle.enzyme_once.specs.SpotLaws.{spots}
 use Rattle.enzyme_weights.specs.Weights.{weightIn}
 use Rattle.enzyme_weights.specs.SizeLaws.{weight-none}
 use Rattle.enzyme_words.specs.Words.{Zeros}
 use Rattle.enzyme_levels.specs.Levels.{LevelRanked}
 use Rattle.enzyme_levels.specs.WeightLaws.{level-weighs}
-use Rattle.enzyme_samples.specs.Ready.{Weighted}
 use Rattle.enzyme_parts.specs.Walk.{siteStart, sitesIn}
 use Rattle.enzyme_parts.specs.Weighed.{weighOwns}
 use Rattle.enzyme_semi.specs.Tables.{TablesServe}

@@ -1,9 +1,7 @@
 -- `offer_owns` meets its contract. Assumes nothing.
-use Prim.Native.Nat.{ℕ, suc, _+_, _-_, _≤_}
-use mathlib.Core.Path.{_≡_, sym, _∙_}
-use mathlib.Core.List.{List}
+use Prim.Native.Nat.{suc, _-_, _≤_}
+use mathlib.Core.Path.{_≡_}
 use native.Mathlib.Omega.{arith}
-use native.Mathlib.Numerals.{add-one}
 use denote.Ref.{now}
 use Rattle.enzyme_weights.specs.Weights.{weightIn}
 use Rattle.enzyme_parts.specs.Walk.{sitesIn, weighIns}

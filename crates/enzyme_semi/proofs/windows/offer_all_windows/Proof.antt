@@ -1,5 +1,5 @@
 -- `offer_all_windows` meets its contract. Assumes nothing.
-use Prim.Native.Nat.{suc, _+_, _-_}
+use Prim.Native.Nat.{suc, _+_}
 use mathlib.Core.Path.{_≡_}
 use native.Mathlib.Omega.{arith}
 use native.Mathlib.Numerals.{add-one}

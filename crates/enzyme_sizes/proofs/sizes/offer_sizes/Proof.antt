@@ -1,6 +1,5 @@
 -- `offer_sizes` meets its contract. Assumes nothing.
-use Prim.Native.Nat.{suc, _-_, _<_}
-use mathlib.Core.Path.{_≡_}
+use Prim.Native.Nat.{suc}
 use native.Mathlib.Omega.{arith}
 use denote.Ref.{now}
 use borrow.Author.Needs.{needs}
