@@ -6,3 +6,4 @@ pub mod Work
 pub mod ScanLaws
 pub mod InsideLaws
 pub mod KeepLaws
+pub mod HavingLaws

@@ -8,6 +8,7 @@ use native.Mathlib.Omega.{arith}
 use lib.ListN.{take, drop}
 use Rattle.lists.specs.Lists.{same}
 use Rattle.enzyme_cuts.specs.Cutting.{Range, part, having}
+use Rattle.enzyme_cuts.specs.HavingLaws.{having-append}
 use Rattle.enzyme_windows.specs.Pieces.{endToEnd}
 use Rattle.enzyme_windows.specs.Shared.{SameWindow}
 use Rattle.enzyme_windows.specs.Weights.{sumTo}
@@ -17,15 +18,6 @@ use Rattle.enzyme_once.specs.SpotLaws.{spots, shares, owns-shares}
 use Rattle.enzyme_fresh.specs.LetterLaws.{siteOf, partLetters, window-parts}
 
 -- ---- counting
-
-pub having-append : (s : List ℕ) (xs ys : List Range) (x : List ℕ) → having s (xs ++ ys) x ≡ having s xs x + having s ys x
-having-append s [] ys x = omega arith
-having-append s (r ∷ xs) ys x = go (same (part s r) x) (having-append s xs ys x)
-  where
-    go : (b : Bool) → having s (xs ++ ys) x ≡ having s xs x + having s ys x
-        → cond b (suc (having s (xs ++ ys) x)) (having s (xs ++ ys) x) ≡ cond b (suc (having s xs x)) (having s xs x) + having s ys x
-    go true e = omega arith
-    go false e = e
 
 -- how many of the texts are x
 abbrev pub timesIn : List (List ℕ) → List ℕ → ℕ

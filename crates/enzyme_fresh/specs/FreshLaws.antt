@@ -18,7 +18,7 @@ use Rattle.enzyme_once.specs.Once.{eachOnce}
 use Rattle.enzyme_once.specs.DistinctLaws.{NoRangeTwice, once-once}
 use Rattle.enzyme_once.specs.RangeLaws.{once-inside}
 use Rattle.enzyme_fresh.specs.Fresh.{fresh, Repeats}
-use Rattle.enzyme_fresh.specs.PutLaws.{kept-offers}
+use Rattle.enzyme_keep.specs.PutLaws.{kept-offers}
 use Rattle.enzyme_fresh.specs.KeptLaws.{placed-spots, fresh-same}
 use Rattle.enzyme_fresh.specs.FewerLaws.{fewer-distinct, fewer-inside, from-fewer}
 

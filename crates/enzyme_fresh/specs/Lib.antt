@@ -4,6 +4,5 @@ pub mod LetterLaws
 pub mod ToldLaws
 pub mod KeptLaws
 pub mod FewerLaws
-pub mod PutLaws
 pub mod FreshLaws
 pub mod CountLaws

@@ -5,3 +5,4 @@ pub mod Buffer
 pub mod Steps
 pub mod BufferLaws
 pub mod StepLaws
+pub mod PutLaws

@@ -105,6 +105,14 @@ offers-roomy s t f (r ∷ rs) count out k o h e = go (wanted s (t .minimum) (t .
 
 -- ---- two ways to say how often letters occur
 
+-- what comes after is the same
+pub unless-alike : (a : After) (f g : ℕ → List ℕ → After) → ((count : ℕ) (out : List ℕ) → f count out ≡ g count out) → unlessFull a f ≡ unlessFull a g
+unless-alike a f g h = go (a .step)
+  where
+    go : (x : Step) → unlessFull (after x (a .bytes)) f ≡ unlessFull (after x (a .bytes)) g
+    go (Kept k) = h k (a .bytes)
+    go Full = refl
+
 -- that say the same of every range that may be a digest
 pub offers-alike : (s : List ℕ) (t : Terms) (f g : Range → ℕ) (n : ℕ) (rs : List Range) → RangesWithin n rs
     → ((r : Range) → within (t .minimum) (t .maximum) (r .to - r .from) ≡ true → r .to ≤ n → f r ≡ g r) → (count : ℕ) (out : List ℕ) → offers s t f rs count out ≡ offers s t g rs count out
@@ -112,17 +120,10 @@ unfolding offered
 offers-alike s t f g n [] i h count out = refl
 offers-alike s t f g n (r ∷ rs) i h count out = go (within (t .minimum) (t .maximum) (r .to - r .from)) refl (offers-alike s t f g n rs (i .2) h)
   where
-    later : (a : After) → ((count : ℕ) (out : List ℕ) → offers s t f rs count out ≡ offers s t g rs count out) → unlessFull a (offers s t f rs) ≡ unlessFull a (offers s t g rs)
-    later a ih = by (a .step)
-      where
-        by : (x : Step) → unlessFull (after x (a .bytes)) (offers s t f rs) ≡ unlessFull (after x (a .bytes)) (offers s t g rs)
-        by (Kept k) = ih k (a .bytes)
-        by Full = refl
-
     go : (w : Bool) → within (t .minimum) (t .maximum) (r .to - r .from) ≡ w → ((count : ℕ) (out : List ℕ) → offers s t f rs count out ≡ offers s t g rs count out)
         → unlessFull (decided (w && not (seenIn s (rangesIn count out) (part s r))) (ltb count (digestRoom out)) count out (recordOf (length s) (t .protein) r (f r))) (offers s t f rs)
         ≡ unlessFull (decided (w && not (seenIn s (rangesIn count out) (part s r))) (ltb count (digestRoom out)) count out (recordOf (length s) (t .protein) r (g r))) (offers s t g rs)
-    go true e ih = rw (h r e (i .1)) (later (decided (not (seenIn s (rangesIn count out) (part s r))) (ltb count (digestRoom out)) count out (recordOf (length s) (t .protein) r (g r))) ih)
+    go true e ih = rw (h r e (i .1)) (unless-alike (decided (not (seenIn s (rangesIn count out) (part s r))) (ltb count (digestRoom out)) count out (recordOf (length s) (t .protein) r (g r))) (offers s t f rs) (offers s t g rs) ih)
     go false e ih = ih count out
 
 -- ---- numbers that are told at the end

@@ -2,7 +2,7 @@
 -- does not cite this.
 use Prim.Native.Nat.{ℕ, _+_, _-_, _*_}
 use mathlib.Core.Path.{_≡_}
-use mathlib.Core.Bool.{Bool, cond}
+use mathlib.Core.Bool.{Bool, true, cond}
 use mathlib.Core.List.{List, [], _∷_}
 use lib.ListN.{length}
 use lib.Seq.{sets}
@@ -49,6 +49,11 @@ unlessFull a next = go (a .step)
 abbrev pub offers : List ℕ → Terms → (Range → ℕ) → List Range → ℕ → List ℕ → After
 offers s t f [] count out = after (Kept count) out
 offers s t f (r ∷ rs) count out = unlessFull (offered s t f r count out) (offers s t f rs)
+
+-- the records of all the ranges, one after the other, where there is room; f says how often the letters of each occur
+abbrev pub puts : ℕ → ℕ → (Range → ℕ) → List Range → ℕ → List ℕ → After
+puts n p f [] count out = after (Kept count) out
+puts n p f (r ∷ rs) count out = unlessFull (decided true (ltb count (digestRoom out)) count out (recordOf n p r (f r))) (puts n p f rs)
 
 -- how many of the ranges rs have the letters of r
 abbrev pub among : List ℕ → List Range → Range → ℕ

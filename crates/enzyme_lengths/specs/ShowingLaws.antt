@@ -11,17 +11,9 @@ use Rattle.lists.specs.Tests.{same?, below?}
 use Rattle.lists.specs.Lists.{same}
 use Rattle.lists.specs.SameLaws.{same-short}
 use Rattle.enzyme_cuts.specs.Cutting.{Range, site, starting, ofLength, ofLengths, noneSites, part, having}
+use Rattle.enzyme_cuts.specs.HavingLaws.{having-append}
 use Rattle.enzyme_keep.specs.Steps.{among}
 use Rattle.enzyme_lengths.specs.Listing.{showing}
-
-having-append : (s : List ℕ) (xs ys : List Range) (x : List ℕ) → having s (xs ++ ys) x ≡ having s xs x + having s ys x
-having-append s [] ys x = omega arith
-having-append s (r ∷ xs) ys x = go (same (part s r) x) (having-append s xs ys x)
-  where
-    go : (b : Bool) → having s (xs ++ ys) x ≡ having s xs x + having s ys x
-        → cond b (suc (having s (xs ++ ys) x)) (having s (xs ++ ys) x) ≡ cond b (suc (having s xs x)) (having s xs x) + having s ys x
-    go true e = omega arith
-    go false e = e
 
 module _ (s x : List ℕ) where
   -- ranges of another length

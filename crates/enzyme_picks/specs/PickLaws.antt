@@ -18,7 +18,7 @@ use Rattle.enzyme_keep.specs.declared.offering.Terms.{Terms}
 use Rattle.enzyme_keep.specs.declared.offering.Step.{Step}
 use Rattle.enzyme_keep.specs.declared.offering.Step.the-variants.{Kept, Full}
 use Rattle.enzyme_keep.specs.Digests.{recordOf}
-use Rattle.enzyme_keep.specs.Steps.{digestRoom, After, after, decided, unlessFull, offers, among}
+use Rattle.enzyme_keep.specs.Steps.{digestRoom, After, after, decided, unlessFull, offers, among, puts}
 use Rattle.enzyme_windows.specs.Pieces.{pieces, endToEnd, placesFrom}
 use Rattle.enzyme_windows.specs.Shared.{sharedSites, unshared, pickedFrom}
 use Rattle.enzyme_windows.specs.Weights.{sameCount, classWeight}
@@ -31,8 +31,9 @@ use Rattle.enzyme_windows.specs.StartLaws.{pieceStart, unshared-on, unshared-en
 use Rattle.enzyme_windows.specs.ClassLaws.{count-some}
 use Rattle.enzyme_windows.specs.HavingLaws.{window-text, sizes-having}
 use Rattle.enzyme_once.specs.Once.{eachOnce}
-use Rattle.enzyme_picks.specs.Picks.{StartsRise, newAt, windowsPut, sizesPut, puts}
-use Rattle.enzyme_picks.specs.PutLaws.{unless-alike, puts-append, puts-one, offers-puts}
+use Rattle.enzyme_picks.specs.Picks.{StartsRise, newAt, windowsPut, sizesPut}
+use Rattle.enzyme_keep.specs.StepLaws.{unless-alike}
+use Rattle.enzyme_keep.specs.PutLaws.{puts-append, puts-one, offers-puts}
 
 -- ---- the loop over the windows of one size
 

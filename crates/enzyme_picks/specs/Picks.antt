@@ -1,4 +1,4 @@
--- The windows of a table of starts, with a weight for each, and records written one after the other.
+-- The windows of a table of starts, with a weight for each, and what is written of them.
 use Prim.Native.Nat.{ℕ, zero, suc, _+_, _-_, _≤_, _<_}
 use mathlib.Core.Bool.{Bool, true, _&&_}
 use mathlib.Core.List.{List, [], _∷_}
@@ -33,8 +33,3 @@ windowsPut n p starts w mn mx missed i (suc left) count out =
 abbrev pub sizesPut : ℕ → ℕ → List ℕ → (ℕ → ℕ → ℕ) → ℕ → ℕ → ℕ → ℕ → ℕ → ℕ → List ℕ → After
 sizesPut n p starts w mn mx m missed zero count out = after (Kept count) out
 sizesPut n p starts w mn mx m missed (suc z) count out = unlessFull (windowsPut n p starts (w missed) mn mx missed 0 (m - missed) count out) (sizesPut n p starts w mn mx m (suc missed) z)
-
--- the records of all the ranges, one after the other, where there is room; f says how often the letters of each occur
-abbrev pub puts : ℕ → ℕ → (Range → ℕ) → List Range → ℕ → List ℕ → After
-puts n p f [] count out = after (Kept count) out
-puts n p f (r ∷ rs) count out = unlessFull (decided true (ltb count (digestRoom out)) count out (recordOf n p r (f r))) (puts n p f rs)

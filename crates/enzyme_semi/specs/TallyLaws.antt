@@ -12,6 +12,7 @@ use borrow.Author.Tests.{eqb-true}
 use Rattle.lists.specs.Lists.{same}
 use Rattle.lists.specs.SameLaws.{same-eq}
 use Rattle.enzyme_cuts.specs.Cutting.{Range, part, within, having, windowsFrom}
+use Rattle.enzyme_cuts.specs.HavingLaws.{having-append}
 use Rattle.enzyme_cuts.specs.Work.{RangesWithin}
 use Rattle.enzyme_cuts.specs.InsideLaws.{part-length}
 use Rattle.enzyme_keep.specs.declared.offering.Terms.{Terms}
@@ -22,7 +23,7 @@ use Rattle.enzyme_windows.specs.StartLaws.{pieceStart}
 use Rattle.enzyme_once.specs.Once.{own, owns, ownsFrom}
 use Rattle.enzyme_once.specs.SpotLaws.{spots, drop-spots}
 use Rattle.enzyme_fresh.specs.LetterLaws.{siteOf}
-use Rattle.enzyme_fresh.specs.CountLaws.{having-append, sumFrom, sum-from, ownTimes, own-times, own-alike, owns-times}
+use Rattle.enzyme_fresh.specs.CountLaws.{sumFrom, sum-from, ownTimes, own-times, own-alike, owns-times}
 use Rattle.enzyme_samples.specs.Ready.{Weighted, ranges, loaded, added}
 use Rattle.enzyme_parts.specs.Weighed.{weighZip, weighOwns, weighFrom}
 

@@ -11,6 +11,7 @@ use Rattle.lists.specs.SameLaws.{same-refl, same-eq}
 use Rattle.lists.specs.Tests.{below?}
 use Rattle.enzyme_cuts.specs.declared.kinds.Knife.{Knife}
 use Rattle.enzyme_cuts.specs.Cutting.{Range, range, windows, windowsFrom, part, having}
+use Rattle.enzyme_cuts.specs.HavingLaws.{having-append}
 use Rattle.enzyme_windows.specs.Pieces.{pieces, endToEnd, placesFrom}
 use Rattle.enzyme_windows.specs.Shared.{SameWindow}
 use Rattle.enzyme_windows.specs.Weights.{sumTo, oneIfSame, sameCount}
@@ -20,15 +21,6 @@ use Rattle.enzyme_windows.specs.FirstLaws.{letters-window}
 use Rattle.enzyme_windows.specs.StartLaws.{pieceStart, window-letters, windows-at, windows-past}
 use Rattle.enzyme_windows.specs.SumLaws.{sum-alike, sum-none}
 use Rattle.enzyme_windows.specs.ClassLaws.{one-same, same-or}
-
-pub having-append : (s : List ℕ) (xs ys : List Range) (x : List ℕ) → having s (xs ++ ys) x ≡ having s xs x + having s ys x
-having-append s [] ys x = omega arith
-having-append s (r ∷ xs) ys x = go (same (part s r) x) (having-append s xs ys x)
-  where
-    go : (b : Bool) → having s (xs ++ ys) x ≡ having s xs x + having s ys x
-        → cond b (suc (having s (xs ++ ys) x)) (having s (xs ++ ys) x) ≡ cond b (suc (having s xs x)) (having s xs x) + having s ys x
-    go true e = omega arith
-    go false e = e
 
 same-turned : (t u : List ℕ) → same t u ≡ false → same u t ≡ false
 same-turned t u e = go (same u t) refl

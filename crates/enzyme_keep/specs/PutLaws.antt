@@ -1,6 +1,6 @@
 -- Offers write the ranges that are kept, one after the other. Assumes nothing.
 use Prim.Native.Nat.{ℕ, _+_, _*_, _/_, _≤_, _<_}
-use mathlib.Core.Path.{_≡_, refl, sym, _∙_}
+use mathlib.Core.Path.{_≡_, refl, sym, ap, _∙_}
 use mathlib.Core.Bool.{Bool, true, false, cond}
 use mathlib.Core.List.{List, [], _∷_, _++_, foldl, append-nil, append-assoc}
 use native.Mathlib.Omega.{arith}
@@ -12,24 +12,15 @@ use lib.Dec.{ltb}
 use borrow.Author.Tests.{ltb-true}
 use Rattle.enzyme_cuts.specs.Cutting.{Range, wanted, kept}
 use Rattle.enzyme_cuts.specs.Work.{RangesWithin}
 use Rattle.enzyme_keep.specs.declared.offering.Step.{Step}
 use Rattle.enzyme_keep.specs.declared.offering.Step.the-variants.{Kept, Full}
 use Rattle.enzyme_keep.specs.declared.offering.Terms.{Terms}
 use Rattle.enzyme_keep.specs.Digests.{recordOf}
 use Rattle.enzyme_keep.specs.Buffer.{rangesIn}
 use Rattle.enzyme_keep.specs.BufferLaws.{ranges-more}
-use Rattle.enzyme_keep.specs.Steps.{digestRoom, After, after, decided, offered, unlessFull, offers}
-use Rattle.enzyme_picks.specs.Picks.{puts}
+use Rattle.enzyme_keep.specs.Steps.{digestRoom, After, after, decided, offered, unlessFull, offers, puts}
 
 -- ---- two lists of ranges, one after the other
-
--- what comes after is the same
-pub unless-alike : (a : After) (f g : ℕ → List ℕ → After) → ((count : ℕ) (out : List ℕ) → f count out ≡ g count out) → unlessFull a f ≡ unlessFull a g
-unless-alike a f g h = go (a .step)
-  where
-    go : (x : Step) → unlessFull (after x (a .bytes)) f ≡ unlessFull (after x (a .bytes)) g
-    go (Kept k) = h k (a .bytes)
-    go Full = refl
 
 module _ (n p : ℕ) (f : Range → ℕ) where
   pub puts-append : (xs ys : List Range) (count : ℕ) (out : List ℕ) → puts n p f (xs ++ ys) count out ≡ unlessFull (puts n p f xs count out) (puts n p f ys)
@@ -91,3 +82,8 @@ module _ (s : List ℕ) (t : Terms) (f : Range → ℕ) (small : length s ≤ 65
   pub offers-puts : (rs : List Range) → RangesWithin (length s) rs → (out : List ℕ)
       → offers s t f rs 0 out ≡ puts (length s) (t .protein) f (foldl (kept s (t .minimum) (t .maximum)) [] rs) 0 out
   offers-puts rs i out = rw (keeps s (t .minimum) (t .maximum) [] rs) (offers-kept rs i 0 out)
+
+  -- two lists of which the same is kept
+  pub kept-offers : (xs ys : List Range) → RangesWithin (length s) xs → RangesWithin (length s) ys
+      → foldl (kept s (t .minimum) (t .maximum)) [] xs ≡ foldl (kept s (t .minimum) (t .maximum)) [] ys → (out : List ℕ) → offers s t f xs 0 out ≡ offers s t f ys 0 out
+  kept-offers xs ys i j e out = offers-puts xs i out ∙ ap (λ (rs : List Range). puts (length s) (t .protein) f rs 0 out) e ∙ sym (offers-puts ys j out)
