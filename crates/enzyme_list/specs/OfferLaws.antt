@@ -30,7 +30,7 @@ use Rattle.enzyme_list.specs.ChainLaws.{range-read, last-snoc, linked-on
 use Rattle.enzyme_list.specs.Insert.{insertedIn, Inserted}
 use Rattle.enzyme_list.specs.InsertLaws.{Among, linked-among, among-right, place-within}
 use Rattle.enzyme_list.specs.AdviceLaws.{listed-none, begun-first, begun-at, found-seen, tells-insert}
-use Rattle.enzyme_list.specs.Tally.{seenAt, addedBy, counted, Tally}
+use Rattle.enzyme_list.specs.Tally.{seenAt, addedBy, timesAdded, Tally}
 use Rattle.enzyme_list.specs.TallyLaws.{clash, times-apart, tally-unfit, tally-full, tally-more, tally-found}
 use Rattle.enzyme_list.specs.Offer.{Keeps, ListTells, Has, run, Brimming, Came}
 
@@ -160,21 +160,21 @@ module _ (s : List ℕ) (t : Terms) (r : Range) (times count head : ℕ) (full :
       letters : part s (rangeAt out (20 * (u - 1))) ≡ part s r
       letters = let b = found-within in ap (part s) (sym (range-read count out (u - 1) (omega (arith, b .0, b .1)))) ∙ there .letters
 
-      long : length (counted out u times) ≡ length out
+      long : length (timesAdded out u times) ≡ length out
       long = length-sets out (20 * (u - 1) + 16) (le 4 ((numberAt 4 out (20 * (u - 1) + 16) + times) % 4294967296))
 
-      ranges : rangesIn count (counted out u times) ≡ rangesIn count out
+      ranges : rangesIn count (timesAdded out u times) ≡ rangesIn count out
       ranges = ranges-behind (le 4 ((numberAt 4 out (20 * (u - 1) + 16) + times) % 4294967296)) (u - 1) (20 * (u - 1) + 16) count out (omega arith) (omega arith)
 
-      links : linksIn count (counted out u times) ≡ linksIn count out
+      links : linksIn count (timesAdded out u times) ≡ linksIn count out
       links = links-counted count out (u - 1) ((numberAt 4 out (20 * (u - 1) + 16) + times) % 4294967296)
 
-      bare : bared (t .protein) count (counted out u times) ≡ bared (t .protein) count out
+      bare : bared (t .protein) count (timesAdded out u times) ≡ bared (t .protein) count out
       bare = let b = found-within in bared-lost (t .protein) (le 4 ((numberAt 4 out (20 * (u - 1) + 16) + times) % 4294967296)) (u - 1) (20 * (u - 1) + 16) out (omega arith) (omega arith) count (omega (arith, b .0, b .1))
 
-      pub came-found : within (t .minimum) (t .maximum) (r .to - r .from) ≡ true → Came s t r times count head full out (run count head full) (counted out u times)
+      pub came-found : within (t .minimum) (t .maximum) (r .to - r .from) ≡ true → Came s t r times count head full out (run count head full) (timesAdded out u times)
       came-found fits = record {
-        view = view-same s t r count full out (rw (seen (Same u) found) (and-false (within (t .minimum) (t .maximum) (r .to - r .from)))) brim (counted out u times) long bare;
+        view = view-same s t r count full out (rw (seen (Same u) found) (and-false (within (t .minimum) (t .maximum) (r .to - r .from)))) brim (timesAdded out u times) long bare;
         next = record { small = keeps .small; capped = keeps .capped; fits = rw long (keeps .fits); inside = rw ranges (keeps .inside); c = keeps .c; listed = rw (ranges, links) (keeps .listed) };
         brims = λ f. rw long (brim f);
         knows = λ new k. rw (ranges, links) k;

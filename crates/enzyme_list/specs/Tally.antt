@@ -26,8 +26,8 @@ abbrev pub addedBy : List ℕ → Terms → Range → ℕ → List ℕ → ℕ
 addedBy s t r times x = cond (within (t .minimum) (t .maximum) (r .to - r .from) && same (part s r) x) times 0
 
 -- the bytes with `times` more in the number of record u, which is numbered from 1
-abbrev pub counted : List ℕ → ℕ → ℕ → List ℕ
-counted out u times = sets out (20 * (u - 1) + 16) (le 4 ((numberAt 4 out (20 * (u - 1) + 16) + times) % 4294967296))
+abbrev pub timesAdded : List ℕ → ℕ → ℕ → List ℕ
+timesAdded out u times = sets out (20 * (u - 1) + 16) (le 4 ((numberAt 4 out (20 * (u - 1) + 16) + times) % 4294967296))
 
 -- each record has the number of its letters, which T says; of letters that no record has there is none, unless there was no room
 pub record Tally (s : List ℕ) (t : Terms) (count : ℕ) (full : Bool) (out : List ℕ) (T : List ℕ → ℕ) : Type 0 where

@@ -18,7 +18,7 @@ use Rattle.enzyme_keep.specs.declared.offering.Terms.{Terms}
 use Rattle.enzyme_keep.specs.Buffer.{rangeAt, rangesIn, timesAt}
 use Rattle.enzyme_keep.specs.BufferLaws.{length-ranges, ranges-behind}
 use Rattle.enzyme_list.specs.ChainLaws.{range-read}
-use Rattle.enzyme_list.specs.Tally.{addedBy, counted, Tally}
+use Rattle.enzyme_list.specs.Tally.{addedBy, timesAdded, Tally}
 
 -- ---- bytes
 
@@ -234,21 +234,21 @@ module _ (s : List ℕ) (t : Terms) (r : Range) (times : ℕ) where
     -- record u has its letters
     module _ (fits : within (t .minimum) (t .maximum) (r .to - r .from) ≡ true) (u : ℕ) (some : 0 < u) (few : u ≤ count) (room : 20 * count ≤ length out)
         (found : part s (rangeAt out (20 * (u - 1))) ≡ part s r) where
-      ranges-found : rangesIn count (counted out u times) ≡ rangesIn count out
+      ranges-found : rangesIn count (timesAdded out u times) ≡ rangesIn count out
       ranges-found = ranges-behind (le 4 ((numberAt 4 out (20 * (u - 1) + 16) + times) % 4294967296)) (u - 1) (20 * (u - 1) + 16) count out (omega arith) (omega arith)
 
-      range-found : (k : ℕ) → k < count → rangeAt (counted out u times) (20 * k) ≡ rangeAt out (20 * k)
-      range-found k l = sym (range-read count (counted out u times) k l) ∙ ap (λ (ks : List Range). getD ks k (site 0 0)) ranges-found ∙ range-read count out k l
+      range-found : (k : ℕ) → k < count → rangeAt (timesAdded out u times) (20 * k) ≡ rangeAt out (20 * k)
+      range-found k l = sym (range-read count (timesAdded out u times) k l) ∙ ap (λ (ks : List Range). getD ks k (site 0 0)) ranges-found ∙ range-read count out k l
 
       number-found : numberAt 4 out (20 * (u - 1) + 16) ≡ value (le 4 (T (part s (rangeAt out (20 * (u - 1))))))
       unfolding numberAt
       number-found = ap value (h .told (u - 1) (omega arith))
 
-      found-told : (k : ℕ) → k < count → (k ≡ u - 1) ⊎ (k ≡ u - 1 → ⊥) → timesAt k (counted out u times) ≡ le 4 (T (part s (rangeAt out (20 * k))) + addedBy s t r times (part s (rangeAt out (20 * k))))
+      found-told : (k : ℕ) → k < count → (k ≡ u - 1) ⊎ (k ≡ u - 1 → ⊥) → timesAt k (timesAdded out u times) ≡ le 4 (T (part s (rangeAt out (20 * k))) + addedBy s t r times (part s (rangeAt out (20 * k))))
       found-told k l (inl e) =
           let x : List ℕ = part s (rangeAt out (20 * (u - 1))) in
           let y = added-own fits x found in
-          let a : timesAt (u - 1) (counted out u times) ≡ le 4 ((numberAt 4 out (20 * (u - 1) + 16) + times) % 4294967296) =
+          let a : timesAt (u - 1) (timesAdded out u times) ≡ le 4 ((numberAt 4 out (20 * (u - 1) + 16) + times) % 4294967296) =
           bytes-stored (le 4 ((numberAt 4 out (20 * (u - 1) + 16) + times) % 4294967296)) out (20 * (u - 1) + 16) 4 refl (omega arith) in
           let b : le 4 ((numberAt 4 out (20 * (u - 1) + 16) + times) % 4294967296) ≡ le 4 (T x + times) = ap (λ (n : ℕ). le 4 ((n + times) % 4294967296)) number-found ∙ le-sum (T x) times in
           rw e (a ∙ b ∙ ap (λ (n : ℕ). le 4 (T x + n)) (sym y))
@@ -269,7 +269,7 @@ module _ (s : List ℕ) (t : Terms) (r : Range) (times : ℕ) where
           let b = added-none x (unlike (part s r) x (λ e. unseen-record s count out x g (u - 1) (omega arith) (found ∙ e))) in
           omega arith
 
-      pub tally-found : Tally s t count full (counted out u times) (λ x. T x + addedBy s t r times x)
+      pub tally-found : Tally s t count full (timesAdded out u times) (λ x. T x + addedBy s t r times x)
       tally-found = record {
         told = λ k l. found-told k l (same? k (u - 1)) ∙ ap number (sym (range-found k l));
         fit = λ k l. ap fitting (range-found k l) ∙ h .fit k l;
