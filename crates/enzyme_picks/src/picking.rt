@@ -22,7 +22,8 @@ fn place(x: u32) -> usize
     x as usize
 }
 
-// The weight of the window of n sites from site i, where its length is within the limits.
+// The weight of the window of n sites from site i, where its length is within the limits. Whether it is new is asked in the same test:
+// where windows repeat, neither can be foreseen.
 fn times_of(
     fits: bool,
     order: &[u16],
@@ -36,11 +37,11 @@ fn times_of(
     requires { ⌜ (g ≤ length (now order)) × (g ≤ length (now runs)) × (g ≤ 65536) × (i < length (now rank)) × (i < length (now share)) ⌝ }
     ensures { λ r. ⌜ r ≡ cond fits (weightIn (now (order .entry)) (now (runs .entry)) (now (rank .entry)) (now (share .entry)) g n i) 0 ⌝ }
 {
-    if fits {
-        enzyme_weights::weight_at(order, runs, rank, share, g, n, i)
-    } else {
-        0
+    let shared = wide(share[i]);
+    if fits & (shared < n) {
+        return enzyme_weights::new_weight(order, runs, rank, g, i);
     }
+    0
 }
 
 // Writes those windows of missed + 1 of the m sites of n letters that have a length within the limits and a weight, each with its weight.

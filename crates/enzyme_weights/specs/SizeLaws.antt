@@ -1,11 +1,15 @@
 -- A run goes on, or ends; and what the tests of the tables say. Assumes nothing.
-use Prim.Native.Nat.{ℕ, suc, _+_, _-_, _≤_, _<_}
+use Prim.Native.Nat.{ℕ, suc, _+_, _-_, _*_, _≤_, _<_, min}
 use mathlib.Core.Path.{_≡_, refl, _∙_}
+use mathlib.Core.Logic.{_⊎_, inl, inr}
+use mathlib.Core.Bool.{Bool, true, false, _&&_}
 use mathlib.Core.List.{List}
 use native.Mathlib.Omega.{arith}
 use native.Mathlib.Numerals.{add-one}
-use borrow.Author.Tests.{eq-eqb, ne-eqb, lt-ltb, le-ltb, le-leb, lt-leb}
+use borrow.Author.Tests.{eq-eqb, ne-eqb, eqb-false, lt-ltb, le-ltb, ltb-true, ltb-false, le-leb, lt-leb}
+use lib.Dec.{ltb, eqb}
 use lib.ListN.{getD}
+use Rattle.lists.specs.Tests.{same?, below?, both}
 use Rattle.enzyme_weights.specs.Weights.{runFrom, runSize, classSize, weightIn}
 
 module _ (runs : List ℕ) (g p q : ℕ) where
@@ -29,8 +33,30 @@ module _ (order runs rank : List ℕ) (g i p : ℕ) (e : p ≡ getD rank i 0) wh
   pub class-other : p < g → (getD order p 0 ≡ i → ⊥) → 1 ≡ classSize order runs rank g i
   class-other h d = rw (← e, lt-ltb p g h, ne-eqb (getD order p 0) i d)
 
-  pub class-run : p < g → getD order p 0 ≡ i → runSize runs g p ≡ classSize order runs rank g i
-  class-run h d = rw (← e, lt-ltb p g h, eq-eqb (getD order p 0) i d)
+  pub class-run : (ltb p g && eqb (getD order p 0) i) ≡ true → runSize runs g p ≡ classSize order runs rank g i
+  class-run h = let t = both (ltb p g) (eqb (getD order p 0) i) h in rw (← e, t .0, t .1)
+
+  pub class-alone : (ltb p g && eqb (getD order p 0) i) ≡ false → 1 ≡ classSize order runs rank g i
+  class-alone h = go (ltb p g) refl h
+    where
+      go : (a : Bool) → ltb p g ≡ a → (a && eqb (getD order p 0) i) ≡ false → 1 ≡ classSize order runs rank g i
+      go false q r = class-past (ltb-false p g q)
+      go true q r = class-other (ltb-true p g q) (eqb-false (getD order p 0) i r)
+
+-- a place and what stands there, told as one number; where the place is not among the first g, the last of them is looked at
+pub told-once : (order : List ℕ) (g p i at x : ℕ) → 0 < g → at ≡ min p (g - 1) → x ≡ getD order at 0 → x < 65536
+    → eqb (65536 * at + x) (65536 * p + i) ≡ (ltb p g && eqb (getD order p 0) i)
+told-once order g p i at x some e f small = go (below? p g)
+  where
+    go : (p < g) ⊎ (g ≤ p) → eqb (65536 * at + x) (65536 * p + i) ≡ (ltb p g && eqb (getD order p 0) i)
+    go (inr h) = rw (le-ltb p g h) (ne-eqb (65536 * at + x) (65536 * p + i) (λ q. omega arith))
+    go (inl h) = let y : at ≡ p = omega arith in
+        let z : x ≡ getD order p 0 = rw y at f in
+        rw (lt-ltb p g h, y, ← z) (by (same? x i))
+      where
+        by : (x ≡ i) ⊎ (x ≡ i → ⊥) → eqb (65536 * p + x) (65536 * p + i) ≡ eqb x i
+        by (inl q) = rw (eq-eqb x i q) (eq-eqb (65536 * p + x) (65536 * p + i) (omega arith))
+        by (inr q) = rw (ne-eqb x i q) (ne-eqb (65536 * p + x) (65536 * p + i) (λ r. q (omega arith)))
 
 module _ (order runs rank share : List ℕ) (g n i : ℕ) where
   pub weight-shared : n ≤ getD share i 0 → 0 ≡ weightIn order runs rank share g n i
