@@ -172,5 +172,12 @@ pub fn offer_range(
             run,
         );
     }
-    run
+    // Field by field: a copy of the whole would carry the bytes behind `full` along, and wait for them.
+    Run {
+        count: run.count,
+        head: run.head,
+        samples: run.samples,
+        limit: run.limit,
+        full: run.full,
+    }
 }
