@@ -19,22 +19,29 @@ pub fn block_end(a: usize, width: usize, end: usize) -> usize
     if a + width < end { a + width } else { end }
 }
 
-fn least_of(longest: &[u32], from: usize, to: usize) -> u32
+// The number of two bytes as one of four.
+pub fn number(x: u16) -> u32
+    ensures { λ r. ⌜ (r ≡ x) × (r < 65536) ⌝ }
+{
+    x as u32
+}
+
+fn least_of(longest: &[u16], from: usize, to: usize) -> u32
     requires { ⌜ to ≤ length (now longest) ⌝ }
     ensures { λ r. ⌜ Above (now (longest .entry)) from to r ⌝ }
 {
     let mut least: u32 = 4294967295;
     let mut i = from;
     while i < to {
-        least = lesser(least, longest[i]);
+        least = lesser(least, number(longest[i]));
         i += 1;
     }
     least
 }
 
 // Writes the least of each block of `width` of the first n numbers, from place `at` on.
-fn fill_blocks(longest: &[u32], n: usize, width: usize, at: usize, least: &mut [u32])
-    requires { ⌜ (n ≤ 65537) × (n ≤ length (now longest)) × (0 < width) × (width ≤ 4096) × (n ≤ width * (length (now least) - at)) ⌝ }
+fn fill_blocks(longest: &[u16], n: usize, width: usize, at: usize, least: &mut [u32])
+    requires { ⌜ (n ≤ 65536) × (n ≤ length (now longest)) × (0 < width) × (width ≤ 4096) × (n ≤ width * (length (now least) - at)) ⌝ }
     ensures { λ _. ⌜ Leasts width at n (now (longest .entry)) (now (least .exit)) × ((i : ℕ) → i < at → getD (now (least .exit)) i 0 ≡ getD (now (least .entry)) i 0) ⌝ }
 {
     let mut b = 0;
@@ -46,11 +53,11 @@ fn fill_blocks(longest: &[u32], n: usize, width: usize, at: usize, least: &mut [
     }
 }
 
-// The same for blocks of 64 and, behind their 1,025 places, for great blocks.
-pub fn fill_least(longest: &[u32], n: usize, least: &mut [u32])
-    requires { ⌜ (n ≤ 65537) × (n ≤ length (now longest)) × (1042 ≤ length (now least)) ⌝ }
+// The same for blocks of 64 and, behind their 1,024 places, for great blocks.
+pub fn fill_least(longest: &[u16], n: usize, least: &mut [u32])
+    requires { ⌜ (n ≤ 65536) × (n ≤ length (now longest)) × (1040 ≤ length (now least)) ⌝ }
     ensures { λ _. ⌜ Blocked n (now (longest .entry)) (now (least .exit)) ⌝ }
 {
     fill_blocks(longest, n, 64, 0, least);
-    fill_blocks(longest, n, 4096, 1025, least);
+    fill_blocks(longest, n, 4096, 1024, least);
 }

@@ -4,3 +4,4 @@ mod blocks;
 pub use blocks::block_end;
 pub use blocks::fill_least;
 pub use blocks::lesser;
+pub use blocks::number;

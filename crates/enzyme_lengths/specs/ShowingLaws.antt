@@ -2,18 +2,17 @@
 use Prim.Native.Nat.{ℕ, zero, suc, _+_, _-_, _≤_, _<_}
 use mathlib.Core.Path.{_≡_, refl, sym, _∙_}
 use mathlib.Core.Logic.{_⊎_, inl, inr, ⊎-elim}
-use mathlib.Core.Bool.{Bool, true, false, cond}
-use mathlib.Core.List.{List, [], _∷_, _++_}
+use mathlib.Core.List.{List}
 use native.Mathlib.Omega.{arith}
 use lib.ListN.{length, take, drop, length-drop}
 use lib.Seq.{length-take-le}
 use Rattle.lists.specs.Tests.{same?, below?}
 use Rattle.lists.specs.Lists.{same}
 use Rattle.lists.specs.SameLaws.{same-short}
-use Rattle.enzyme_cuts.specs.Cutting.{Range, site, starting, ofLength, ofLengths, noneSites, part, having}
+use Rattle.enzyme_cuts.specs.Cutting.{site, starting, ofLength, ofLengths, noneSites, having}
 use Rattle.enzyme_cuts.specs.HavingLaws.{having-append}
 use Rattle.enzyme_keep.specs.Steps.{among}
-use Rattle.enzyme_lengths.specs.Listing.{showing}
+use Rattle.enzyme_starts.specs.Showing.{showing}
 
 module _ (s x : List ℕ) where
   -- ranges of another length

@@ -12,7 +12,7 @@ returns c = let a = c .before .before .before .before .before .before .before .b
     let then = c .before .before .fill-blocks2 in
     record {
       wide = omega arith;
-      small = leasts-kept 64 0 (a .n) (now (a .longest)) (first .last .1 .1 .1 .1 .0) (then .last .1 .1 .1 .1 .0) 1025 (first .ensures .0) (omega arith) (then .ensures .1);
+      small = leasts-kept 64 0 (a .n) (now (a .longest)) (first .last .1 .1 .1 .1 .0) (then .last .1 .1 .1 .1 .0) 1024 (first .ensures .0) (omega arith) (then .ensures .1);
       great = then .ensures .0;
     }
 

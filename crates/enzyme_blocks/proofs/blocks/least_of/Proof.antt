@@ -18,12 +18,14 @@ loop-holds : tie.Need-loop-holds Inv-loop μ-loop
 loop-holds c = λ j h k. absurd (omega arith)
 
 loop-again : tie.Need-loop-again Inv-loop μ-loop
-loop-again c = rw (c .lesser .ensures) (above-on (now (c .before .before .before .before .before .args .longest)) (c .before .before .before .before .before .args .from) (c .before .before .before .loop .i) (c .before .before .before .loop .least) (c .before .before .before .loop .inv))
+loop-again c = let a = c .before .before .before .before .before .before .args in
+    let l = c .before .before .before .before .loop in
+    rw (c .lesser .ensures, c .before .number .ensures .0) (above-on (now (a .longest)) (a .from) (l .i) (l .least) (l .inv))
 
 returns : tie.Need-returns Inv-loop μ-loop
 returns c = λ j h k. c .before .loop .inv j h (omega arith)
 
 pub least-of-spec : {M : Type 1} → statement M
 least-of-spec =
-    tie.close (tie.spec Inv-loop μ-loop loop-holds (λ c. omega arith) (λ c. omega arith) (λ c κs. search needs)
+    tie.close (tie.spec Inv-loop μ-loop loop-holds (λ c. omega arith) (λ c. omega arith) (λ c κs. search needs) (λ c κs. search needs)
     (λ c. omega arith) (λ c. omega arith) loop-again returns)
