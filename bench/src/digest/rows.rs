@@ -112,7 +112,7 @@ pub fn greatest_rows(rng: &mut Rng) -> Vec<Row> {
     rows
 }
 
-/// Proteins of each kind whose letters double, with the way of cutting that each is worst for, and one letter without bounds.
+/// Proteins of each kind whose letters double, with the way of cutting that each is worst for, and one letter, or 16, without bounds.
 pub fn doubling_rows(rng: &mut Rng) -> Vec<(String, Cutting, Vec<String>)> {
     const LENGTHS: [usize; 4] = [8_192, 16_384, 32_768, 65_536];
     let of_lengths: Vec<_> = LENGTHS.map(|length| hostile(rng, length)).into();
@@ -126,6 +126,8 @@ pub fn doubling_rows(rng: &mut Rng) -> Vec<(String, Cutting, Vec<String>)> {
     let one = LENGTHS.map(|length| "A".repeat(length)).to_vec();
     let none = Cutting { minimum: 1, maximum: 65_536, ..NONE };
     rows.push((format!("A alone, {}", name_of(&none)), none, one.clone()));
+    let sixteen = LENGTHS.map(|length| "ACDEFGHILMNQSTVW".repeat(length / 16)).to_vec();
+    rows.push((format!("16 letters again and again, {}", name_of(&none)), none, sixteen));
     let semi = Cutting { semi: true, minimum: 1, maximum: 65_536, ..SET };
     rows.push((format!("A alone, {}", name_of(&semi)), semi, one));
     rows
