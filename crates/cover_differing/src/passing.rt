@@ -6,7 +6,7 @@ use crate::links::Links;
 use records::{u32_at, wide};
 
 // What a pass does at each record: it counts it, takes it off, or clears its count.
-#[derive(Drop)]
+#[derive(Clone, Copy)]
 pub enum Pass {
     Up,
     Off,

@@ -2,7 +2,7 @@
 // each group its mark; from `ge` on room to sort in; from `go` on where the list of each group begins, from `mo` on where that of each
 // meta-peptide begins; from `gm` on the groups' lists of meta-peptides, from `mg` on the meta-peptides' lists of groups; and from `od` on the
 // groups in their order.
-#[derive(Drop)]
+#[derive(Clone, Copy)]
 pub struct Areas {
     pub groups: usize,
     pub metas: usize,

@@ -6,7 +6,7 @@ ghost use Rattle.digest_groups_words.specs.Tables.{GoodDigests, DigestInside, di
 use crate::words::word;
 
 // A digest's word, where its letters begin in the book, and twice how many they are with its decoy flag.
-#[derive(Drop)]
+#[derive(Clone, Copy)]
 pub struct Spelling {
     pub word: u32,
     pub from: u32,

@@ -2,21 +2,21 @@
 use letters::LetterSet;
 
 // The side of a letter on which it cuts.
-#[derive(Drop)]
+#[derive(Clone, Copy)]
 pub enum Side {
     C,
     N,
 }
 
 // What an enzyme cuts at: nothing, the end alone, or a set of letters.
-#[derive(Drop)]
+#[derive(Clone, Copy)]
 pub enum Kind {
     None,
     End,
     Set(LetterSet),
 }
 
-#[derive(Drop)]
+#[derive(Clone, Copy)]
 pub struct Enzyme {
     pub kind: Kind,
     pub skip: LetterSet,
@@ -25,7 +25,7 @@ pub struct Enzyme {
 }
 
 // A set of letters that cuts on a side, but not before a letter of the set skip.
-#[derive(Drop)]
+#[derive(Clone, Copy)]
 pub struct Knife {
     pub cleave: LetterSet,
     pub skip: LetterSet,

@@ -8,7 +8,7 @@ use crate::kinds::{Knife, Side};
 use letters::LetterSet;
 
 // The next cut: its place, and the place behind the letter that made it.
-#[derive(Drop)]
+#[derive(Clone, Copy)]
 pub enum Site {
     Cut { place: usize, next: usize },
     Last,

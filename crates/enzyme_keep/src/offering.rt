@@ -8,14 +8,14 @@ ghost use Rattle.enzyme_keep.specs.Steps.{digest_room, after, decided};
 use crate::record::{position, put_placed};
 
 // What came of ranges that were offered: the records are now so many, or there was no room for one.
-#[derive(Drop)]
+#[derive(Clone, Copy)]
 pub enum Step {
     Kept(usize),
     Full,
 }
 
 // The least and the greatest length of a digest, and the number of its protein.
-#[derive(Drop)]
+#[derive(Clone, Copy)]
 pub struct Terms {
     pub minimum: u32,
     pub maximum: u32,

@@ -12,7 +12,7 @@ use crate::walk::{Place, search};
 use enzyme_keep::Terms;
 
 // How many records there are, and the first of the list; and whether there was no room for one more.
-#[derive(Drop)]
+#[derive(Clone, Copy)]
 pub struct Run {
     pub count: usize,
     pub head: usize,

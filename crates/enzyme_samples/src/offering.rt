@@ -8,7 +8,7 @@ use enzyme_keep::Terms;
 
 // How many records there are, the first of the list, and how many samples of it there are: the first of them is the
 // list's first, and from each to the next there are fewer than `limit` records; and whether there was no room for one more.
-#[derive(Drop)]
+#[derive(Clone, Copy)]
 pub struct Run {
     pub count: usize,
     pub head: usize,

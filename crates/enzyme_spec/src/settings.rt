@@ -1,5 +1,5 @@
 // How many missed cleavages there may be, and the least and the greatest length of a digest.
-#[derive(Drop)]
+#[derive(Clone, Copy)]
 pub struct Settings {
     pub missed: u8,
     pub minimum: u32,

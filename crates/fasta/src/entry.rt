@@ -5,13 +5,13 @@ ghost use Rattle.fasta.specs.Entries.{read_number, read_place};
 use records::Refusal;
 
 // An entry that was found: the place behind it, and how many letters it has.
-#[derive(Drop)]
+#[derive(Clone, Copy)]
 pub struct Entry {
     pub next: usize,
     pub letters: u32,
 }
 
-#[derive(Drop)]
+#[derive(Clone, Copy)]
 pub enum Read {
     Found(Entry),
     // Only line ends are left.

@@ -6,7 +6,7 @@ use letters::is_letter;
 use records::byte_at;
 
 // What a run consists of.
-#[derive(Drop)]
+#[derive(Clone, Copy)]
 pub enum Run {
     // line ends
     Ends,

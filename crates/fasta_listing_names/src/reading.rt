@@ -10,7 +10,7 @@ use records::{Refusal, Tested};
 use text_lines::up_to;
 
 // What a reading of a file comes to.
-#[derive(Drop)]
+#[derive(Clone, Copy)]
 pub enum Reading {
     // The file is taken: so many names.
     Names(u32),

@@ -2,7 +2,7 @@
 use text_lines::more;
 
 // What a piece of a file comes to.
-#[derive(Drop)]
+#[derive(Clone, Copy)]
 pub enum Step {
     Entry,
     Nothing,

@@ -7,7 +7,7 @@ use fasta_lines::{Run, entry_len, run_len};
 use records::byte_at;
 
 // What is found in a file.
-#[derive(Drop)]
+#[derive(Clone, Copy)]
 pub enum Found {
     Piece,
     // The file has no more.
@@ -19,7 +19,7 @@ pub enum Found {
 }
 
 // What stands in the buffer.
-#[derive(Drop)]
+#[derive(Clone, Copy)]
 pub struct Window {
     pub found: Found,
     // where the piece begins

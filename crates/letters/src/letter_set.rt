@@ -5,7 +5,7 @@ ghost use Rattle.letters.specs.Letters.{all, empty, has, inserted, proper, subse
 use crate::stretch::capital;
 
 // A number whose bit 0 is A and bit 25 is Z.
-#[derive(Drop)]
+#[derive(Clone, Copy)]
 pub struct LetterSet {
     pub mask: u32,
 }

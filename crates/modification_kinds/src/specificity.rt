@@ -3,7 +3,7 @@ ghost use Rattle.std.specs.Prelude.{◌≡◌};
 ghost use Rattle.modification_kinds.specs.Specificities.{kind_of, letter_of, sound, specificity};
 
 // A kind with its letter, 0 for none. A residue always has a letter.
-#[derive(Drop)]
+#[derive(Clone, Copy)]
 pub enum Specificity {
     Residue(u8),
     PeptideN(u8),

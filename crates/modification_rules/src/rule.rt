@@ -8,14 +8,14 @@ ghost use Rattle.modification_rules.specs.Rules.{good_rule, rule_at, read_rule, 
 use modification_kinds::Specificity;
 use records::{Refusal, Tested};
 
-#[derive(Drop)]
+#[derive(Clone, Copy)]
 pub struct Rule {
     pub on: Specificity,
     pub id: u8,
     pub limit: u32,
 }
 
-#[derive(Drop)]
+#[derive(Clone, Copy)]
 pub enum Read {
     Rule(Rule),
     Refused(Refusal),

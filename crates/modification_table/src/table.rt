@@ -8,7 +8,7 @@ ghost use Rattle.modification_table.specs.Tables.{same_mass, first_equal, tested
 
 use records::{Refusal, Tested};
 
-#[derive(Drop)]
+#[derive(Clone, Copy)]
 pub enum Entered {
     Id(u32),
     Refused(Refusal),

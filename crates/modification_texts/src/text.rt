@@ -8,7 +8,7 @@ use letters::LetterSet;
 use modification_kinds::Specificity;
 use records::{Counted, Refusal};
 
-#[derive(Drop)]
+#[derive(Clone, Copy)]
 pub enum Parsed {
     Rule(Specificity),
     Refused(Refusal),

@@ -9,7 +9,7 @@ use records::{Refusal, Tested};
 
 // Its letters and the ids of its residues, of which the first len count; the ids of its ends; its place in the protein. An
 // id of 0 is none.
-#[derive(Drop)]
+#[derive(Clone, Copy)]
 pub struct Peptide {
     pub letters: [u8; 64],
     pub ids: [u8; 64],
@@ -21,7 +21,7 @@ pub struct Peptide {
 }
 
 // A peptide, if the tests passed.
-#[derive(Drop)]
+#[derive(Clone, Copy)]
 pub struct Made {
     pub tested: Tested,
     pub peptide: Peptide,

@@ -5,7 +5,7 @@ ghost use Rattle.peptide_choices.specs.Steps.{begun_choice, stepped, successor};
 ghost use Rattle.peptide_choices.specs.SuccessorLaws.{IsOne};
 
 // A choice of n of m sites: at[0] < .. < at[n - 1] < m.
-#[derive(Drop)]
+#[derive(Clone, Copy)]
 pub struct Choice {
     pub at: [usize; 8],
     pub n: usize,
@@ -13,7 +13,7 @@ pub struct Choice {
 }
 
 // A choice, or that none is left.
-#[derive(Drop)]
+#[derive(Clone, Copy)]
 pub struct Stepped {
     pub more: bool,
     pub choice: Choice,

@@ -13,7 +13,7 @@ use peptide_choices::Choice;
 use peptide_slots::Form;
 
 // Whether all forms have room, and how many stand there.
-#[derive(Drop)]
+#[derive(Clone, Copy)]
 pub struct Listed {
     pub fits: bool,
     pub count: usize,

@@ -7,7 +7,7 @@ ghost use Rattle.peptide_forms.specs.TurnLaws.{UsesTallied, FineUpTo};
 use peptide_choices::Choice;
 
 // Whether a slot is free among some places, and how often they use a rule.
-#[derive(Drop)]
+#[derive(Clone, Copy)]
 struct Taken {
     free: bool,
     uses: u32,

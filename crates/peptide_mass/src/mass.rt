@@ -5,7 +5,7 @@ ghost use Rattle.letters.specs.Letters.{capital, is_letter};
 
 use records::{Refusal, Tested};
 
-#[derive(Drop)]
+#[derive(Clone, Copy)]
 pub enum Weighed {
     Mass(f32),
     Refused(Refusal),

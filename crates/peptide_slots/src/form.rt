@@ -7,7 +7,7 @@ ghost use Rattle.peptide_slots.specs.Overlays.{overlay};
 use crate::hits;
 
 // The N-terminal id, the C-terminal id, 64 residue ids; 0 is none.
-#[derive(Drop)]
+#[derive(Clone, Copy)]
 pub struct Form {
     pub slots: [u8; 66],
 }

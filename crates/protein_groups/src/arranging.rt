@@ -19,7 +19,7 @@ pub(crate) fn set_up(pairs: &[u8], flags: &[u8], w: &mut [u32], a: usize, n: usi
 
 // Where a grouping stands in the work memory: so many edges, their meta-peptides from `metas` on and their groups from `groups` on; and so many
 // members, the places of what shows them from `order` on and their groups from `ranks` on.
-#[derive(Drop)]
+#[derive(Clone, Copy)]
 pub struct Stands {
     pub metas: usize,
     pub groups: usize,

@@ -11,7 +11,7 @@ use protein_groups_tests::tested;
 use records::{Refusal, Tested, clear, room_for};
 
 // How many groups, meta-peptides, edges and members there are.
-#[derive(Drop)]
+#[derive(Clone, Copy)]
 pub struct Sizes {
     pub groups: u32,
     pub metas: u32,
@@ -20,7 +20,7 @@ pub struct Sizes {
 }
 
 // What a call answers.
-#[derive(Drop)]
+#[derive(Clone, Copy)]
 pub enum Grouped {
     Made(Sizes),
     Refused(Refusal),

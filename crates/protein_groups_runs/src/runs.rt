@@ -45,7 +45,7 @@ fn order_runs(w: &mut [u32], o: usize, t: usize, s: usize, e: usize, base: u32) 
 }
 
 // How many were spread, and of how many runs.
-#[derive(Drop)]
+#[derive(Clone, Copy)]
 pub struct Runs {
     pub entries: usize,
     pub count: u32,

@@ -17,7 +17,7 @@ use protein_groups_runs::{Runs, distinct_runs, runs_of};
 use records::wide;
 
 // How many proteins were found, how many numbers the meta-peptides spread out are, and how many meta-peptides there are.
-#[derive(Drop)]
+#[derive(Clone, Copy)]
 struct Half {
     found: u32,
     entries: usize,
@@ -65,7 +65,7 @@ fn by_proteins(w: &mut [u32], plan: Plan) -> Runs
 }
 
 // How many groups, meta-peptides, edges and members there are.
-#[derive(Drop)]
+#[derive(Clone, Copy)]
 pub struct Made {
     pub groups: u32,
     pub metas: u32,

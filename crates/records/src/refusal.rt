@@ -4,7 +4,7 @@ ghost use Rattle.records.specs.Refusals.{number_of, place_of};
 ghost use Rattle.records.specs.Tested.{and_then, field_tested};
 
 // One case for each number of document 01's table, and of document 02 from 14 on, its place where that is not always 0.
-#[derive(Drop)]
+#[derive(Clone, Copy)]
 pub enum Refusal {
     // 1: a size above its limit, or an empty peptide
     Size,
@@ -83,14 +83,14 @@ impl Refusal {
 }
 
 // How many records were written, or why the call said no.
-#[derive(Drop)]
+#[derive(Clone, Copy)]
 pub enum Counted {
     Count(u32),
     Refused(Refusal),
 }
 
 // What the tests of an entry find: the first refusal, or none.
-#[derive(Drop)]
+#[derive(Clone, Copy)]
 pub enum Tested {
     Passed,
     Refused(Refusal),

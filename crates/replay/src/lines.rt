@@ -4,7 +4,7 @@ use text_fields::Verdict;
 use text_lines::line_end;
 
 // What the lines of a file hold.
-#[derive(Drop)]
+#[derive(Clone, Copy)]
 pub(crate) enum Kind {
     Entries,
     Rules,

@@ -8,7 +8,7 @@ use text_lines::narrow;
 // The letters that the Rust takes: all but B, J, X and Z.
 const ALPHABET: LetterSet = LetterSet { mask: 0x017f_fdfd };
 
-#[derive(Drop)]
+#[derive(Clone, Copy)]
 struct Answer {
     number: u32,
     place: u32,

@@ -13,21 +13,21 @@ use report_lines_tests::{is_uneven, lists_tested, too_large};
 use report_lines_texts::Line;
 
 // How many bytes the line has, and how many groups it names.
-#[derive(Drop)]
+#[derive(Clone, Copy)]
 pub struct Report {
     pub bytes: u32,
     pub groups: u32,
 }
 
 // The line that was written, or why the call said no.
-#[derive(Drop)]
+#[derive(Clone, Copy)]
 pub enum Reported {
     Line(Report),
     Refused(Refusal),
 }
 
 // Whether the peptide is a decoy, and whether decoys are generated, so that their names take the tag.
-#[derive(Drop)]
+#[derive(Clone, Copy)]
 struct Asked {
     decoy: bool,
     generated: bool,

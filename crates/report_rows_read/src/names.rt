@@ -5,7 +5,7 @@ use records::{byte_at, put_byte, put_u32, u32_at};
 use text_lines::{more, narrow};
 
 // A name as it stands in a row: where it begins in the text, how many bytes it has, and the row.
-#[derive(Drop)]
+#[derive(Clone, Copy)]
 pub struct Column {
     pub from: u32,
     pub length: u32,

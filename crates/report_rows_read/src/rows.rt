@@ -6,7 +6,7 @@ use records::{byte_at, put_byte};
 use text_lines::{column_end, line_end, more};
 
 // What a row is sought for.
-#[derive(Drop)]
+#[derive(Clone, Copy)]
 pub enum Sought {
     BadPeptide,
     LongName,
@@ -14,7 +14,7 @@ pub enum Sought {
 }
 
 // A row that was found: its number, and its part of the text.
-#[derive(Drop)]
+#[derive(Clone, Copy)]
 pub struct Row {
     pub found: bool,
     pub number: u32,

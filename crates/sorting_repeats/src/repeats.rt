@@ -12,7 +12,7 @@ ghost use Rattle.sorting_repeats.specs.LeastLaws.{lesser, least};
 use sorting_texts::By;
 
 // Where a name first stands again, or that none does, or that the lent slice is too short.
-#[derive(Drop)]
+#[derive(Clone, Copy)]
 pub enum Repeated {
     At(usize),
     Never,

@@ -9,7 +9,7 @@ ghost use Rattle.records.specs.Outcome.{outcome};
 use sorting_texts::By;
 
 // How many runs there are, or that the lent slice does not hold what is asked.
-#[derive(Drop)]
+#[derive(Clone, Copy)]
 pub enum Numbered {
     Runs(u32),
     Unfit,

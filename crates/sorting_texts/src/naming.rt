@@ -7,7 +7,7 @@ ghost use Rattle.sorting_texts.specs.Walk.{Stood, WalksOn};
 use crate::text;
 
 // A number, and where the walk goes on.
-#[derive(Drop)]
+#[derive(Clone, Copy)]
 pub struct Step {
     pub number: u32,
     pub at: usize,

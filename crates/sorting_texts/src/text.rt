@@ -6,7 +6,7 @@ ghost use Rattle.sorting_texts.specs.Text.{list_among};
 ghost use Rattle.sorting_texts.specs.TextLaws.{TextStands};
 
 // What numbers are sorted by: each stands for a list of numbers, its text.
-#[derive(Drop)]
+#[derive(Clone, Copy)]
 pub enum By {
     // itself
     Itself,
@@ -27,14 +27,14 @@ pub enum By {
 }
 
 // A part of a slice.
-#[derive(Drop)]
+#[derive(Clone, Copy)]
 pub struct Part {
     pub from: usize,
     pub to: usize,
 }
 
 // A part of the letters, and whether it is a decoy's.
-#[derive(Drop)]
+#[derive(Clone, Copy)]
 pub struct Range {
     pub from: usize,
     pub to: usize,

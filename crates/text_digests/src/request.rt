@@ -4,7 +4,7 @@ use enzyme_spec::Settings;
 use letters::LetterSet;
 use text_fields::{decimal_at, field, is_set, small_at};
 
-#[derive(Drop)]
+#[derive(Clone, Copy)]
 pub struct Request {
     pub enzyme: Enzyme,
     pub settings: Settings,

@@ -1,5 +1,5 @@
 // What one line comes to.
-#[derive(Drop)]
+#[derive(Clone, Copy)]
 pub enum Verdict {
     Agrees,
     Differs,

@@ -1,0 +1,22 @@
+-- `name_length` meets its contract. Assumes nothing.
+use Prim.Native.Nat.{◌-◌}
+use mathlib.Core.Path.{sym, ap, ◌∙◌}
+use mathlib.Core.Bool.{not}
+use native.Mathlib.Omega.{arith}
+use lib.ListN.{length}
+use Rattle.catalogue_spec.specs.Names.{hidden, name_length}
+use Rattle.records.specs.SeekingLaws.{Seeking, seeking_all, seeking_stop, seeking_on, seeking_end}
+use Rattle.catalogue_name.proofs.name.name_length.Goals as goal
+
+pub loop-i-init : goal.loop-i-init
+unfolding name_length
+loop-i-init c = seeking_all
+
+pub loop-i-preserved : goal.loop-i-preserved
+loop-i-preserved c = seeking_on c.loop-i.invariant (omega arith) (ap not (sym c.is_visible.ensures ∙ c.if-is_visible.true))
+
+pub returns-else-is_visible : goal.returns-else-is_visible
+returns-else-is_visible c = seeking_stop c.loop-i.invariant (omega arith) (ap not (sym c.is_visible.ensures ∙ c.if-is_visible.false))
+
+pub returns : goal.returns
+returns c = seeking_end c.loop-i.invariant (omega arith)

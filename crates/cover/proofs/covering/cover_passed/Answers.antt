@@ -1,0 +1,26 @@
+-- `cover_passed` meets its contract: no groups, too little room, and room for all. Assumes nothing.
+use Rattle.cover.specs.CoveringLaws.{run_fits, made_none, made_short, made_all}
+use Rattle.cover.proofs.covering.cover_passed.Goals as goal
+
+pub returns-then-groups-eq0 : goal.returns-then-groups-eq0
+returns-then-groups-eq0 c = let a = c.args in made_none a.edges.now a.groups a.work.now a.marks.now c.clear.new.w c.clear.ensures c.if-groups-eq0.true
+
+-- TODO fields ['run_fits', 'marks_len_bound']
+pub cover_short-requires : goal.cover_short-requires
+cover_short-requires c = (run_fits c.requires c.if-groups-eq0.false, c.if-marks-groups.true)
+
+pub returns-then-marks-groups : goal.returns-then-marks-groups
+returns-then-marks-groups c =
+    let a = c.args in
+    let call = c.cover_short in
+    made_short a.edges.now a.groups a.work.now a.marks.now call.new.1.1.1.1.1.0 call.new.1.1.1.1.0 c.requires.groups-max call.ensures.1 call.ensures.0 c.if-marks-groups.true
+
+-- TODO fields ['run_fits', 'groups_in_bounds']
+pub cover_all-requires : goal.cover_all-requires
+cover_all-requires c = (run_fits c.requires c.if-groups-eq0.false, c.if-marks-groups.false)
+
+pub returns : goal.returns
+returns c =
+    let a = c.args in
+    let call = c.cover_all in
+    made_all a.edges.now a.groups a.work.now a.marks.now call.new.1.1.1.1.1.0 call.new.1.1.1.1.0 c.requires.groups-max call.ensures.1 call.ensures.0 c.if-marks-groups.false

@@ -1,0 +1,17 @@
+-- `cover_in` meets its contract. Assumes nothing.
+use mathlib.Core.Path.{ap, ◌∙◌}
+use Prim.Native.Nat.{ℕ}
+use mathlib.Core.List.{List}
+use lib.ListN.{length}
+use lib.Seq.{sets}
+use Rattle.cover_spec.specs.ListedLaws.{length-cover}
+use Rattle.cover.specs.HandingLaws.{mid_front}
+use Rattle.cover.proofs.handing.cover_in.Goals as goal
+
+-- TODO fields ['marks_after', 'work_after']
+pub returns : goal.returns
+returns c =
+    let a = c.args in
+    let made = c.cover_into in
+    let m = mid_front a.groups a.all.now made.new.1.1.1.1.0 (ap length made.ensures.0 ∙ length-cover a.groups _) in
+    (c.put_bytes.ensures ∙ ap (λ (l : List ℕ). sets a.marks.now 0 l) (m ∙ made.ensures.0), made.ensures.1)

@@ -1,0 +1,22 @@
+-- `keep_given` meets its contract. Assumes nothing.
+use Prim.Native.Nat.{◌≤◌, ◌<◌}
+use native.Mathlib.Omega.{arith}
+use mathlib.Core.Logic.{⊎_elim}
+use Rattle.lists.specs.Tests.{below?}
+use Rattle.cover.specs.UpdatingLaws.{update_sized}
+use Rattle.cover.proofs.updating.keep_given.Goals.{Else-k-eq0}
+use Rattle.cover.proofs.updating.keep_given.Goals as goal
+
+-- there is a group
+positive : (c : Else-k-eq0) → 1 ≤ c.args.groups
+positive c = ⊎_elim (λ (h : 0 < c.least-k.result). omega (arith, c.least-k.ensures)) (λ (h : c.least-k.result ≤ 0). absurd (c.if-k-eq0.false (omega arith))) (below? 0 c.least-k.result)
+
+-- TODO fields ['update_sized', 'k_le_groups']
+pub renew-requires : goal.renew-requires
+renew-requires c =
+    let k = c.least-k.ensures in
+    (update_sized c.requires (positive (goal.at.renew-requires c).Else-k-eq0), (omega (arith, k), omega (arith, k, c.requires.as_many), omega (arith, k)))
+
+-- TODO fields ['mixed', 'work_after']
+pub returns : goal.returns
+returns c = (rw c.least-k.ensures at c.renew.ensures.0, c.renew.ensures.1)

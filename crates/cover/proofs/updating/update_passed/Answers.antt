@@ -1,0 +1,19 @@
+-- `update_passed` meets its contract. Assumes nothing.
+use Prim.Native.Nat.{ℕ}
+use mathlib.Core.Path.{sym, subst}
+use lib.ListN.{length}
+use Rattle.cover_tests.specs.ReadyLaws.{UpdateReady}
+use Rattle.cover.specs.UpdatingLaws.{renewed}
+use Rattle.cover.proofs.updating.update_passed.Goals as goal
+
+pub keep_given-requires : goal.keep_given-requires
+keep_given-requires c =
+    let a = c.args in
+    subst (λ (n : ℕ). UpdateReady a.old.now a.new.now a.groups a.metas a.given.now n) (sym c.cover_passed-answer.auto.1.1.1.0) c.requires
+
+pub returns : goal.returns
+returns c =
+    let a = c.args in
+    let made = c.cover_passed-answer in
+    let kept = c.keep_given in
+    renewed a.old.now a.new.now a.groups a.metas a.given.now (length a.work.now) c.requires a.work.now a.marks.now made.new.1.1.1.0 made.new.1.1.1.1.0 kept.new.1.1.1.1.1.0 kept.new.1.1.1.1.1.1.0 made.result made.ensures kept.ensures.1 made.auto.1.1.1.0 made.auto.1.1.1.1.0 kept.auto.1.1.1.1.1.1.0 kept.ensures.0

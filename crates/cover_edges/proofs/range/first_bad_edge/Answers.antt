@@ -1,0 +1,20 @@
+-- `first_bad_edge` meets its contract: the count is answered at the end, so i does not pass it. Assumes nothing.
+use Prim.Native.Nat.{◌≤◌, ◌-◌}
+use mathlib.Core.Path.{sym, ◌∙◌}
+use native.Mathlib.Omega.{arith}
+use Rattle.records.specs.SeekingLaws.{Seeking, seeking_all, seeking_stop, seeking_on, seeking_end}
+use Rattle.cover_edges.specs.Edges.{edge_at, bad_edge, edge_count, first_bad_edge}
+use Rattle.cover_edges.proofs.range.first_bad_edge.Goals as goal
+
+pub loop-i-init : goal.loop-i-init
+unfolding first_bad_edge
+loop-i-init c = (omega arith, seeking_all)
+
+pub returns-then-is_bad_edge : goal.returns-then-is_bad_edge
+returns-then-is_bad_edge c = seeking_stop c.loop-i.invariant.1 (omega arith) (sym c.is_bad_edge.ensures ∙ c.if-is_bad_edge.true)
+
+pub loop-i-preserved : goal.loop-i-preserved
+loop-i-preserved c = (omega arith, seeking_on c.loop-i.invariant.1 (omega arith) (sym c.is_bad_edge.ensures ∙ c.if-is_bad_edge.false))
+
+pub returns : goal.returns
+returns c = omega (arith, seeking_end c.loop-i.invariant.1 (omega arith))

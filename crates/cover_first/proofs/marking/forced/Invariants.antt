@@ -1,0 +1,13 @@
+-- `forced` meets its contract. Assumes nothing.
+use mathlib.Core.Path.{◌≡◌}
+use Prim.Native.Nat.{◌+◌, ◌-◌, ◌≤◌, ◌<◌}
+use native.Mathlib.Omega.{arith}
+use lib.ListN.{length, get_or}
+use Rattle.cover_first.specs.FirstLaws.{group_at, Forced, flags_start, only_edge, forced_inside, forced_step}
+use Rattle.cover_first.proofs.marking.forced.Given as goal
+
+abbrev pub invariant-loop-i : goal.invariant-loop-i
+invariant-loop-i l = (l.i ≤ l.n) × Forced l.areas l.edges l.initial.w l.w l.i
+
+abbrev pub decreases-loop-i : goal.decreases-loop-i
+decreases-loop-i l = l.n - l.i

@@ -1,0 +1,12 @@
+-- `each_alone` meets its contract. Assumes nothing.
+use Prim.Native.Nat.{◌+◌, ◌-◌, ◌≤◌}
+use native.Mathlib.Omega.{arith}
+use mathlib.Core.Path.{◌≡◌, refl}
+use Rattle.cover_edges.specs.PutLaws.{Puts, puts_none, puts_step}
+use Rattle.cover_joining.proofs.joining.each_alone.Given as goal
+
+abbrev pub invariant-loop-x : goal.invariant-loop-x
+invariant-loop-x l = (l.x ≤ l.n) × Puts (λ y. y) l.p (l.p + l.x) l.initial.w l.w
+
+abbrev pub decreases-loop-x : goal.decreases-loop-x
+decreases-loop-x l = l.n - l.x

@@ -1,0 +1,13 @@
+-- `lowest` meets its contract. Assumes nothing.
+use Prim.Native.Nat.{◌+◌, ◌<◌}
+use native.Mathlib.Omega.{arith}
+use mathlib.Core.Path.{◌≡◌, refl, ◌∙◌}
+use lib.ListN.{length, get_or, length-set}
+use Rattle.cover_joining.specs.JoiningLaws.{Finding, finding_start, finding_less, finding_turn, finding_end}
+use Rattle.cover_joining.proofs.joining.lowest.Given as goal
+
+abbrev pub invariant-loop-up : goal.invariant-loop-up
+invariant-loop-up l = (length l.w ≡ length l.initial.w) × Finding l.initial.w l.w l.p l.n l.x l.y l.up
+
+abbrev pub decreases-loop-up : goal.decreases-loop-up
+decreases-loop-up l = l.y

@@ -1,0 +1,12 @@
+-- `lower` meets its contract. Assumes nothing.
+use Prim.Native.Nat.{◌-◌, ◌<◌}
+use native.Mathlib.Omega.{arith}
+use lib.ListN.{length}
+use Rattle.cover_tables.specs.TableLaws.{Lowered, lowered_start, lowered_inside, lowered_some, lowered_step, lowered_end}
+use Rattle.cover_taking.proofs.taking.lower.Given as goal
+
+abbrev pub invariant-loop-p : goal.invariant-loop-p
+invariant-loop-p l = Lowered l.groups l.a l.e l.initial.w l.w l.p
+
+abbrev pub decreases-loop-p : goal.decreases-loop-p
+decreases-loop-p l = l.e - l.p

@@ -1,0 +1,14 @@
+-- `reach` meets its contract. Assumes nothing.
+use mathlib.Core.Path.{◌≡◌}
+use Prim.Native.Nat.{◌+◌, ◌-◌, ◌<◌}
+use native.Mathlib.Omega.{arith}
+use lib.ListN.{length, get_or}
+use Rattle.cover_tables.specs.StepLaws.{Reaching, reaching_lists, reaching_start, reaching_inside, reaching_meta, reaching_step, reaches}
+use Rattle.cover_edges.specs.Edges.{edges_to}
+use Rattle.cover_taking.proofs.taking.reach.Given as goal
+
+abbrev pub invariant-loop-p : goal.invariant-loop-p
+invariant-loop-p l = (l.e ≡ get_or l.initial.w (l.areas.go + l.c + 1) 0) × Reaching l.areas (edges_to l.edges l.n) l.c l.initial.w l.w l.p
+
+abbrev pub decreases-loop-p : goal.decreases-loop-p
+decreases-loop-p l = l.e - l.p

@@ -1,0 +1,15 @@
+-- `renew` meets its contract. Assumes nothing.
+use Prim.Native.Nat.{ℕ}
+use mathlib.Core.Path.{ap, ◌∙◌}
+use lib.ListN.{replicate}
+use Rattle.cover_edges.specs.Edges.{edges_to}
+use Rattle.cover_touched.proofs.mixing.renew.Goals as goal
+
+-- TODO fields ['mixed', 'w_after']
+pub returns : goal.returns
+returns c =
+    let a = c.args in
+    let cleared = c.clear in
+    let mixed = c.mix in
+    let made = c.touch in
+    (mixed.ensures (edges_to a.old.now a.on) (edges_to a.new.now a.nn) made.ensures, cleared.ensures ∙ ap (λ (n : ℕ). replicate n 0) (mixed.auto.1.1.1.0 ∙ made.auto.1.1.1.1.1.1.0))

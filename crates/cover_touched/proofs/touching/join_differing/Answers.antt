@@ -1,0 +1,40 @@
+-- `join_differing` meets its contract. Assumes nothing.
+use Prim.Native.Nat.{◌-◌, ◌≤◌}
+use native.Mathlib.Omega.{arith}
+use mathlib.Core.Path.{◌≡◌, refl, ◌∙◌}
+use lib.ListN.{length}
+use Rattle.cover_joining.specs.Joining.{Joined, nodes}
+use Rattle.cover_differing.specs.Walking.{differing, GroupsLinked}
+use Rattle.cover_edges.specs.Edges.{edges_to}
+use Rattle.cover_touched.specs.Touching.{seeds}
+use Rattle.cover_touched.specs.TouchingLaws.{seeds-start, seeds-turn, seeds_end, linked_same}
+use Rattle.cover_touched.proofs.touching.join_differing.Goals as goal
+
+pub loop-g-init : goal.loop-g-init
+loop-g-init c =
+    let a = c.args in
+    (omega arith, refl, c.requires.groups_linked, seeds-start (differing (edges_to a.old.now a.on) (edges_to a.new.now a.nn)) a.w.now a.metas (nodes a.groups a.metas) c.requires.forest)
+
+-- TODO fields ['groups_linked', 'forest', 'g_lt_groups']
+pub join_if-requires : goal.join_if-requires
+join_if-requires c =
+    let lp = c.loop-g in
+    (lp.invariant.2, (lp.invariant.3.forest, c.loop-g-test.true))
+
+pub loop-g-preserved : goal.loop-g-preserved
+loop-g-preserved c =
+    let a = c.args in
+    let lp = c.loop-g in
+    let call = c.join_if in
+    let next = call.new.1.1.1.1.1.1.0 in (
+      omega arith,
+      call.auto.1.1.1.1.1.1.0 ∙ lp.invariant.1,
+      linked_same lp.w next call.auto.1.1.1.1.1.1.0 call.ensures.rest lp.invariant.2,
+      seeds-turn (differing (edges_to a.old.now a.on) (edges_to a.new.now a.nn)) a.w.now lp.w next a.metas (nodes a.groups a.metas) lp.g lp.invariant.3 call.ensures,
+    )
+
+pub returns : goal.returns
+returns c = let a = c.args in let lp = c.loop-g in seeds_end (differing (edges_to a.old.now a.on) (edges_to a.new.now a.nn)) a.w.now lp.w a.metas (nodes a.groups a.metas) lp.g a.groups (omega arith) lp.invariant.3
+
+pub shape_of-w : goal.shape_of-w
+shape_of-w c = c.loop-g.invariant.1

@@ -1,0 +1,17 @@
+-- `join_differing` meets its contract. Assumes nothing.
+use Prim.Native.Nat.{◌-◌, ◌≤◌}
+use native.Mathlib.Omega.{arith}
+use mathlib.Core.Path.{◌≡◌, refl, ◌∙◌}
+use lib.ListN.{length}
+use Rattle.cover_joining.specs.Joining.{Joined, nodes}
+use Rattle.cover_differing.specs.Walking.{differing, GroupsLinked}
+use Rattle.cover_edges.specs.Edges.{edges_to}
+use Rattle.cover_touched.specs.Touching.{seeds}
+use Rattle.cover_touched.specs.TouchingLaws.{seeds-start, seeds-turn, seeds_end, linked_same}
+use Rattle.cover_touched.proofs.touching.join_differing.Given as goal
+
+abbrev pub invariant-loop-g : goal.invariant-loop-g
+invariant-loop-g l = (l.g ≤ l.groups) × (length l.w ≡ length l.initial.w) × GroupsLinked l.old l.on l.new l.nn l.groups l.metas l.w × Joined (seeds (differing (edges_to l.old l.on) (edges_to l.new l.nn)) l.g) l.initial.w l.w l.metas (nodes l.groups l.metas)
+
+abbrev pub decreases-loop-g : goal.decreases-loop-g
+decreases-loop-g l = l.groups - l.g

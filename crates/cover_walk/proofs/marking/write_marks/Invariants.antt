@@ -1,0 +1,16 @@
+-- `write_marks` meets its contract. Assumes nothing.
+use mathlib.Core.Path.{◌≡◌}
+use Prim.Native.Nat.{◌+◌, ◌-◌, ◌≤◌}
+use native.Mathlib.Omega.{arith}
+use lib.Dec.{eqb}
+use lib.ListN.{length, get_or}
+use Rattle.lists.specs.Lists.{bit}
+use Rattle.cover_spec.specs.ListedLaws.{listed_is}
+use Rattle.cover_edges.specs.PutLaws.{Puts, puts_none, puts_low}
+use Rattle.cover_walk.proofs.marking.write_marks.Given as goal
+
+abbrev pub invariant-loop-i : goal.invariant-loop-i
+invariant-loop-i l = (l.i ≤ length l.initial.out) × Puts (λ g. bit (eqb (get_or l.w (l.a + g) 0) 1)) 0 l.i l.initial.out l.out
+
+abbrev pub decreases-loop-i : goal.decreases-loop-i
+decreases-loop-i l = length l.initial.out - l.i

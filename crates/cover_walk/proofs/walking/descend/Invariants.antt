@@ -1,0 +1,14 @@
+-- `descend` meets its contract. Assumes nothing.
+use mathlib.Core.Path.{◌≡◌, refl, ◌∙◌, subst}
+use Prim.Native.Nat.{ℕ}
+use native.Mathlib.Omega.{arith}
+use lib.ListN.{length}
+use Rattle.cover_tables.specs.StepLaws.{Levels, levels_end}
+use Rattle.cover_edges.specs.Edges.{edges_to}
+use Rattle.cover_walk.proofs.walking.descend.Given as goal
+
+abbrev pub invariant-loop-d : goal.invariant-loop-d
+invariant-loop-d l = (length l.w ≡ length l.initial.w) × Levels l.areas (edges_to l.edges l.n) l.d 0 l.w
+
+abbrev pub decreases-loop-d : goal.decreases-loop-d
+decreases-loop-d l = l.d

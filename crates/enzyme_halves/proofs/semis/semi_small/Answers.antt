@@ -1,0 +1,13 @@
+-- `semi_small` meets its contract: its tables are long enough, and zero. Assumes nothing.
+use native.Mathlib.Omega.{arith}
+use Prim.Native.Nat.{ℕ, ◌≤◌}
+use lib.ListN.{length, replicate, length-replicate}
+use Rattle.enzyme_tables.specs.TableLaws.{as_long, longer, zeros}
+use Rattle.enzyme_halves.proofs.semis.semi_small.Goals as goal
+
+most : (k m : ℕ) → k ≤ m → length (replicate {0} {A = ℕ} k 0) ≤ m
+most k m h = rw (length-replicate {0} {A = ℕ} k 0) h
+
+pub semi_over-requires : goal.semi_over-requires
+semi_over-requires c = let n = length c.args.letters.now in
+    (omega arith, c.requires.1, longer 1025 n (omega arith), as_long 1024 n (omega arith), longer 17576 0 (omega arith), most 17576 _ (omega arith), zeros 17576, omega arith, omega arith, omega arith, omega arith, zeros 1024)

@@ -1,0 +1,36 @@
+-- `list_from` meets its contract: the first start, then the others. Assumes nothing.
+use native.Mathlib.Omega.{arith}
+use mathlib.Core.Path.{◌∙◌}
+use Prim.Native.Nat.{◌≤◌}
+use lib.ListN.{length}
+use Rattle.enzyme_lengths.specs.StartLaws.{part-kept, part_full}
+use Rattle.enzyme_lengths.specs.PositionLaws.{first_alone}
+use Rattle.enzyme_lengths.proofs.listing.list_from.Goals.{After-position-position}
+use Rattle.enzyme_lengths.proofs.listing.list_from.Goals as goal
+
+-- the second start is one of them, or they end with the first
+within : (c : After-position-position) → (c.later-second.result ≤ c.args.to) × (c.args.from ≤ c.later-second.result)
+within c = let e = c.later-second.ensures in (omega (arith, e, c.requires.5), omega (arith, e))
+
+pub list_starts-requires : goal.list_starts-requires
+list_starts-requires c = let e = c.later-second in
+    (c.requires.0, c.requires.1, omega (arith, within (goal.at.list_starts-requires c).After-position-position, c.requires.2), c.requires.3, c.requires.4, first_alone (length c.args.letters.now) c.args.len c.position-position.result c.args.from e.result c.position-position.ensures e.ensures)
+
+pub returns-in_default : goal.returns-in_default
+returns-in_default c = let a = c.args in
+    let m = c.later-second in
+    let x = c.list_starts in
+    let w = within (goal.at.returns-in_default c).After-position-position in
+    (part_full a.letters.now a.protein a.len a.from m.result a.to a.count a.out.now x.new.1.1.1.1.1.1.1.1.1.1.0 w.1 w.0 (rw c.in_default.is at x.ensures.0), x.ensures.1)
+
+pub list_later-requires : goal.list_later-requires
+list_later-requires c = (c.requires.0, c.requires.1, c.requires.2, c.requires.3, c.list_starts.ensures.1, omega (arith, c.later-second.ensures), (within (goal.at.list_later-requires c).After-position-position).0)
+
+pub returns : goal.returns
+returns c = let a = c.args in
+    let m = c.later-second in
+    let x = c.list_starts in
+    let k = c.k-1.given in
+    let y = c.list_later.ensures in
+    let w = within (goal.at.returns c).After-position-position in
+    (y.0 ∙ part-kept a.letters.now a.protein a.len a.from m.result a.to a.count a.out.now x.new.1.1.1.1.1.1.1.1.1.1.0 w.1 w.0 k.0.0 (rw k.1 at x.ensures.0), y.1)

@@ -1,0 +1,79 @@
+-- `list_lengths` meets its contract: the lengths ahead, chosen, give the whole. Assumes nothing.
+use native.Mathlib.Omega.{arith}
+use mathlib.Core.Path.{◌≡◌, refl, sym, ◌∙◌}
+use mathlib.Core.List.{List, ◌++◌}
+use Prim.Native.Nat.{suc, ◌+◌, ◌-◌, ◌<◌, min}
+use lib.ListN.{length}
+use Rattle.enzyme_cuts.specs.Cutting.{Range, of_length, of_lengths, none_sites}
+use Rattle.enzyme_lengths.specs.ListingLaws.{lengths_on}
+use Rattle.enzyme_lengths.specs.Listing.{chosen_of, Told}
+use Rattle.enzyme_lengths.specs.ListingLaws.{chosen-kept, chosen_full}
+use Rattle.enzyme_lengths.specs.StartLaws.{lengths_from-one, lengths_stop}
+use Rattle.enzyme_lengths.specs.TellingLaws.{told_later}
+use Rattle.enzyme_lengths.proofs.listing.list_lengths.Goals.{After-wide}
+use Rattle.enzyme_lengths.proofs.listing.list_lengths.Goals as goal
+
+-- the ranges of this length, and those of the lengths behind it
+abbrev these : After-wide → List Range
+these c = of_length (length c.before.before.before.before.before.before.before.before.before.before.before.before.before.args.letters.now) c.wide.result
+
+abbrev rest : After-wide → List Range
+rest c = of_lengths (length c.before.before.before.before.before.before.before.before.before.before.before.before.before.args.letters.now) (c.before.before.before.loop.len + 1) (suc c.before.before.before.before.before.before.before.before.before.before.before.before.before.args.terms.maximum - (c.before.before.before.loop.len + 1))
+
+ahead : (c : After-wide) → chosen_of c.args.letters.now c.args.terms.protein (these c ++ rest c) c.loop-len.k c.loop-len.out ≡ chosen_of c.args.letters.now c.args.terms.protein (none_sites (length c.args.letters.now) c.args.terms.minimum c.args.terms.maximum) 0 c.args.out.now
+ahead c = let l = c.loop-len in
+    let t = l.invariant.3 in
+    rw c.wide.ensures.0 (rw (lengths_on (length c.args.letters.now) l.len c.args.terms.maximum (omega arith)) at l.invariant.5)
+
+pub loop-len-init : goal.loop-len-init
+loop-len-init c = let a = c.args in
+    let mn = a.terms.minimum in
+    let e = c.first_length-len.ensures in
+    (refl, refl, omega arith, c.lesser-top.ensures, told_later mn c.first_length-len.result a.letters.now a.longest.now a.next.now a.size.now a.head.now (omega arith) c.requires.4, rw e (lengths_from-one a.letters.now a.terms.protein mn a.terms.maximum 0 a.out.now))
+
+pub list_length-requires : goal.list_length-requires
+list_length-requires c = let l = c.loop-len in
+    let e = c.wide.ensures.0 in
+    let t = l.invariant.3 in
+    (c.requires.0, omega (arith, e), c.requires.2, c.requires.3, omega (arith, e), rw e l.invariant.4)
+
+pub returns-in_default : goal.returns-in_default
+returns-in_default c = let l = c.loop-len in
+    let x = c.list_length in
+    sym (chosen_full c.args.letters.now c.args.terms.protein (these (goal.at.returns-in_default c).After-wide) (rest (goal.at.returns-in_default c).After-wide) l.k l.out x.new.1.1.1.1.1.1.1.1.0 (rw c.in_default.is at x.ensures.0)) ∙ ahead (goal.at.returns-in_default c).After-wide
+
+pub loop-len-preserved : goal.loop-len-preserved
+loop-len-preserved c = let a = c.args in
+    let l = c.loop-len in
+    let w = c.wide in
+    let x = c.list_length in
+    let y = c.x-1.given in
+    let told = told_later w.result (l.len + 1) a.letters.now a.longest.now a.next.now a.size.now x.new.1.1.1.1.0 (omega (arith, w.ensures.0)) x.ensures.1 in
+    (omega arith, omega arith, omega arith, l.invariant.3, told, sym (chosen-kept a.letters.now a.terms.protein (these (goal.at.loop-len-preserved c).After-wide) (rest (goal.at.loop-len-preserved c).After-wide) l.k l.out x.new.1.1.1.1.1.1.1.1.0 y.0.0 (rw y.1 at x.ensures.0)) ∙ ahead (goal.at.loop-len-preserved c).After-wide)
+
+pub returns : goal.returns
+returns c = let a = c.args in
+    let l = c.loop-len in
+    let t = l.invariant.3 in
+    rw (lengths_stop (length a.letters.now) l.len a.terms.maximum (omega arith)) at l.invariant.5
+
+pub overflow_cast-n : goal.overflow_cast-n
+overflow_cast-n c = omega arith
+
+pub shape_of-head-in_default : goal.shape_of-head-in_default
+shape_of-head-in_default c = omega arith
+
+pub shape_of-out-in_default : goal.shape_of-out-in_default
+shape_of-out-in_default c = omega arith
+
+pub overflow_add-len : goal.overflow_add-len
+overflow_add-len c = omega arith
+
+pub loop-len-smaller : goal.loop-len-smaller
+loop-len-smaller c = omega arith
+
+pub shape_of-head : goal.shape_of-head
+shape_of-head c = omega arith
+
+pub shape_of-out : goal.shape_of-out
+shape_of-out c = omega arith

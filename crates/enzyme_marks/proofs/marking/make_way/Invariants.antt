@@ -1,0 +1,13 @@
+-- `make_way` meets its contract. Assumes nothing.
+use Prim.Native.Nat.{◌≤◌}
+use mathlib.Core.Path.{◌≡◌}
+use native.Mathlib.Omega.{arith}
+use Rattle.enzyme_search.specs.Marks.{MovedUp}
+use Rattle.enzyme_search.specs.MarkLaws.{moved_none, moved_on}
+use Rattle.enzyme_marks.proofs.marking.make_way.Given as goal
+
+abbrev pub invariant-loop-i : goal.invariant-loop-i
+invariant-loop-i l = (l.low ≤ l.i) × (l.i ≤ l.high) × MovedUp l.initial.marks l.i l.high l.marks
+
+abbrev pub decreases-loop-i : goal.decreases-loop-i
+decreases-loop-i l = l.i

@@ -1,0 +1,15 @@
+-- `order_from` meets its contract: the letters before i agree. Assumes nothing.
+use native.Mathlib.Omega.{arith}
+use native.Mathlib.Numerals.{add-one}
+use Prim.Native.Nat.{◌-◌}
+use mathlib.Core.Path.{◌≡◌, refl, sym, ◌∙◌}
+use lib.ListN.{length, drop}
+use Rattle.enzyme_order.specs.Order.{letterwise}
+use Rattle.enzyme_order.specs.OrderLaws.{letters-below, letters_above, letters-on, letters_end}
+use Rattle.enzyme_order.proofs.ordering.order_from.Given as goal
+
+abbrev pub invariant-loop-i : goal.invariant-loop-i
+invariant-loop-i l = (length l.a ≡ length l.b) × (letterwise (drop l.i l.a) (drop l.i l.b) ≡ letterwise (drop l.from l.a) (drop l.from l.b))
+
+abbrev pub decreases-loop-i : goal.decreases-loop-i
+decreases-loop-i l = length l.a - l.i

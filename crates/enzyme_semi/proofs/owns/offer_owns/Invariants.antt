@@ -1,0 +1,18 @@
+-- `offer_owns` meets its contract. Assumes nothing.
+use Prim.Native.Nat.{suc, ◌-◌, ◌≤◌}
+use mathlib.Core.Path.{◌≡◌}
+use native.Mathlib.Omega.{arith}
+use Rattle.enzyme_weights.specs.Weights.{weight_in}
+use Rattle.enzyme_parts.specs.Walk.{sites_in, weigh_ins}
+use Rattle.enzyme_parts.specs.Weighed.{weigh_owns}
+use Rattle.enzyme_parts.specs.WalkLaws.{weigh_on, weigh_end, weigh_start}
+use Rattle.enzyme_parts.specs.Going.{Underway}
+use Rattle.enzyme_parts.specs.GoingLaws.{underway_start, underway_end, underway_first, underway_on}
+use Rattle.enzyme_semi.proofs.owns.offer_owns.Given as goal
+
+abbrev pub invariant-loop-j : goal.invariant-loop-j
+invariant-loop-j l =
+    (l.i ≤ l.j) × Underway l.letters l.far l.terms (weigh_owns (weight_in l.order l.runs l.rank l.share l.g (suc l.missed)) l.missed (sites_in l.starts l.m)) l.initial.at l.initial.out l.initial.marks (weigh_ins l.starts (weight_in l.order l.runs l.rank l.share l.g (suc l.missed)) l.missed l.i l.j (l.m - l.j)) l.at l.out l.marks
+
+abbrev pub decreases-loop-j : goal.decreases-loop-j
+decreases-loop-j l = l.m - l.j

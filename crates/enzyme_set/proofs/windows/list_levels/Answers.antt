@@ -1,0 +1,94 @@
+-- `list_levels` meets its contract: the sizes ahead give the whole, and the next size is ranked. Assumes nothing.
+use native.Mathlib.Omega.{arith}
+use mathlib.Core.Path.{◌≡◌, refl, ◌∙◌}
+use mathlib.Core.List.{List}
+use Prim.Native.Nat.{ℕ, suc, ◌+◌, ◌-◌, ◌≤◌}
+use lib.ListN.{length}
+use Rattle.enzyme_windows.specs.Pieces.{pieces}
+use Rattle.enzyme_windows.specs.Weights.{class_weight}
+use Rattle.enzyme_levels.specs.Levels.{LevelRanked}
+use Rattle.enzyme_picks.specs.Picks.{sizes_put}
+use Rattle.enzyme_picks.specs.PickLaws.{sizes-kept, sizes_full, sizes-last}
+use Rattle.enzyme_set.specs.ListLaws.{level_listed, level_ready}
+use Rattle.enzyme_set.proofs.windows.list_levels.Goals as goal
+
+abbrev weights : List (List ℕ) → ℕ → ℕ → ℕ
+weights ts y i = class_weight ts (suc y) i
+
+pub loop-over-init : goal.loop-over-init
+loop-over-init c = let z : suc c.args.missed - 0 ≡ suc c.args.missed = omega arith in (omega arith, refl, refl, refl, refl, refl, λ ts lr. (lr, rw z))
+
+pub list_size-requires : goal.list_size-requires
+list_size-requires c =
+    let a = c.args in
+    let p = c.requires in
+    let l = c.loop-over in
+    let q = l.invariant.6 (pieces a.knife a.letters.now) p.2 in
+    level_ready a.knife a.letters.now a.starts.now l.order l.other a.name.now l.rank l.share l.over l.g a.m q.0 p.0 (omega (arith, p.1, l.invariant.0)) (omega (arith, p.3, l.invariant.1)) (omega (arith, p.4, l.invariant.2)) (omega (arith, p.5, l.invariant.3)) (omega (arith, p.6, l.invariant.4))
+
+pub returns-in_default : goal.returns-in_default
+returns-in_default c =
+    let a = c.args in
+    let p = c.requires in
+    let l = c.loop-over in
+    let u = c.list_size in
+    let s = a.letters.now in
+    let ts = pieces a.knife s in
+    let q = l.invariant.6 ts p.2 in
+    sizes_full (length s) a.terms.protein a.starts.now (weights ts) a.terms.minimum a.terms.maximum a.m l.over a.missed l.k l.out q.1 l.invariant.0 u.new.1.1.1.1.1.1.1.1.1.1.0
+    (rw c.in_default.is at u.ensures ∙ level_listed ts s a.starts.now l.order l.other a.name.now l.rank l.share l.over l.g a.m q.0 (length s) a.terms.protein a.terms.minimum a.terms.maximum l.k l.out)
+
+pub next_level-g-requires : goal.next_level-g-requires
+next_level-g-requires c =
+    let a = c.args in
+    let p = c.requires in
+    let l = c.loop-over in
+    let ts = pieces a.knife a.letters.now in
+    let q = l.invariant.6 ts p.2 in
+    let z : c.wide-sites.result ≡ suc l.over = omega arith in
+    ((ts, rw z q.0), omega (arith, p.1, c.loop-over-test.true), omega (arith, p.3, l.invariant.1), omega (arith, p.4, l.invariant.2), omega (arith, p.5, l.invariant.3), omega (arith, p.6, l.invariant.4))
+
+pub loop-over-preserved : goal.loop-over-preserved
+loop-over-preserved c =
+    let a = c.args in
+    let l = c.loop-over in
+    let u = c.list_size in
+    let v = c.next_level-g in
+    let s = a.letters.now in
+    let z : c.wide-sites.result ≡ suc l.over = omega arith in
+    let y : c.wide-sites.result + 1 ≡ suc (l.over + 1) = omega arith in (
+      omega (arith, c.loop-over-test.true),
+      v.auto.1.1.1.1.1.0 ∙ l.invariant.1,
+      v.auto.1.1.1.1.1.1.0 ∙ l.invariant.2,
+      v.auto.1.1.1.1.1.1.1.1.0 ∙ l.invariant.3,
+      v.auto.1.1.1.1.1.1.1.1.1.0 ∙ l.invariant.4,
+      omega (arith, u.auto.1.1.1.1.1.1.1.1.1.1.0, l.invariant.5),
+      λ ts lr.
+          let q = l.invariant.6 ts lr in (
+            rw y at (v.ensures ts (rw z q.0)),
+            sizes-kept (length s) a.terms.protein a.starts.now (weights ts) a.terms.minimum a.terms.maximum a.m l.over a.missed l.k l.out q.1 l.invariant.0 u.new.1.1.1.1.1.1.1.1.1.1.0 c.in-Kept.x
+                (rw c.in-Kept.is at u.ensures ∙ level_listed ts s a.starts.now l.order l.other a.name.now l.rank l.share l.over l.g a.m q.0 (length s) a.terms.protein a.terms.minimum a.terms.maximum l.k l.out),
+          ),
+    )
+
+pub list_size-requires-2 : goal.list_size-requires-2
+list_size-requires-2 c =
+    let a = c.args in
+    let p = c.requires in
+    let l = c.loop-over in
+    let e : l.over ≡ a.missed = omega (arith, l.invariant.0, c.loop-over-test.false) in
+    let q = l.invariant.6 (pieces a.knife a.letters.now) p.2 in
+    level_ready a.knife a.letters.now a.starts.now l.order l.other a.name.now l.rank l.share a.missed l.g a.m (rw e at q.0) p.0 p.1 (omega (arith, p.3, l.invariant.1)) (omega (arith, p.4, l.invariant.2)) (omega (arith, p.5, l.invariant.3)) (omega (arith, p.6, l.invariant.4))
+
+pub returns : goal.returns
+returns c =
+    let a = c.args in
+    let p = c.requires in
+    let l = c.loop-over in
+    let u = c.list_size-2 in
+    let s = a.letters.now in
+    let ts = pieces a.knife s in
+    let e : a.missed ≡ l.over = omega (arith, l.invariant.0, c.loop-over-test.false) in
+    let q = l.invariant.6 ts p.2 in
+    sizes-last (length s) a.terms.protein a.starts.now (weights ts) a.terms.minimum a.terms.maximum a.m l.over a.missed l.k l.out q.1 (omega arith) u.result u.new.1.1.1.1.1.1.1.1.1.1.0
+    (rw e at u.ensures ∙ level_listed ts s a.starts.now l.order l.other a.name.now l.rank l.share l.over l.g a.m q.0 (length s) a.terms.protein a.terms.minimum a.terms.maximum l.k l.out)

@@ -1,0 +1,15 @@
+-- `count` meets its contract. Assumes nothing.
+use Prim.Native.Nat.{◌≤◌, ◌-◌}
+use mathlib.Core.Path.{◌≡◌, refl, ◌∙◌}
+use lib.ListN.{length, length-set}
+use native.Mathlib.Omega.{arith}
+use Rattle.enzyme_codes.specs.Codes.{code_at}
+use Rattle.enzyme_sifted.specs.Sifted.{CodesSeen}
+use Rattle.enzyme_sifted.specs.SiftLaws.{seen_none, seen_more}
+use Rattle.enzyme_sifted.proofs.counting.count.Given as goal
+
+abbrev pub invariant-loop-z : goal.invariant-loop-z
+invariant-loop-z l = (l.z ≤ l.m) × (length l.codes ≡ length l.initial.codes) × (length l.seen ≡ length l.initial.seen) × CodesSeen (code_at l.size l.letters l.starts) l.codes l.seen l.z
+
+abbrev pub decreases-loop-z : goal.decreases-loop-z
+decreases-loop-z l = l.m - l.z

@@ -1,0 +1,16 @@
+-- `copy_raised` meets its contract: the first i places hold capitals. Assumes nothing.
+use Prim.Native.Nat.{ℕ, ◌+◌, ◌-◌, ◌≤◌, ◌<◌}
+use mathlib.Core.Path.{◌≡◌, refl, ◌∙◌}
+use native.Mathlib.Omega.{arith}
+use lib.ListN.{length, get_or, length-set}
+use lib.Seq.{get_or-take, length-take-le}
+use Rattle.lists.specs.FrameLaws.{set_more}
+use Rattle.letters.specs.Letters.{capital}
+use Rattle.letters.specs.CapitalLaws.{capitals_is}
+use Rattle.enzyme_ways.proofs.reading.copy_raised.Given as goal
+
+abbrev pub invariant-loop-i : goal.invariant-loop-i
+invariant-loop-i l = (length l.table ≡ length l.initial.table) × ((j : ℕ) → j < l.i → get_or l.table j 0 ≡ capital (get_or l.letters j 0))
+
+abbrev pub decreases-loop-i : goal.decreases-loop-i
+decreases-loop-i l = length l.letters - l.i

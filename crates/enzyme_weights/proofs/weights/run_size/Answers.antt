@@ -1,0 +1,28 @@
+-- `run_size` meets its contract: what is counted and the places ahead give the whole. Assumes nothing.
+use native.Mathlib.Omega.{arith}
+use mathlib.Core.Path.{◌≡◌, sym, ◌∙◌}
+use Prim.Native.Nat.{◌+◌, ◌-◌, ◌≤◌}
+use Rattle.enzyme_weights.specs.Weights.{run_from}
+use Rattle.enzyme_weights.specs.SizeLaws.{size-on, size_stop, size_end}
+use Rattle.enzyme_weights.proofs.weights.run_size.Goals as goal
+
+pub loop-q-init : goal.loop-q-init
+loop-q-init c = (omega arith, omega arith)
+
+pub returns-then-run-p : goal.returns-then-run-p
+returns-then-run-p c =
+    let a = c.args in
+    let l = c.loop-q in
+    omega (arith, l.invariant.1, size_stop a.runs.now a.g a.p l.q (omega arith) (λ e. c.if-run-p.true (c.wide-run.ensures ∙ e)))
+
+pub loop-q-preserved : goal.loop-q-preserved
+loop-q-preserved c =
+    let a = c.args in
+    let l = c.loop-q in
+    (omega arith, omega (arith, l.invariant.1, size-on a.runs.now a.g a.p l.q (omega arith) (sym c.wide-run.ensures ∙ c.if-run-p.false)))
+
+pub returns : goal.returns
+returns c =
+    let a = c.args in
+    let l = c.loop-q in
+    omega (arith, l.invariant.1, size_end a.runs.now a.g a.p l.q (omega arith))

@@ -1,0 +1,13 @@
+-- `run_size` meets its contract: what is counted and the places ahead give the whole. Assumes nothing.
+use native.Mathlib.Omega.{arith}
+use mathlib.Core.Path.{◌≡◌, sym, ◌∙◌}
+use Prim.Native.Nat.{◌+◌, ◌-◌, ◌≤◌}
+use Rattle.enzyme_weights.specs.Weights.{run_from}
+use Rattle.enzyme_weights.specs.SizeLaws.{size-on, size_stop, size_end}
+use Rattle.enzyme_weights.proofs.weights.run_size.Given as goal
+
+abbrev pub invariant-loop-q : goal.invariant-loop-q
+invariant-loop-q l = (l.count ≤ l.q) × (l.count + run_from l.runs l.p l.q (l.g - l.q) ≡ run_from l.runs l.p l.p (l.g - l.p))
+
+abbrev pub decreases-loop-q : goal.decreases-loop-q
+decreases-loop-q l = l.g - l.q

@@ -1,0 +1,14 @@
+-- `tally` meets its contract. Assumes nothing.
+use native.Mathlib.Omega.{arith}
+use mathlib.Core.Path.{◌≡◌, refl, ◌∙◌}
+use Prim.Native.Nat.{◌+◌, ◌-◌, ◌*◌, ◌≤◌, ◌<◌}
+use lib.ListN.{length, length-set}
+use Rattle.enzyme_words.specs.Words.{word_at, word_code, WordsTallied}
+use Rattle.enzyme_words.specs.WordLaws.{number_small, word-number-on, number_off, code-number, code-small, words_tallied_none, words_tallied_one, words_tallied_coded, words_tallied_twice}
+use Rattle.enzyme_words.proofs.filling.tally.Given as goal
+
+abbrev pub invariant-loop-e : goal.invariant-loop-e
+invariant-loop-e l = (l.e + 1 ≡ l.i + l.q) × (length l.far ≡ length l.initial.far) × (length l.count ≡ length l.initial.count) × (l.rest ≡ word_at l.letters l.i (l.q - 1)) × WordsTallied l.letters l.q l.m l.i l.far l.count
+
+abbrev pub decreases-loop-e : goal.decreases-loop-e
+decreases-loop-e l = length l.letters - l.e

@@ -1,0 +1,36 @@
+-- `read_behind` meets its contract. Assumes nothing.
+use Prim.Native.Nat.{ℕ}
+use mathlib.Core.Path.{◌≡◌, sym, ap, ◌∙◌}
+use mathlib.Core.List.{List}
+use lib.ListN.{length}
+use lib.Dec.{ltb}
+use borrow.Author.Tests.{ltb-false}
+use Rattle.records.specs.declared.refusal.Tested.TheVariants.{Passed, Refused as Bad}
+use Rattle.fasta_lines.specs.Lines.{together}
+use Rattle.fasta.specs.Entries.{too_long, entry_tested}
+use Rattle.fasta.specs.EntryLaws.{lines_part, entry_1, entry-refused, entry_given}
+use Rattle.fasta.proofs.reading.read_behind.Goals.{After-is_too_long}
+use Rattle.fasta.proofs.reading.read_behind.Goals as goal
+
+long : (c : After-is_too_long) → c.is_too_long.result ≡ too_long c.args.e.now
+long c = c.is_too_long.ensures ∙ ap (λ (l : List ℕ). ltb 65536 (length (together l))) (lines_part c.args.e.now _ c.run_len-head.ensures.0)
+
+pub returns-then-is_too_long : goal.returns-then-is_too_long
+returns-then-is_too_long c = let a = c.args in entry_1 a.q a.e.now a.name.now a.letters.now (sym (long (goal.at.returns-then-is_too_long c).After-is_too_long) ∙ c.if-is_too_long.true)
+
+pub give-requires : goal.give-requires
+give-requires c =
+    let e : entry_tested c.args.q c.args.e.now ≡ Passed = cc in
+    (c.run_len-head.ensures.0, c.run_len-head.ensures.1, c.run_len-word.ensures.0, c.run_len-word.ensures.1, ltb-false _ _ (sym (long (goal.at.give-requires c).After-is_too_long) ∙ c.if-is_too_long.false), e, c.requires)
+
+pub returns-in-Passed : goal.returns-in-Passed
+returns-in-Passed c =
+    let a = c.args in
+    let e : entry_tested a.q a.e.now ≡ Passed = cc in
+    c.give.ensures ∙ entry_given a.q a.e.now a.name.now a.letters.now (sym (long (goal.at.returns-in-Passed c).After-is_too_long) ∙ c.if-is_too_long.false) e
+
+pub returns-in-Refused : goal.returns-in-Refused
+returns-in-Refused c =
+    let a = c.args in
+    let e : entry_tested a.q a.e.now ≡ Bad c.in-Refused.why = cc in
+    entry-refused a.q a.e.now a.name.now a.letters.now (sym (long (goal.at.returns-in-Refused c).After-is_too_long) ∙ c.if-is_too_long.false) _ e

@@ -1,0 +1,15 @@
+-- `letter_count` meets its contract: what was counted and what the rest holds are all. Assumes nothing.
+use Prim.Native.Nat.{◌+◌, ◌-◌, ◌≤◌}
+use mathlib.Core.Path.{◌≡◌, ap}
+use mathlib.Core.Bool.{true, false}
+use native.Mathlib.Omega.{arith}
+use lib.ListN.{length, drop, get_or}
+use Rattle.fasta_lines.specs.Lines.{line_end, together}
+use Rattle.fasta_lines.specs.LineLaws.{together_skip, together-take, together_end}
+use Rattle.fasta_lines.proofs.together.letter_count.Given as goal
+
+abbrev pub invariant-loop-i : goal.invariant-loop-i
+invariant-loop-i l = (l.i ≤ length l.s) × (l.n ≤ l.i) × (l.n + length (together (drop l.i l.s)) ≡ length (together l.s))
+
+abbrev pub decreases-loop-i : goal.decreases-loop-i
+decreases-loop-i l = length l.s - l.i

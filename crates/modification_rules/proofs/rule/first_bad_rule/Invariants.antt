@@ -1,0 +1,14 @@
+-- `first_bad_rule` meets its contract. Assumes nothing.
+use Prim.Native.Nat.{◌-◌}
+use mathlib.Core.Path.{sym, ap, ◌∙◌}
+use mathlib.Core.Bool.{not}
+use native.Mathlib.Omega.{arith}
+use Rattle.records.specs.SeekingLaws.{Seeking, seeking_all, seeking_stop, seeking_on, seeking_end}
+use Rattle.modification_rules.specs.Rules.{no_rule, first_bad_rule}
+use Rattle.modification_rules.proofs.rule.first_bad_rule.Given as goal
+
+abbrev pub invariant-loop-r : goal.invariant-loop-r
+invariant-loop-r l = Seeking (no_rule l.fixed l.rules) l.n l.r (first_bad_rule l.fixed l.rules)
+
+abbrev pub decreases-loop-r : goal.decreases-loop-r
+decreases-loop-r l = l.n - l.r

@@ -1,0 +1,23 @@
+-- `first_wide` meets its contract. Assumes nothing.
+use Prim.Native.Nat.{◌-◌}
+use mathlib.Core.Path.{ap}
+use mathlib.Core.Bool.{not}
+use native.Mathlib.Omega.{arith}
+use lib.ListN.{length}
+use borrow.Author.Tests.{lt-ltb, le-ltb}
+use Rattle.records.specs.SeekingLaws.{Seeking, seeking_all, seeking_stop, seeking_on, seeking_end}
+use Rattle.modification_texts.specs.Texts.{wide, first_wide}
+use Rattle.modification_texts.proofs.text.first_wide.Goals as goal
+
+pub loop-i-init : goal.loop-i-init
+unfolding first_wide
+loop-i-init c = seeking_all
+
+pub loop-i-preserved : goal.loop-i-preserved
+loop-i-preserved c = seeking_on c.loop-i.invariant (omega arith) (ap not (lt-ltb _ 128 c.if-text-i-lt128.true))
+
+pub returns-else-text-i-lt128 : goal.returns-else-text-i-lt128
+returns-else-text-i-lt128 c = seeking_stop c.loop-i.invariant (omega arith) (ap not (le-ltb _ 128 c.if-text-i-lt128.false))
+
+pub returns : goal.returns
+returns c = seeking_end c.loop-i.invariant (omega arith)

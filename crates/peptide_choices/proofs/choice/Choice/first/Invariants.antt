@@ -1,0 +1,17 @@
+-- `first` meets its contract. The invariant: the first i places are 0, 1, .. . Assumes nothing.
+use Prim.Native.Nat.{ℕ, ◌-◌, ◌≤◌, ◌<◌}
+use mathlib.Core.Path.{◌≡◌, refl, ap, ◌∙◌}
+use mathlib.Core.List.{List, ◌++◌}
+use native.Mathlib.Omega.{arith}
+use borrow.Author.Tests.{lt-leb, le-leb}
+use lib.ListN.{length, drop, set, replicate}
+use Rattle.lists.specs.Lists.{up_from}
+use Rattle.peptide_choices.specs.StepLaws.{up_more}
+use Rattle.peptide_choices.specs.Steps.{begun_choice, first_of, stepped_to}
+use Rattle.peptide_choices.proofs.choice.Choice.first.Given as goal
+
+abbrev pub invariant-loop-i : goal.invariant-loop-i
+invariant-loop-i l = (l.i ≤ l.n) × (l.at ≡ up_from 0 l.i ++ drop l.i l.initial.at)
+
+abbrev pub decreases-loop-i : goal.decreases-loop-i
+decreases-loop-i l = l.n - l.i

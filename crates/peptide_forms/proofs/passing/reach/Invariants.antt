@@ -1,0 +1,13 @@
+-- `reach` meets its contract. The invariant: the first j places pass. Assumes nothing.
+use Prim.Native.Nat.{◌-◌, ◌≤◌}
+use mathlib.Core.Path.{◌≡◌, sym, ◌∙◌}
+use native.Mathlib.Omega.{arith}
+use lib.ListN.{length, take}
+use Rattle.peptide_forms.specs.TurnLaws.{PassesTo, passes-to_end, passes-to-more, passes-to-none, passes-to_stop}
+use Rattle.peptide_forms.proofs.passing.reach.Given as goal
+
+abbrev pub invariant-loop-j : goal.invariant-loop-j
+invariant-loop-j l = (l.j ≤ l.n) × PassesTo l.sites l.rules (take l.n l.at) l.j
+
+abbrev pub decreases-loop-j : goal.decreases-loop-j
+decreases-loop-j l = l.n - l.j

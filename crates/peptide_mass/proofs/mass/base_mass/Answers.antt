@@ -1,0 +1,22 @@
+-- `base_mass` meets its contract. Assumes nothing.
+use mathlib.Core.Path.{sym, ap, ◌∙◌}
+use Rattle.peptide_mass.specs.declared.mass.Weighed.{Weighed}
+use Rattle.peptide_mass.specs.MassLaws.{passed_weighable, weighed-refused, weighed-passed}
+use Rattle.peptide_mass.proofs.mass.base_mass.Goals as goal
+
+pub returns-in-Refused : goal.returns-in-Refused
+returns-in-Refused c =
+    let a = c.args in
+    weighed-refused a.letters.now a.masses.now a.water _ (sym c.in-Refused.is ∙ c.test_letters.ensures)
+
+-- TODO fields ['masses_len', 'by_index']
+pub sum-requires : goal.sum-requires
+sum-requires c =
+    let a = c.args in
+    let w = passed_weighable a.letters.now a.masses.now (sym c.test_letters.ensures ∙ c.in_default.is) in
+    (w.whole, w.good)
+
+pub returns : goal.returns
+returns c =
+    let a = c.args in
+    ap Weighed.Mass c.sum.ensures ∙ weighed-passed a.letters.now a.masses.now a.water (sym c.in_default.is ∙ c.test_letters.ensures)

@@ -1,0 +1,16 @@
+-- `overlaid` meets its contract. The invariant: each slot below k is done. Assumes nothing.
+use Prim.Native.Nat.{ℕ, ◌-◌, ◌≤◌}
+use mathlib.Core.Path.{◌≡◌}
+use mathlib.Core.List.{List}
+use native.Mathlib.Omega.{arith}
+use lib.ListN.{length, get_or}
+use Rattle.peptide_slots.specs.Overlays.{overlay}
+use Rattle.peptide_slots.specs.Hits.{fill}
+use Rattle.peptide_slots.specs.OverlayLaws.{Upto, map_at_ext, upto_more, upto_none}
+use Rattle.peptide_slots.proofs.form.overlaid.Given as goal
+
+abbrev pub invariant-loop-k : goal.invariant-loop-k
+invariant-loop-k l = (l.k ≤ 66) × Upto (merge l.from) l.old l.k l.slots
+
+abbrev pub decreases-loop-k : goal.decreases-loop-k
+decreases-loop-k l = 66 - l.k

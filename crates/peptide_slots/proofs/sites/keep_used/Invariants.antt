@@ -1,0 +1,16 @@
+-- `keep_used` meets its contract. The invariant: of the first i sites those that may be used stand at the front. Assumes
+-- nothing.
+use Prim.Native.Nat.{ℕ, ◌-◌, ◌≤◌}
+use mathlib.Core.Path.{refl, ap}
+use mathlib.Core.Bool.{not}
+use native.Mathlib.Omega.{arith}
+use lib.Dec.{eqb}
+use lib.ListN.{get_or}
+use Rattle.peptide_slots.specs.UsedLaws.{UsedFirst, used-first-all, used-first-more, used-first-none}
+use Rattle.peptide_slots.proofs.sites.keep_used.Given as goal
+
+abbrev pub invariant-loop-i : goal.invariant-loop-i
+invariant-loop-i l = (l.i ≤ l.m) × UsedFirst l.rules l.initial.out l.out l.i l.next
+
+abbrev pub decreases-loop-i : goal.decreases-loop-i
+decreases-loop-i l = l.m - l.i

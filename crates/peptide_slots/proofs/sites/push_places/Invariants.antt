@@ -1,0 +1,16 @@
+-- `push_places` meets its contract. The invariant: the places below k that are hit are written. Assumes nothing.
+use Prim.Native.Nat.{ℕ, ◌-◌, ◌≤◌}
+use mathlib.Core.Bool.{Bool}
+use mathlib.Core.List.{List}
+use native.Mathlib.Omega.{arith}
+use lib.ListN.{get_or}
+use Rattle.peptide_slots.specs.Hits.{hits_at}
+use Rattle.peptide_slots.specs.SiteLaws.{HitsWritten, hits-written-all, hits-written-more, hits-written-none}
+use Rattle.peptide_slots.specs.Sites.{places_of}
+use Rattle.peptide_slots.proofs.sites.push_places.Given as goal
+
+abbrev pub invariant-loop-k : goal.invariant-loop-k
+invariant-loop-k l = (l.k ≤ l.n) × HitsWritten (test l.letters l.n l.kind l.position l.letter) l.base l.n l.initial.out l.at l.out l.next l.k
+
+abbrev pub decreases-loop-k : goal.decreases-loop-k
+decreases-loop-k l = l.n - l.k

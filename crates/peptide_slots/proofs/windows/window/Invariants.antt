@@ -1,0 +1,15 @@
+-- `window` meets its contract. The invariant: the places below i are done. Assumes nothing.
+use Prim.Native.Nat.{ℕ, ◌+◌, ◌-◌, ◌≤◌}
+use mathlib.Core.Path.{◌∙◌}
+use native.Mathlib.Omega.{arith}
+use lib.ListN.{get_or, replicate, length-replicate}
+use mathlib.Core.List.{List}
+use Rattle.peptide_slots.specs.OverlayLaws.{Upto, upto_none, upto_more}
+use Rattle.peptide_slots.specs.WindowLaws.{window_is}
+use Rattle.peptide_slots.proofs.windows.window.Given as goal
+
+abbrev pub invariant-loop-i : goal.invariant-loop-i
+invariant-loop-i l = (l.i ≤ 64) × Upto (byte_at l.from l.bytes) l.initial.out l.i l.out
+
+abbrev pub decreases-loop-i : goal.decreases-loop-i
+decreases-loop-i l = 64 - l.i

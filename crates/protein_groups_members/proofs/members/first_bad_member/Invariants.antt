@@ -1,0 +1,15 @@
+-- `first_bad_member` meets its contract. Assumes nothing.
+use Prim.Native.Nat.{◌-◌, ◌/◌}
+use mathlib.Core.Path.{sym, ap, ◌∙◌}
+use mathlib.Core.Bool.{not}
+use native.Mathlib.Omega.{arith}
+use lib.ListN.{length}
+use Rattle.records.specs.SeekingLaws.{Seeking, seeking_all, seeking_stop, seeking_on, seeking_end}
+use Rattle.protein_groups_members.specs.Members.{bad_member, first_bad_member}
+use Rattle.protein_groups_members.proofs.members.first_bad_member.Given as goal
+
+abbrev pub invariant-loop-i : goal.invariant-loop-i
+invariant-loop-i l = Seeking (bad_member l.members l.groups l.proteins) (length l.members / 12) l.i (first_bad_member l.members l.groups l.proteins)
+
+abbrev pub decreases-loop-i : goal.decreases-loop-i
+decreases-loop-i l = length l.members / 12 - l.i

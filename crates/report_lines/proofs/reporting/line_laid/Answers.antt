@@ -1,0 +1,20 @@
+-- `line_laid` meets its contract. Assumes nothing.
+use Rattle.protein_groups_members.specs.Members.{members_in}
+use Rattle.report_lines_write.specs.LineLaws.{stretched_laid}
+use Rattle.report_lines.specs.ReportingLaws.{line-outcome}
+use Rattle.report_lines.proofs.reporting.line_laid.Goals as goal
+
+pub line_in-line-requires : goal.line_in-line-requires
+line_in-line-requires c =
+    let p = c.requires in
+    let l = c.lay_out in
+    let a = c.args in
+    stretched_laid a.names.now (members_in a.members.now) a.marks.now a.list.now a.asked.decoy a.tag.now a.asked.generated l.new.1.1.1.1.1.1.1.0 a.c l.ensures p.0.small p.1
+
+pub returns : goal.returns
+returns c =
+    let p = c.requires in
+    let la = c.lay_out in
+    let a = c.args in
+    let l = c.line_in-line in
+    line-outcome a.names.now a.members.now a.marks.now a.list.now a.asked.decoy a.tag.now a.asked.generated la.new.1.1.1.1.1.1.1.0 a.c la.ensures p.0.small p.1 a.out.now l.new.1.1.1.1.0 l.result.bytes l.result.groups c.answer.result l.ensures c.answer.ensures

@@ -1,0 +1,24 @@
+-- `first_bad_protein` meets its contract. Assumes nothing.
+use Prim.Native.Nat.{◌-◌}
+use native.Mathlib.Omega.{arith}
+use lib.ListN.{length}
+use borrow.Author.Tests.{le-leb, lt-leb}
+use Rattle.records.specs.SeekingLaws.{Seeking, seeking_all, seeking_stop, seeking_on, seeking_end}
+use Rattle.report_lines_tests.specs.Testing.{bad_protein, first_bad_protein}
+use Rattle.report_lines_tests.proofs.tests.first_bad_protein.Goals as goal
+
+pub loop-i-init : goal.loop-i-init
+unfolding first_bad_protein
+loop-i-init c = seeking_all
+
+pub overflow_cast-protein : goal.overflow_cast-protein
+overflow_cast-protein c = omega (arith, c.shared_slice_known-1.given c.loop-i.i)
+
+pub returns-then-proteins-protein : goal.returns-then-proteins-protein
+returns-then-proteins-protein c = seeking_stop c.loop-i.invariant (omega arith) (le-leb _ _ c.if-proteins-protein.true)
+
+pub loop-i-preserved : goal.loop-i-preserved
+loop-i-preserved c = seeking_on c.loop-i.invariant (omega arith) (lt-leb _ _ c.if-proteins-protein.false)
+
+pub returns : goal.returns
+returns c = seeking_end c.loop-i.invariant (omega arith)

@@ -1,0 +1,5 @@
+-- `list_tested` meets its contract. Assumes nothing.
+use Rattle.report_lines_tests.proofs.tests.list_tested.Goals as goal
+
+pub returns : goal.returns
+returns c = cc

@@ -1,0 +1,11 @@
+-- `read_names` meets its contract. Assumes nothing.
+use Prim.Native.Nat.{◌+◌, ◌-◌, ◌≤◌}
+use lib.ListN.{length}
+use mathlib.Core.Path.{◌≡◌}
+use Rattle.report_rows_read.proofs.rows.read_names.Given as goal
+
+abbrev pub invariant-loop-at : goal.invariant-loop-at
+invariant-loop-at l = (l.at ≤ length l.line + 1) × (length l.columns ≡ length l.initial.columns)
+
+abbrev pub decreases-loop-at : goal.decreases-loop-at
+decreases-loop-at l = (length l.line + 1) - l.at

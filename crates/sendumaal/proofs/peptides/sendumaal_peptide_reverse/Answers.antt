@@ -1,0 +1,25 @@
+-- `sendumaal_peptide_reverse` meets its contract. Assumes nothing.
+use mathlib.Core.Path.{sym, ◌∙◌}
+use mathlib.Core.List.{[], ◌∷◌}
+use Rattle.sendumaal_calls.specs.CallLaws.{said}
+use Rattle.sendumaal_calls.specs.PeptideCallLaws.{reverse-passed, reverse_no, reverse_yes}
+use Rattle.sendumaal.proofs.peptides.sendumaal_peptide_reverse.Goals as goal
+
+pub turn-requires : goal.turn-requires
+turn-requires c =
+    let a = c.args in
+    reverse-passed a.letters.now a.ids.now a.decoy.now (sym c.test_reverse-found.ensures ∙ c.in-Passed.is)
+
+pub returns-in-Refused : goal.returns-in-Refused
+returns-in-Refused c =
+    let a = c.args in
+    let w = c.found-1 in
+    said w.given.0.0 c.number.result c.place.result c.number.ensures c.place.ensures ((a.decoy.now ∷ []) ∷ a.letters.now ∷ a.ids.now ∷ [])
+    ∙ reverse_no a.letters.now a.ids.now a.decoy.now w.given.0.0 (sym c.test_reverse-found.ensures ∙ w.given.1)
+
+pub returns-in-Passed : goal.returns-in-Passed
+returns-in-Passed c =
+    let a = c.args in
+    let t = c.turn in
+    reverse_yes a.letters.now a.ids.now a.decoy.now (sym c.test_reverse-found.ensures ∙ c.in-Passed.is)
+    c.flipped.result t.new.0 t.new.1.0 c.flipped.ensures t.ensures.0 t.ensures.1

@@ -1,0 +1,13 @@
+-- `counted` meets its contract. Assumes nothing.
+use mathlib.Core.Path.{sym, ap, ◌∙◌}
+use mathlib.Core.List.{[], ◌∷◌}
+use Rattle.records.specs.declared.refusal.Counted.{Counted}
+use Rattle.sendumaal_calls.specs.Calls.{count_call}
+use Rattle.sendumaal_calls.specs.CallLaws.{said}
+use Rattle.sendumaal_calls.proofs.telling.counted.Goals as goal
+
+pub returns-in-Refused : goal.returns-in-Refused
+returns-in-Refused c =
+    let f = c.answer-in-Refused-1 in
+    let k = c.args.count.now in
+    said f.given.0.0 c.number.result c.place.result c.number.ensures c.place.ensures ((k ∷ []) ∷ []) ∙ sym (ap (λ (x : Counted). count_call x k) f.given.1)

@@ -1,0 +1,18 @@
+-- `least_repeat` meets its contract. Assumes nothing.
+use Prim.Native.Nat.{◌≤◌, ◌<◌, ◌-◌}
+use mathlib.Core.Path.{◌≡◌, sym, ◌∙◌}
+use lib.ListN.{drop}
+use lib.Seq.{slice, slice_empty}
+use Rattle.sorting_texts.specs.Text.{le_by}
+use Rattle.sorting_spec.specs.PartLaws.{rest_all}
+use Rattle.sorting_repeats.specs.LeastLaws.{least, least_from, least-turn, least_begin}
+use native.Mathlib.Omega.{arith}
+use Rattle.sorting_repeats.proofs.repeats.least_repeat.Given as goal
+
+abbrev pub invariant-loop-i : goal.invariant-loop-i
+invariant-loop-i l =
+    let le = le_by l.by l.letters (drop l.e l.w) in
+    (0 < l.i) × (l.i ≤ l.hi) × (least le l.none (slice 0 l.hi l.w) ≡ least_from le l.b l.p (slice l.i l.hi l.w))
+
+abbrev pub decreases-loop-i : goal.decreases-loop-i
+decreases-loop-i l = l.hi - l.i

@@ -1,0 +1,27 @@
+-- `repeat_among` meets its contract. Assumes nothing.
+use Prim.Native.Nat.{ℕ, ◌+◌}
+use mathlib.Core.Path.{sym, ap, ◌∙◌}
+use mathlib.Core.List.{List, ◌++◌}
+use native.Mathlib.Omega.{arith}
+use lib.ListN.{replicate}
+use lib.Seq.{length-take-le}
+use Rattle.sorting_repeats.specs.LeastLaws.{repeated, repeated_rest, front_cleared}
+use Rattle.sorting_repeats.proofs.repeats.repeat_among.Goals as goal
+
+pub slice_bounds-clear-end-2 : goal.slice_bounds-clear-end-2
+slice_bounds-clear-end-2 c =
+    let a = c.args in
+    let so = c.sort_range in
+    sym (length-take-le (a.n + a.n) so.new.1.1.0 (omega (arith, so.auto.1.1.0, c.count_up.auto.0, c.requires)))
+
+pub returns : goal.returns
+returns c =
+    let a = c.args in
+    let up = c.count_up in
+    let so = c.sort_range in
+    let n = a.n in
+    let names = a.names.now in (
+      repeated names up.new.0 so.new.1.1.0 n c.least_repeat-r.result up.ensures.0 so.ensures c.least_repeat-r.ensures,
+      front_cleared (n + n) so.new.1.1.0 c.clear.new.w (omega (arith, so.auto.1.1.0, up.auto.0, c.requires)) c.clear.ensures
+          ∙ ap (λ (x : List ℕ). replicate (n + n) 0 ++ x) (repeated_rest names a.w.now up.new.0 so.new.1.1.0 n up.auto.0 so.auto.1.1.0 up.ensures.1 so.ensures),
+    )

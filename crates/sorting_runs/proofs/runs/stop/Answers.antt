@@ -1,0 +1,68 @@
+-- `stop` meets its contract. Assumes nothing.
+use Prim.Native.Nat.{◌≤◌, ◌<◌, ◌-◌, ◌+◌}
+use mathlib.Core.Path.{◌≡◌, sym, ◌∙◌}
+use lib.ListN.{drop}
+use lib.Seq.{slice}
+use Rattle.sorting_texts.specs.Text.{le_by}
+use Rattle.sorting_spec.specs.Runs.{equals_after, run_length}
+use Rattle.sorting_spec.specs.RunLaws.{run_begin, run_on, run_off, run_none, run-empty}
+use Rattle.sorting_spec.specs.PartLaws.{rest_all}
+use native.Mathlib.Omega.{arith}
+use Rattle.sorting_runs.proofs.runs.stop.Goals as goal
+
+pub returns-then-lo-hi : goal.returns-then-lo-hi
+returns-then-lo-hi c = let a = c.args in rw c.if-lo-hi.true (sym (run-empty (le_by a.by a.letters.now (drop a.e a.w.now)) a.w.now a.hi))
+
+pub loop-i-init : goal.loop-i-init
+loop-i-init c = let a = c.args in (omega arith, omega arith, run_begin (le_by a.by a.letters.now (drop a.e a.w.now)) a.w.now a.lo a.hi (omega arith) (omega arith))
+
+pub loop-i-preserved : goal.loop-i-preserved
+loop-i-preserved c =
+    let a = c.args in
+    let l = c.loop-i in
+    let le = le_by a.by a.letters.now (drop a.e a.w.now) in
+    let q = sym (rw (rest_all a.e a.w.now) at c.le.ensures) ∙ c.if-le.true in
+    (omega arith, omega arith, l.invariant.2 ∙ run_on le a.w.now l.i a.hi (omega arith) (omega arith) l.p q)
+
+pub returns-else-le : goal.returns-else-le
+returns-else-le c =
+    let a = c.args in
+    let l = c.loop-i in
+    let le = le_by a.by a.letters.now (drop a.e a.w.now) in
+    let q = sym (rw (rest_all a.e a.w.now) at c.le.ensures) ∙ c.if-le.false in
+    sym (l.invariant.2 ∙ run_off le a.w.now l.i a.hi (omega arith) (omega arith) l.p q)
+
+pub returns : goal.returns
+returns c =
+    let a = c.args in
+    let l = c.loop-i in
+    let e : l.i ≡ a.hi = omega arith in
+    let le = le_by a.by a.letters.now (drop a.e a.w.now) in
+    sym (l.invariant.2 ∙ (rw e (run_none le a.w.now a.hi l.p)))
+
+pub offset_bounds-w-lo : goal.offset_bounds-w-lo
+offset_bounds-w-lo c = omega arith
+
+pub bounds-w-lo : goal.bounds-w-lo
+bounds-w-lo c = omega arith
+
+pub overflow_add-i : goal.overflow_add-i
+overflow_add-i c = omega arith
+
+pub offset_bounds-w-i : goal.offset_bounds-w-i
+offset_bounds-w-i c = omega arith
+
+pub bounds-w-i : goal.bounds-w-i
+bounds-w-i c = omega arith
+
+pub offset_bounds-w-e : goal.offset_bounds-w-e
+offset_bounds-w-e c = omega arith
+
+pub slice_bounds-le-count : goal.slice_bounds-le-count
+slice_bounds-le-count c = omega arith
+
+pub overflow_add-i-then-le : goal.overflow_add-i-then-le
+overflow_add-i-then-le c = omega arith
+
+pub loop-i-smaller : goal.loop-i-smaller
+loop-i-smaller c = omega arith

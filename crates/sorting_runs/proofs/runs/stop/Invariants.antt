@@ -1,0 +1,19 @@
+-- `stop` meets its contract. Assumes nothing.
+use Prim.Native.Nat.{◌≤◌, ◌<◌, ◌-◌, ◌+◌}
+use mathlib.Core.Path.{◌≡◌, sym, ◌∙◌}
+use lib.ListN.{drop}
+use lib.Seq.{slice}
+use Rattle.sorting_texts.specs.Text.{le_by}
+use Rattle.sorting_spec.specs.Runs.{equals_after, run_length}
+use Rattle.sorting_spec.specs.RunLaws.{run_begin, run_on, run_off, run_none, run-empty}
+use Rattle.sorting_spec.specs.PartLaws.{rest_all}
+use native.Mathlib.Omega.{arith}
+use Rattle.sorting_runs.proofs.runs.stop.Given as goal
+
+abbrev pub invariant-loop-i : goal.invariant-loop-i
+invariant-loop-i l =
+    let le = le_by l.by l.letters (drop l.e l.w) in
+    (l.lo < l.i) × (l.i ≤ l.hi) × (l.lo + run_length le (slice l.lo l.hi l.w) ≡ l.i + equals_after le l.p (slice l.i l.hi l.w))
+
+abbrev pub decreases-loop-i : goal.decreases-loop-i
+decreases-loop-i l = l.hi - l.i

@@ -1,0 +1,30 @@
+-- `tag_length` meets its contract. Assumes nothing.
+use Prim.Native.Nat.{◌-◌, ◌≤◌}
+use mathlib.Core.Path.{sym, ◌∙◌}
+use lib.ListN.{length}
+use Rattle.sorting_texts.specs.Text.{tag_in}
+use Rattle.sorting_texts.specs.EntryLaws.{tag_short, tag-on, tag_end}
+use native.Mathlib.Omega.{arith}
+use Rattle.sorting_texts.proofs.naming.tag_length.Goals as goal
+
+pub returns-then-number_at-eq0 : goal.returns-then-number_at-eq0
+returns-then-number_at-eq0 c =
+    let l = c.loop-i in
+    tag_end c.args.keys.now l.i (omega arith) l.invariant (sym c.number_at.ensures ∙ c.if-number_at-eq0.true)
+
+pub loop-i-preserved : goal.loop-i-preserved
+loop-i-preserved c =
+    let l = c.loop-i in
+    omega (arith, tag-on c.args.keys.now l.i (omega arith) l.invariant (λ e. c.if-number_at-eq0.false (c.number_at.ensures ∙ e)))
+
+pub returns : goal.returns
+returns c = omega (arith, tag_short c.args.keys.now)
+
+pub loop-i-init : goal.loop-i-init
+loop-i-init c = omega arith
+
+pub overflow_add-i : goal.overflow_add-i
+overflow_add-i c = omega arith
+
+pub loop-i-smaller : goal.loop-i-smaller
+loop-i-smaller c = omega arith

@@ -1,0 +1,23 @@
+-- `unhex` meets its contract. Assumes nothing.
+use Prim.Native.Nat.{◌-◌, ◌≤◌}
+use lib.ListN.{length, length-set}
+use lib.Seq.{length-take-le}
+use mathlib.Core.Path.{◌≡◌, sym}
+use native.Mathlib.Omega.{arith}
+use Rattle.text_fields.proofs.hexadecimals.unhex.Goals as goal
+
+pub returns-then-high-lt48 : goal.returns-then-high-lt48
+returns-then-high-lt48 c =
+    let l = c.loop-n in
+    (omega arith, sym (length-take-le l.n l.out (omega arith)))
+
+pub bounds-out-n : goal.bounds-out-n
+bounds-out-n c = omega arith
+
+pub loop-n-preserved : goal.loop-n-preserved
+loop-n-preserved c = (simp length-set (omega arith), simp length-set (omega arith))
+
+pub returns : goal.returns
+returns c =
+    let l = c.loop-n in
+    (omega arith, sym (length-take-le l.n l.out (omega arith)))
