@@ -1,4 +1,6 @@
 // The tests of a lent catalogue of names and of a lent sequence book. Nothing lent is changed, and no work memory is asked for.
+#![tactic(auto)]
+
 mod book;
 
 pub use book::{book_tested, letters_tested};

@@ -1,1 +1,2 @@
 // No code: what names, catalogues and sequence books are, what their tests answer, and what follows, stand in specs.
+#![tactic(auto)]

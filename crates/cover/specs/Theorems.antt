@@ -13,7 +13,7 @@ use Rattle.cover_spec.specs.Update.{touched}
 use Rattle.cover_spec.specs.CountLaws.{all-at, count_determined, find}
 use Rattle.cover_spec.specs.ConnectedLaws.{◌∈◌}
 use Rattle.cover_spec.specs.ChoiceLaws.{GroupsUnder}
-use Rattle.cover_spec.specs.ListedLaws.{get_d_listed, bit_is, length-cover}
+use Rattle.cover_spec.specs.ListedLaws.{get_or_listed, bit_is, length-cover}
 use Rattle.cover_spec.specs.LocalityLaws.{cover_local}
 use Rattle.cover_spec.specs.UpdateLaws.{update_list_lem}
 use Rattle.cover_spec.specs.TouchedLaws.{Touched, touched-to, touched_of}
@@ -33,7 +33,7 @@ module _ (bs : List ℕ) (groups metas words : ℕ) (p : cover_tested bs groups 
 
   mark-at : (g : ℕ) → g < groups → get_or (cover_marks bs groups) g 0 ≡ bit (cover groups (edges_of bs) g)
   unfolding cover_list
-  mark-at g h = get_d_listed groups (λ k. bit (cover groups (edges_of bs) k)) g h
+  mark-at g h = get_or_listed groups (λ k. bit (cover groups (edges_of bs) k)) g h
 
   pub marked_neighbour : (m : ℕ) → 0 < of_meta m (edges_of bs) → (e : Edge) × (meta e ≡ m) × (e ∈ edges_of bs) × (get_or (cover_marks bs groups) (group e) 0 ≡ 1)
   marked_neighbour m h =

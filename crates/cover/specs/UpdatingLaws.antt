@@ -10,12 +10,12 @@ use Rattle.lists.specs.Lists.{bit}
 use Rattle.records.specs.declared.refusal.Refusal.TheVariants.{Room}
 use Rattle.records.specs.declared.refusal.Counted.{Counted}
 use Rattle.records.specs.declared.refusal.Counted.TheVariants.{Count, Refused as No}
-use Rattle.records.specs.LeLaws.{get_d_sets_other}
+use Rattle.records.specs.LeLaws.{get_or-sets_other}
 use Rattle.records.specs.Outcome.{Outcome, outcome}
 use Rattle.records.specs.Room.{fits, fitted, singly}
 use Rattle.records.specs.RoomLaws.{stored-text, fits-text}
 use Rattle.cover_spec.specs.Cover.{cover_list}
-use Rattle.cover_spec.specs.ListedLaws.{length-listed, get_d_listed, length-cover}
+use Rattle.cover_spec.specs.ListedLaws.{length-listed, get_or_listed, length-cover}
 use Rattle.cover_spec.specs.Marks.{handed}
 use Rattle.cover_spec.specs.Update.{touched, update, update_list}
 use Rattle.cover_edges.specs.Edges.{edges_of}
@@ -37,21 +37,21 @@ update_sized {old} {new} {given} {groups} {metas} {words} r h = record {
 
 -- ---- the marks: those of the cover stand in marks₁, and of the first ones those of groups that are not touched become the given ones
 
-get_d_sets : (vs s : List ℕ) (at j : ℕ) → j < length vs → at + j < length s → get_or (sets s at vs) (at + j) 0 ≡ get_or vs j 0
-get_d_sets [] s at j h l = absurd (omega arith)
-get_d_sets (v ∷ vs) s at zero h l =
-    rw (add-zero at) (get_d_sets_other vs (set s at v) (suc at) at (inl (omega arith)) ∙ get_or-set_same s at v 0 (omega arith))
-get_d_sets (v ∷ vs) s at (suc j) h l =
+get_or-sets : (vs s : List ℕ) (at j : ℕ) → j < length vs → at + j < length s → get_or (sets s at vs) (at + j) 0 ≡ get_or vs j 0
+get_or-sets [] s at j h l = absurd (omega arith)
+get_or-sets (v ∷ vs) s at zero h l =
+    rw (add-zero at) (get_or-sets_other vs (set s at v) (suc at) at (inl (omega arith)) ∙ get_or-set_same s at v 0 (omega arith))
+get_or-sets (v ∷ vs) s at (suc j) h l =
     let z : at + suc j ≡ suc at + j = omega arith in
-    rw z (get_d_sets vs (set s at v) (suc at) j (omega arith) (rw length-set (omega arith)))
+    rw z (get_or-sets vs (set s at v) (suc at) j (omega arith) (rw length-set (omega arith)))
 
 -- a list written to the front of a slice, mark by mark
 module _ (vs s t : List ℕ) (long : length t ≡ length s) (front : (i : ℕ) → i < length vs → i < length s → get_or t i 0 ≡ get_or vs i 0) (rest : (i : ℕ) → length vs ≤ i → get_or t i 0 ≡ get_or s i 0) where
   pub as_sets : t ≡ sets s 0 vs
-  as_sets = ext_get_or 0 t (sets s 0 vs) (long ∙ sym (length-sets s 0 vs)) (λ i l. ⊎_elim (λ (h : i < length vs). front i h (omega arith) ∙ sym (at_front i h (omega arith))) (λ (h : length vs ≤ i). rest i h ∙ sym (get_d_sets_other vs s 0 i (inr (omega arith)))) (below? i (length vs)))
+  as_sets = ext_get_or 0 t (sets s 0 vs) (long ∙ sym (length-sets s 0 vs)) (λ i l. ⊎_elim (λ (h : i < length vs). front i h (omega arith) ∙ sym (at_front i h (omega arith))) (λ (h : length vs ≤ i). rest i h ∙ sym (get_or-sets_other vs s 0 i (inr (omega arith)))) (below? i (length vs)))
     where
       at_front : (i : ℕ) → i < length vs → i < length s → get_or (sets s 0 vs) i 0 ≡ get_or vs i 0
-      at_front i h l = let z : 0 + i ≡ i = omega arith in subst (λ (x : ℕ). get_or (sets s 0 vs) x 0 ≡ get_or vs i 0) z (get_d_sets vs s 0 i h (omega arith))
+      at_front i h l = let z : 0 + i ≡ i = omega arith in subst (λ (x : ℕ). get_or (sets s 0 vs) x 0 ≡ get_or vs i 0) z (get_or-sets vs s 0 i h (omega arith))
 
 bit_of : (v : ℕ) → v ≤ 1 → bit (eqb v 1) ≡ v
 bit_of v h = ⊎_elim (λ (e : eqb v 1 ≡ true). rw e (sym (eqb-true v 1 e))) (λ (e : eqb v 1 ≡ false). rw e (zero_is (eqb-false v 1 e))) (truth? (eqb v 1))
@@ -71,8 +71,8 @@ module _ (old new : List ℕ) (groups metas : ℕ) (given : List ℕ) (words : �
   pub mark_of : (g : ℕ) → g < groups → get_or (update_marks old new groups given) g 0 ≡ cond (touched (edges_of old) (edges_of new) g) (get_or (cover_marks new groups) g 0) (get_or given g 0)
   unfolding update_list update cover_list
   mark_of g l =
-      get_d_listed groups _ g l
-      ∙ ⊎_elim (λ (e : touched (edges_of old) (edges_of new) g ≡ true). rw e (sym (get_d_listed groups _ g l)))
+      get_or_listed groups _ g l
+      ∙ ⊎_elim (λ (e : touched (edges_of old) (edges_of new) g ≡ true). rw e (sym (get_or_listed groups _ g l)))
       (λ (e : touched (edges_of old) (edges_of new) g ≡ false). rw e (bit_of (get_or given g 0) (ready.bits g (omega (arith, ready.as_many))))) (truth? (touched (edges_of old) (edges_of new) g))
 
   pub renewed : (work marks w₁ marks₁ w₂ marks₂ : List ℕ) (r : Counted) → outcome r (w₁ ∷ marks₁ ∷ []) ≡ handed work marks (cover_marks new groups)
@@ -85,7 +85,7 @@ module _ (old new : List ℕ) (groups metas : ℕ) (given : List ℕ) (words : �
       let is : marks₂ ≡ sets marks 0 (update_marks old new groups given) =
       as_sets (update_marks old new groups given) marks marks₂ (lm₂ ∙ lm)
       (λ i h l. mix.here i (omega (arith, updated)) ∙ ap (λ (v : ℕ). cond (touched (edges_of old) (edges_of new) i) v (get_or given i 0)) (ap (λ (t : List ℕ). get_or t i 0) was ∙ cover-at i (omega (arith, updated)) l) ∙ sym (mark_of i (omega (arith, updated))))
-      (λ i h. mix.rest i (inr (omega (arith, updated))) ∙ ap (λ (t : List ℕ). get_or t i 0) was ∙ get_d_sets_other (cover_marks new groups) marks 0 i (inr (omega (arith, made, updated)))) in
+      (λ i h. mix.rest i (inr (omega (arith, updated))) ∙ ap (λ (t : List ℕ). get_or t i 0) was ∙ get_or-sets_other (cover_marks new groups) marks 0 i (inr (omega (arith, made, updated)))) in
       let said : r ≡ cond (fits 1 131072 marks (singly (update_marks old new groups given))) (Count (length (update_marks old new groups given))) (No Room) =
       ap (λ (o : Outcome Counted). o.answer) e ∙ rw (fits-text 131072 (cover_marks new groups) marks few, fits-text 131072 (update_marks old new groups given) marks few', made, updated) in
       rw (said, z, lw, is ∙ stored-text 131072 (update_marks old new groups given) marks few')
@@ -99,4 +99,4 @@ module _ (old new : List ℕ) (groups metas : ℕ) (given : List ℕ) (words : �
           head-two (a ∷ b ∷ l) = b
 
       cover-at : (i : ℕ) → i < groups → i < length marks → get_or (sets marks 0 (cover_marks new groups)) i 0 ≡ get_or (cover_marks new groups) i 0
-      cover-at i h l = let y : 0 + i ≡ i = omega arith in subst (λ (x : ℕ). get_or (sets marks 0 (cover_marks new groups)) x 0 ≡ get_or (cover_marks new groups) i 0) y (get_d_sets (cover_marks new groups) marks 0 i (omega (arith, made)) (omega arith))
+      cover-at i h l = let y : 0 + i ≡ i = omega arith in subst (λ (x : ℕ). get_or (sets marks 0 (cover_marks new groups)) x 0 ≡ get_or (cover_marks new groups) i 0) y (get_or-sets (cover_marks new groups) marks 0 i (omega (arith, made)) (omega arith))

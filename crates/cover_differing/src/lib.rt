@@ -1,4 +1,6 @@
 // Whether a group's edges differ in two lists. No entries: only crates of this repository call this.
+#![tactic(auto)]
+
 mod differing;
 mod links;
 mod passing;

@@ -1,5 +1,7 @@
 // Edge records in lent bytes, and what is made of them: the first bad record, linked lists. No entries: only crates of this
 // repository call these.
+#![tactic(auto)]
+
 mod clearing;
 mod linking;
 mod range;

@@ -9,11 +9,11 @@ unfolding listed
 length-listed zero f = refl
 length-listed (suc n) f = ap suc (length-listed n (λ g. f (suc g)))
 
-pub get_d_listed : (n : ℕ) (f : ℕ → ℕ) (g : ℕ) → g < n → get_or (listed n f) g 0 ≡ f g
+pub get_or_listed : (n : ℕ) (f : ℕ → ℕ) (g : ℕ) → g < n → get_or (listed n f) g 0 ≡ f g
 unfolding listed
-get_d_listed zero f g h = absurd (omega arith)
-get_d_listed (suc n) f zero h = refl
-get_d_listed (suc n) f (suc g) h = get_d_listed n (λ k. f (suc k)) g (omega arith)
+get_or_listed zero f g h = absurd (omega arith)
+get_or_listed (suc n) f zero h = refl
+get_or_listed (suc n) f (suc g) h = get_or_listed n (λ k. f (suc k)) g (omega arith)
 
 pub listed_ext : (n : ℕ) (f h : ℕ → ℕ) → ((g : ℕ) → g < n → f g ≡ h g) → listed n f ≡ listed n h
 unfolding listed
@@ -25,7 +25,7 @@ bit_is true = refl
 bit_is false = refl
 
 pub listed_is : (n : ℕ) (f : ℕ → ℕ) (out : List ℕ) → length out ≡ n → ((g : ℕ) → g < n → get_or out g 0 ≡ f g) → out ≡ listed n f
-listed_is n f out e h = ext_get_or 0 out (listed n f) (e ∙ sym (length-listed n f)) (λ g i. h g (omega arith) ∙ sym (get_d_listed n f g (omega arith)))
+listed_is n f out e h = ext_get_or 0 out (listed n f) (e ∙ sym (length-listed n f)) (λ g i. h g (omega arith) ∙ sym (get_or_listed n f g (omega arith)))
 
 pub length-cover : (n : ℕ) (es : List Edge) → length (cover_list n es) ≡ n
 unfolding cover_list

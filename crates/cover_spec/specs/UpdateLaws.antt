@@ -14,7 +14,7 @@ use Rattle.cover_spec.specs.CountLaws.{count_determined, same-edge}
 use Rattle.cover_spec.specs.PartLaws.{Closed}
 use Rattle.cover_spec.specs.ChoiceLaws.{GroupsUnder}
 use Rattle.cover_spec.specs.LocalityLaws.{cover_local}
-use Rattle.cover_spec.specs.ListedLaws.{get_d_listed, listed_ext, bit_is}
+use Rattle.cover_spec.specs.ListedLaws.{get_or_listed, listed_ext, bit_is}
 use Rattle.cover_spec.specs.ConnectedLaws.{here}
 use Rattle.cover_spec.specs.TouchedLaws.{touched_meta, touched_of, touched_linked}
 
@@ -96,7 +96,7 @@ pub update_list_lem : (n : ℕ) (old new : List Edge) → GroupsUnder n old → 
 unfolding update_list cover_list
 update_list_lem n old new u v =
     listed_ext n _ _ (λ g i. ap bit (update-cover n old new u v _ g
-    (ap (λ (k : ℕ). eqb k 1) (get_d_listed n (λ h. bit (cover n old h)) g i) ∙ bit_is (cover n old g))))
+    (ap (λ (k : ℕ). eqb k 1) (get_or_listed n (λ h. bit (cover n old h)) g i) ∙ bit_is (cover n old g))))
 
 -- a group in a touched part has the mark that the cover of the touched edges alone gives it
 pub touched-cover : (n : ℕ) (old new : List Edge) → GroupsUnder n new → (g : ℕ) → touched old new g ≡ true

@@ -1,11 +1,10 @@
 -- Lists in one list of numbers w: counts that are lowered by what a stretch names, and for each of n things a stretch. Assumes nothing.
-use denote.Slice.{shr_slice_at}
 use Rattle.std.specs.Prelude.{◌≡◌, refl, Bool, true, false, cond, List, ℕ, suc, ◌+◌, ◌-◌, ◌≤◌, ◌<◌, eqb, length, get_or, set}
 use Rattle.std.proofs.Common.{sym, ap, ◌∙◌, subst, inr, add-one, arith, length-set, get_or-set_same, get_or-set_other, eqb-true, eq-eqb}
 use Rattle.std.proofs.Math.Seq.{slice, slice_empty, slice-cons, length-slice}
 use Rattle.std.proofs.lemmas.Bool.{eqb-false}
 use Rattle.lists.specs.Lists.{bit, times}
-use Rattle.lists.specs.InLaws.{in_get_d, in_times}
+use Rattle.lists.specs.InLaws.{in-get_or, in_times}
 use Rattle.lists.specs.FrameLaws.{Framed, framed_none, framed_then, framed_set}
 use Rattle.sorting_spec.specs.PartLaws.{at-slice, slice-same}
 
@@ -24,8 +23,8 @@ times_end w p e y h = rw (h, slice_empty e w)
 pub times-at : (w : List ℕ) (a p e : ℕ) → a ≤ p → p < e → e ≤ length w → 0 < times (get_or w p 0) (slice a e w)
 times-at w a p e h k l =
     let z : a + (p - a) ≡ p = omega arith in
-    let here : get_or (slice a e w) (p - a) 0 ≡ get_or w p 0 = shr_slice_at a e w (p - a) (omega arith) ∙ ap (λ (i : ℕ). get_or w i 0) z in
-    in_times (get_or w p 0) (slice a e w) (rw here at (in_get_d 0 (slice a e w) (p - a) (omega (arith, length-slice a e w l))))
+    let here : get_or (slice a e w) (p - a) 0 ≡ get_or w p 0 = at_slice a e w (p - a) (omega arith) ∙ ap (λ (i : ℕ). get_or w i 0) z in
+    in_times (get_or w p 0) (slice a e w) (rw here at (in-get_or 0 (slice a e w) (p - a) (omega (arith, length-slice a e w l))))
 
 -- ---- lowering the counts under n by the entries of w₀ from a up to e
 

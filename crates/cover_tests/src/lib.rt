@@ -1,4 +1,6 @@
 // The tests of the cover and of its update. No entries: only crates of this repository call these.
+#![tactic(auto)]
+
 mod tests;
 mod update_tests;
 

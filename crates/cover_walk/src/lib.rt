@@ -2,6 +2,8 @@
 // repository call these.
 //
 // A parameter that a body only hands on says of which edges, or of which tables, the contract speaks.
+#![tactic(auto)]
+
 mod covering;
 mod marking;
 mod running;

@@ -1,4 +1,6 @@
 // Digests gathered into groups of the same position, decoy flag and letters.
+#![tactic(auto)]
+
 mod grouping;
 mod tests;
 

@@ -1,1 +1,2 @@
 // No code: what the groups of digests are stands in specs.
+#![tactic(auto)]

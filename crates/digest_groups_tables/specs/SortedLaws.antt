@@ -1,11 +1,10 @@
 -- Sorted numbers of digests: the tables, sorted, have the gathered digests as runs. Assumes nothing.
-use denote.Slice.{shr_slice_at}
 use Rattle.std.specs.Prelude.{ℕ, ◌+◌, ◌-◌, ◌*◌, ◌≤◌, ◌<◌, ◌≡◌, Bool, cond, List, map, length, get_or, drop}
 use Rattle.std.proofs.Common.{sym, ap, ap₂, ◌∙◌, subst, arith, ext_get_or}
 use Rattle.std.proofs.Math.Seq.{slice, length-slice}
 use Rattle.lists.specs.Lists.{up_from}
-use Rattle.lists.specs.InLaws.{in_get_d}
-use Rattle.lists.specs.RowLaws.{length_up, get_d_up, up_in}
+use Rattle.lists.specs.InLaws.{in-get_or}
+use Rattle.lists.specs.RowLaws.{length_up, get_or_up, up_in}
 use Rattle.sorting_texts.specs.declared.text.By.TheVariants.{Spelled}
 use Rattle.sorting_spec.specs.Sort.{sorted}
 use Rattle.sorting_spec.specs.SortLaws.{sorted_in, length-sorted}
@@ -30,7 +29,7 @@ module _ (bounds letters bytes : List ℕ) (n : ℕ) (w : List ℕ) (g : GoodDig
       (λ i h.
       let k : i < n = omega arith in
       let z : 0 + i ≡ i = omega arith in
-      shr_slice_at 0 n w i (omega arith) ∙ ap (λ (j : ℕ). get_or w j 0) z ∙ t.order i k ∙ sym (get_d_up 0 n i k ∙ z))
+      at_slice 0 n w i (omega arith) ∙ ap (λ (j : ℕ). get_or w j 0) z ∙ t.order i k ∙ sym (get_or_up 0 n i k ∙ z))
 
   abbrev new : List ℕ
   new = arranged (Spelled n) letters 0 n n (2 * n) w
@@ -48,8 +47,8 @@ module _ (bounds letters bytes : List ℕ) (n : ℕ) (w : List ℕ) (g : GoodDig
   below i a h =
       let z : 0 + i ≡ i = omega arith in
       let m : length (sorted order (up_from 0 n)) ≡ n = length-sorted order (up_from 0 n) ∙ length_up 0 n in
-      let e : get_or (sorted order (up_from 0 n)) i 0 ≡ get_or new i 0 = ap (λ (s : List ℕ). get_or s i 0) (sym sorts) ∙ shr_slice_at 0 n new i (omega arith) ∙ ap (λ (j : ℕ). get_or new j 0) z in
-      let r = up_in (get_or (sorted order (up_from 0 n)) i 0) 0 n (sorted_in order (get_or (sorted order (up_from 0 n)) i 0) (up_from 0 n) (in_get_d 0 (sorted order (up_from 0 n)) i (omega arith))) in
+      let e : get_or (sorted order (up_from 0 n)) i 0 ≡ get_or new i 0 = ap (λ (s : List ℕ). get_or s i 0) (sym sorts) ∙ at_slice 0 n new i (omega arith) ∙ ap (λ (j : ℕ). get_or new j 0) z in
+      let r = up_in (get_or (sorted order (up_from 0 n)) i 0) 0 n (sorted_in order (get_or (sorted order (up_from 0 n)) i 0) (up_from 0 n) (in-get_or 0 (sorted order (up_from 0 n)) i (omega arith))) in
       omega (arith, r.1)
 
   pub sorted-tables : (w' : List ℕ) → w' ≡ cond (fitting 0 n n (2 * n) (length w)) (arranged (Spelled n) letters 0 n n (2 * n) w) w → DigestsSorted bounds letters bytes n w'

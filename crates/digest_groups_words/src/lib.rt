@@ -1,4 +1,6 @@
 // What digests are sorted by, in tables of lent work memory. Only crates of this repository call this.
+#![tactic(auto)]
+
 mod spelling;
 mod words;
 

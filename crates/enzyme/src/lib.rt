@@ -1,4 +1,6 @@
 // Digestion: the digests of a protein, their reversal, and their letters.
+#![tactic(auto)]
+
 mod digesting;
 
 pub use digest_groups::group_digests;

@@ -1,5 +1,7 @@
 // Where an enzyme cuts a protein, and whether two stretches of letters are the same. Only crates of this repository
 // call these.
+#![tactic(auto)]
+
 mod kinds;
 mod scan;
 mod stretch;

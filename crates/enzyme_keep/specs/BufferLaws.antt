@@ -10,7 +10,7 @@ use Rattle.std.proofs.lemmas.List.Edits.{sets-eq}
 use Rattle.std.proofs.lemmas.List.{get_or_at, set_comm}
 use Rattle.lists.specs.Tests.{below?}
 use Rattle.records.specs.Le.{le, value, number_at}
-use Rattle.records.specs.LeLaws.{sets_append, value-le, length-le, Apart, get_d_sets_other, number_apart}
+use Rattle.records.specs.LeLaws.{sets_append, value-le, length-le, Apart, get_or-sets_other, number_apart}
 use Rattle.enzyme_cuts.specs.Cutting.{Range, range}
 use Rattle.enzyme_cuts.specs.Work.{RangesWithin}
 use Rattle.enzyme_keep.specs.Digests.{position_of, record_of}
@@ -106,8 +106,8 @@ range_apart : (vs out : List ℕ) (i at : ℕ) → Apart at 10 i (length vs) →
 range_apart vs out i at x =
     let a = number_apart 4 vs out i at (narrow at 10 at 4 i (length vs) (omega arith) (omega arith) x) in
     let b = number_apart 4 vs out i (at + 4) (narrow at 10 (at + 4) 4 i (length vs) (omega arith) (omega arith) x) in
-    let c = get_d_sets_other vs out i (at + 8) (narrow at 10 (at + 8) 1 i (length vs) (omega arith) (omega arith) x) in
-    let d = get_d_sets_other vs out i (at + 9) (narrow at 10 (at + 9) 1 i (length vs) (omega arith) (omega arith) x) in
+    let c = get_or-sets_other vs out i (at + 8) (narrow at 10 (at + 8) 1 i (length vs) (omega arith) (omega arith) x) in
+    let d = get_or-sets_other vs out i (at + 9) (narrow at 10 (at + 9) 1 i (length vs) (omega arith) (omega arith) x) in
     λ k. range (a k) (b k) (c k) (d k)
 
 ranges_apart : (vs out : List ℕ) (i k : ℕ) → ((j : ℕ) → j < k → Apart (20 * j) 10 i (length vs)) → ranges_in k (sets out i vs) ≡ ranges_in k out

@@ -1,5 +1,7 @@
 // Digest records of a lent buffer: written where a range is new and there is room, tested, and sealed with the protein's
 // number. Only crates of this repository call these.
+#![tactic(auto)]
+
 mod fields;
 mod offering;
 mod record;

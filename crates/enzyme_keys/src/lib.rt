@@ -1,4 +1,6 @@
 // What sites are sorted by, and the tables that it is read from. Only crates of this repository call these.
+#![tactic(auto)]
+
 mod keys;
 mod reading;
 

@@ -10,7 +10,7 @@ use Rattle.lists.specs.Tests.{below?, same?, truth?}
 use Rattle.lists.specs.Lists.{same}
 use Rattle.lists.specs.SameLaws.{same_refl, same-eq}
 use Rattle.records.specs.Le.{le, value, number_at}
-use Rattle.records.specs.LeLaws.{Apart, get_d_sets_other}
+use Rattle.records.specs.LeLaws.{Apart, get_or-sets_other}
 use Rattle.enzyme_cuts.specs.Cutting.{Range, site, part, seen_in, within}
 use Rattle.enzyme_cuts.specs.KeepLaws.{seen_in_append}
 use Rattle.enzyme_keep.specs.declared.offering.Terms.{Terms}
@@ -29,7 +29,7 @@ bytes_apart (suc w) vs s at j h = go (below? j (length s)) (bytes_apart w vs s a
     go : (j < length s) ⊎ (length s ≤ j) → take w (drop (suc j) (sets s at vs)) ≡ take w (drop (suc j) s) → take (suc w) (drop j (sets s at vs)) ≡ take (suc w) (drop j s)
     go (inl x) ih =
         let l = length-sets s at vs in
-        let e : get_or (sets s at vs) j 0 ≡ get_or s j 0 = get_d_sets_other vs s at j (⊎_elim (λ (y : j + suc w ≤ at). inl (omega arith)) (λ (y : at + length vs ≤ j). inr (omega arith)) h) in
+        let e : get_or (sets s at vs) j 0 ≡ get_or s j 0 = get_or-sets_other vs s at j (⊎_elim (λ (y : j + suc w ≤ at). inl (omega arith)) (λ (y : at + length vs ≤ j). inr (omega arith)) h) in
         rw (drop-cons (sets s at vs) j 0 (omega arith), drop-cons s j 0 x) (ap₂ (λ (b : ℕ) (bs : List ℕ). b ∷ bs) e ih)
     go (inr x) ih =
         let l = length-sets s at vs in

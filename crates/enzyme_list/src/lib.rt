@@ -1,5 +1,7 @@
 // Records in a list that rises by length and letters: a range is sought in it, and counted where it is found or linked into it. Only crates of this
 // repository call these.
+#![tactic(auto)]
+
 mod counting;
 mod linking;
 mod offering;

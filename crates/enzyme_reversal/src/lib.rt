@@ -1,4 +1,6 @@
 // Reversal of digests and of their records, and the letters of a record. The crate enzyme gives these to callers.
+#![tactic(auto)]
+
 mod reversal;
 mod spelling;
 

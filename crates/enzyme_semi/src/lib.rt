@@ -1,5 +1,7 @@
 // Windows of neighbouring sites, and the parts of those of one size, offered by the table of starts. Only crates of this repository call
 // these.
+#![tactic(auto)]
+
 mod owns;
 mod weighing;
 mod windows;

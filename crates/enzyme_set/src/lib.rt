@@ -1,4 +1,6 @@
 // The ranges of a set without semi, with tables of three sizes on the stack. Only crates of this repository call these.
+#![tactic(auto)]
+
 mod tables;
 mod windows;
 

@@ -1,4 +1,6 @@
 // Where the sites of a knife start. Only crates of this repository call this.
+#![tactic(auto)]
+
 mod scan;
 
 pub use scan::sites;

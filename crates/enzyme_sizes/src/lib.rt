@@ -1,5 +1,7 @@
 // The parts of the windows of a set, level by level: the tables of a level tell what its windows stand for. Only crates of this
 // repository call these.
+#![tactic(auto)]
+
 mod levels;
 mod sizes;
 

@@ -1,4 +1,6 @@
 // The ways to the digests of a protein, by the enzyme and by how long the protein is. Only crates of this repository call this.
+#![tactic(auto)]
+
 mod ends;
 mod reading;
 mod ways;

@@ -1,4 +1,6 @@
 // How many equal windows a window stands for, read off the tables of a level. Only crates of this repository call these.
+#![tactic(auto)]
+
 mod weights;
 
 pub use weights::new_weight;

@@ -1,4 +1,6 @@
 // Reads sequence files (FASTA): an entry at a place of lent bytes.
+#![tactic(auto)]
+
 mod entry;
 mod naming;
 mod reading;

@@ -1,4 +1,6 @@
 // Lines of a sequence file: where entries end, runs of bytes, and lines put together. Only crates of this repository call these.
+#![tactic(auto)]
+
 mod entries;
 mod runs;
 mod together;

@@ -9,6 +9,8 @@
 // one line says why not, with the number and the place in the file that documents 01 and 02 give. It may be of any size, as it is read
 // in windows. The program holds 32,768 entries, 262,144 bytes of each and 65,536 digests of each, and says so where that is too
 // little: the library itself works in whatever memory it is lent.
+#![tactic(auto)]
+
 mod listing;
 
 use fasta_listing_names::say;

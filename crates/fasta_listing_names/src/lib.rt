@@ -1,4 +1,6 @@
 // The first reading of a sequence file, which tells whether it is taken before anything is printed of it. Only fasta_listing calls these.
+#![tactic(auto)]
+
 mod reading;
 mod saying;
 mod steps;

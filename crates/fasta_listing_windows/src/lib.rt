@@ -1,4 +1,6 @@
 // A sequence file of any size, read piece by piece into one buffer. Only fasta_listing and its parts call these.
+#![tactic(auto)]
+
 mod filling;
 mod pieces;
 

@@ -83,9 +83,9 @@ letter_is b e =
 
 -- ---- stretches
 
-pub get_d_capitals : (s : List ℕ) (i : ℕ) → slice_index (capitals s) i ≡ capital (slice_index s i)
+pub get_or-capitals : (s : List ℕ) (i : ℕ) → slice_index (capitals s) i ≡ capital (slice_index s i)
 unfolding capital
-get_d_capitals s i = get_or-map capital s i 0
+get_or-capitals s i = get_or-map capital s i 0
 
 pub capitals_twice : (s : List ℕ) → capitals (capitals s) ≡ capitals s
 capitals_twice [] = refl
@@ -102,4 +102,4 @@ capitals-same s e = go s (some-none is_small s e)
 
 -- what has at each place what a list reads as there is the list as capitals
 pub capitals_is : (s out : List ℕ) → length out ≡ length s → ((j : ℕ) → j < length s → slice_index out j ≡ capital (slice_index s j)) → out ≡ capitals s
-capitals_is s out l h = ext_get_or 0 out (capitals s) (l ∙ sym (length-map s capital)) (λ j g. h j (omega arith) ∙ sym (get_d_capitals s j))
+capitals_is s out l h = ext_get_or 0 out (capitals s) (l ∙ sym (length-map s capital)) (λ j g. h j (omega arith) ∙ sym (get_or-capitals s j))

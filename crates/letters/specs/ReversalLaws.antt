@@ -7,9 +7,9 @@ use Rattle.std.proofs.lemmas.List.{length-map}
 use Rattle.std.proofs.Math.ListN.{length-reverse, get_or-append, get_or-eq_default}
 use Rattle.std.proofs.Math.Seq.{get_or-take, get_or-drop, get_or-append-add, length-take-le}
 use Rattle.lists.specs.Tests.{below?, both}
-use Rattle.lists.specs.ReverseLaws.{get_d_reverse}
+use Rattle.lists.specs.ReverseLaws.{get_or-reverse}
 use Rattle.letters.specs.Letters.{capital, capitals}
-use Rattle.letters.specs.CapitalLaws.{get_d_capitals, capitals_is}
+use Rattle.letters.specs.CapitalLaws.{get_or-capitals, capitals_is}
 use Rattle.letters.specs.Reversal.{reversed, letters_of}
 
 -- ---- the letters of a reversed list
@@ -34,7 +34,7 @@ module _ (b : ℕ) (bs : List ℕ) where
   inner_at y h =
       let t : length (take k bs) ≡ k = length-take-le k bs (omega arith) in
       get_or-append (reverse (take k bs)) (drop k bs) 0 y (omega (arith, front))
-      ∙ get_d_reverse (take k bs) y (omega (arith, t))
+      ∙ get_or-reverse (take k bs) y (omega (arith, t))
       ∙ ap (λ (n : ℕ). slice_index (take k bs) (n - 1 - y)) t
       ∙ get_or-take k bs (k - 1 - y) 0 (omega arith)
 
@@ -78,13 +78,13 @@ capitals-reversed s =
     sym (capitals_is (reversed s) (reversed (capitals s)) (length-reversed (capitals s) ∙ n ∙ sym (length-reversed s)) (λ j g. at j (omega (arith, length-reversed s)) (below? 0 j) (below? (j + 1) (length s))))
   where
     at : (j : ℕ) → j < length s → (0 < j) ⊎ (j ≤ 0) → (j + 1 < length s) ⊎ (length s ≤ j + 1) → slice_index (reversed (capitals s)) j ≡ capital (slice_index (reversed s) j)
-    at j g (inr z) e = let f : j ≡ 0 = omega arith in rw f (reversed-first (capitals s) ∙ get_d_capitals s 0 ∙ ap capital (sym (reversed-first s)))
+    at j g (inr z) e = let f : j ≡ 0 = omega arith in rw f (reversed-first (capitals s) ∙ get_or-capitals s 0 ∙ ap capital (sym (reversed-first s)))
     at j g (inl o) (inr e) =
-        reversed-last (capitals s) j (omega (arith, length-map s capital)) ∙ get_d_capitals s j ∙ ap capital (sym (reversed-last s j (omega arith)))
+        reversed-last (capitals s) j (omega (arith, length-map s capital)) ∙ get_or-capitals s j ∙ ap capital (sym (reversed-last s j (omega arith)))
     at j g (inl o) (inl e) =
         reversed_inner (capitals s) j o (omega (arith, length-map s capital))
         ∙ ap (λ (n : ℕ). slice_index (capitals s) (n - 1 - j)) (length-map s capital)
-        ∙ get_d_capitals s (length s - 1 - j)
+        ∙ get_or-capitals s (length s - 1 - j)
         ∙ ap capital (sym (reversed_inner s j o e))
 
 -- ---- one letter of a range
@@ -95,16 +95,16 @@ length-letters false part = length-map part capital
 pub letter_inner : (decoy : Bool) (part : List ℕ) (i : ℕ) → (decoy && nat_lt 0 i && nat_lt (i + 1) (length part)) ≡ true → slice_index (letters_of decoy part) i ≡ capital (slice_index part (length part - 1 - i))
 letter_inner true part i e =
     let x = both (nat_lt 0 i) (nat_lt (i + 1) (length part)) e in
-    get_d_capitals (reversed part) i ∙ ap capital (reversed_inner part i (ltb-true _ _ x.0) (ltb-true _ _ x.1))
+    get_or-capitals (reversed part) i ∙ ap capital (reversed_inner part i (ltb-true _ _ x.0) (ltb-true _ _ x.1))
 letter_inner false part i e = absurd (true≢false (sym e))
 
 pub letter_outer : (decoy : Bool) (part : List ℕ) (i : ℕ) → i < length part → (decoy && nat_lt 0 i && nat_lt (i + 1) (length part)) ≡ false → slice_index (letters_of decoy part) i ≡ capital (slice_index part i)
-letter_outer true part i h e = get_d_capitals (reversed part) i ∙ ap capital (go (nat_lt 0 i) refl e)
+letter_outer true part i h e = get_or-capitals (reversed part) i ∙ ap capital (go (nat_lt 0 i) refl e)
   where
     go : (b : Bool) → nat_lt 0 i ≡ b → (b && nat_lt (i + 1) (length part)) ≡ false → slice_index (reversed part) i ≡ slice_index part i
     go true f g = reversed-last part i (omega (arith, ltb-false (i + 1) (length part) g))
     go false f g = let z : i ≡ 0 = omega (arith, ltb-false 0 i f) in rw z (reversed-first part)
-letter_outer false part i h e = get_d_capitals part i
+letter_outer false part i h e = get_or-capitals part i
 
 pub letter_past : (decoy : Bool) (part : List ℕ) (i : ℕ) → length part ≤ i → slice_index (letters_of decoy part) i ≡ 0
 letter_past decoy part i h = get_or-eq_default (letters_of decoy part) 0 (omega (arith, length-letters decoy part))

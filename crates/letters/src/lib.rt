@@ -1,4 +1,6 @@
 // Letters, sets of letters, and stretches of letters.
+#![tactic(auto)]
+
 mod letter_set;
 mod reversal;
 mod stretch;

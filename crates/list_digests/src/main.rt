@@ -8,6 +8,8 @@
 // small letters read as capitals, in sets and in the protein.
 // A refusal is written with document 01's number and place. It holds 131,071 bytes of input and 131,072 digests, and
 // says so where that is too little: the library itself writes into whatever buffer it is lent.
+#![tactic(auto)]
+
 mod text;
 
 ghost use Rattle.std.specs.Prelude.{◌≡◌, length};

@@ -4,7 +4,7 @@ use Rattle.std.proofs.Common.{sym, ap, ◌∙◌, inl, inr, arith, eqb-true, eq-
 use Rattle.std.proofs.lemmas.Bool.{eqb-false}
 use Rattle.lists.specs.Tests.{clash}
 use Rattle.lists.specs.Lists.{In, occurs, times}
-use Rattle.lists.specs.InLaws.{in_get_d, in_times}
+use Rattle.lists.specs.InLaws.{in-get_or, in_times}
 use Rattle.lists.specs.KeyLaws.{of_key, by_keys, below, Under, below_suc, below-zero, below_all}
 
 -- where k first stands in a list
@@ -209,12 +209,12 @@ place_at (y ∷ ys) (suc i) h s = go (eqb y (get_or ys i 0)) s (place_at ys i (o
   where
     go : (t : Bool) → cond t (suc (times (get_or ys i 0) ys)) (times (get_or ys i 0) ys) ≤ 1 → (times (get_or ys i 0) ys ≤ 1 → first_at (get_or ys i 0) ys ≡ i)
         → cond t 0 (suc (first_at (get_or ys i 0) ys)) ≡ suc i
-    go true s r = absurd (omega (arith, in_times (get_or ys i 0) ys (in_get_d 0 ys i (omega arith))))
+    go true s r = absurd (omega (arith, in_times (get_or ys i 0) ys (in-get_or 0 ys i (omega arith))))
     go false s r = ap suc (r s)
 
-pub get_d_place : (x : ℕ) (l : List ℕ) → In x l → get_or l (first_at x l) 0 ≡ x
-get_d_place x [] h = absurd h
-get_d_place x (y ∷ ys) h = go (eqb y x) refl h (get_d_place x ys)
+pub get_or_place : (x : ℕ) (l : List ℕ) → In x l → get_or l (first_at x l) 0 ≡ x
+get_or_place x [] h = absurd h
+get_or_place x (y ∷ ys) h = go (eqb y x) refl h (get_or_place x ys)
   where
     go : (t : Bool) → eqb y x ≡ t → (x ≡ y) ⊎ In x ys → (In x ys → get_or ys (first_at x ys) 0 ≡ x) → get_or (y ∷ ys) (cond t 0 (suc (first_at x ys))) 0 ≡ x
     go true e h r = eqb-true y x e

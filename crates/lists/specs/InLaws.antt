@@ -51,21 +51,21 @@ module _ {A B : Type 0} (f : A → B) where
   map_in y (x ∷ xs) (inr k) = let (z, i, e) = map_in y xs k in (z, inr i, e)
 
 module _ {A : Type 0} (d : A) where
-  pub in_get_d : (l : List A) (i : ℕ) → i < length l → In (get_or l i d) l
-  in_get_d [] i h = absurd (omega arith)
-  in_get_d (x ∷ xs) zero h = inl refl
-  in_get_d (x ∷ xs) (suc i) h = inr (in_get_d xs i (omega arith))
+  pub in-get_or : (l : List A) (i : ℕ) → i < length l → In (get_or l i d) l
+  in-get_or [] i h = absurd (omega arith)
+  in-get_or (x ∷ xs) zero h = inl refl
+  in-get_or (x ∷ xs) (suc i) h = inr (in-get_or xs i (omega arith))
 
-  pub get_d_in : (x : A) (l : List A) → In x l → (i : ℕ) × (i < length l) × (get_or l i d ≡ x)
-  get_d_in x [] h = absurd h
-  get_d_in x (y ∷ ys) (inl e) = (0, omega arith, sym e)
-  get_d_in x (y ∷ ys) (inr k) = let (i, l, e) = get_d_in x ys k in (suc i, omega arith, e)
+  pub get_or_in : (x : A) (l : List A) → In x l → (i : ℕ) × (i < length l) × (get_or l i d ≡ x)
+  get_or_in x [] h = absurd h
+  get_or_in x (y ∷ ys) (inl e) = (0, omega arith, sym e)
+  get_or_in x (y ∷ ys) (inr k) = let (i, l, e) = get_or_in x ys k in (suc i, omega arith, e)
 
 -- the place of what a map makes
-pub get_d_mapped : (f : ℕ → ℕ) (l : List ℕ) (i : ℕ) → i < length l → get_or (map f l) i 0 ≡ f (get_or l i 0)
-get_d_mapped f [] i h = absurd (omega arith)
-get_d_mapped f (x ∷ xs) zero h = refl
-get_d_mapped f (x ∷ xs) (suc i) h = get_d_mapped f xs i (omega arith)
+pub get_or_mapped : (f : ℕ → ℕ) (l : List ℕ) (i : ℕ) → i < length l → get_or (map f l) i 0 ≡ f (get_or l i 0)
+get_or_mapped f [] i h = absurd (omega arith)
+get_or_mapped f (x ∷ xs) zero h = refl
+get_or_mapped f (x ∷ xs) (suc i) h = get_or_mapped f xs i (omega arith)
 
 -- a list without places
 pub no_places : {A : Type 0} (l : List A) → length l ≡ 0 → l ≡ []
@@ -146,12 +146,12 @@ times_in x l h =
 pub different-at : (l : List ℕ) → Different l → (i j : ℕ) → i < j → j < length l → get_or l i 0 ≡ get_or l j 0 → ⊥
 different-at [] o i j h k e = omega arith
 different-at (x ∷ xs) o i zero h k e = omega arith
-different-at (x ∷ xs) o zero (suc j) h k e = o.0 (rw e (in_get_d 0 xs j (omega arith)))
+different-at (x ∷ xs) o zero (suc j) h k e = o.0 (rw e (in-get_or 0 xs j (omega arith)))
 different-at (x ∷ xs) o (suc i) (suc j) h k e = different-at xs o.1 i j (omega arith) (omega arith) e
 
 pub at-different : (l : List ℕ) → ((i j : ℕ) → i < j → j < length l → get_or l i 0 ≡ get_or l j 0 → ⊥) → Different l
 at-different [] a = tt
 at-different (x ∷ xs) a = (
-  λ h. let r = get_d_in 0 x xs h in a 0 (suc r.0) (omega arith) (omega (arith, r.1)) (sym r.2),
+  λ h. let r = get_or_in 0 x xs h in a 0 (suc r.0) (omega arith) (omega (arith, r.1)) (sym r.2),
   at-different xs (λ i j h k e. a (suc i) (suc j) (omega arith) (omega arith) e),
 )

@@ -6,9 +6,9 @@ use Rattle.std.proofs.lemmas.List.{length-reverse, get_or_at}
 use Rattle.std.proofs.Math.ListN.{get_or-append}
 use Rattle.lists.specs.Tests.{below?}
 
-pub get_d_reverse : (l : List ℕ) (i : ℕ) → i < length l → get_or (reverse l) i 0 ≡ get_or l (length l - 1 - i) 0
-get_d_reverse [] i h = absurd (omega arith)
-get_d_reverse (x ∷ l) i h = ⊎_elim (λ (g : i < length l). inner g (get_d_reverse l i g)) last (below? i (length l))
+pub get_or-reverse : (l : List ℕ) (i : ℕ) → i < length l → get_or (reverse l) i 0 ≡ get_or l (length l - 1 - i) 0
+get_or-reverse [] i h = absurd (omega arith)
+get_or-reverse (x ∷ l) i h = ⊎_elim (λ (g : i < length l). inner g (get_or-reverse l i g)) last (below? i (length l))
   where
     inner : i < length l → get_or (reverse l) i 0 ≡ get_or l (length l - 1 - i) 0 → get_or (reverse (x ∷ l)) i 0 ≡ get_or (x ∷ l) (suc (length l) - 1 - i) 0
     inner g ih =

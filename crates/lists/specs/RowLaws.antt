@@ -7,10 +7,10 @@ pub length_up : (a k : ℕ) → length (up_from a k) ≡ k
 length_up a zero = refl
 length_up a (suc k) = ap suc (length_up (suc a) k)
 
-pub get_d_up : (a k i : ℕ) → i < k → get_or (up_from a k) i 0 ≡ a + i
-get_d_up a zero i h = absurd (omega arith)
-get_d_up a (suc k) zero h = omega arith
-get_d_up a (suc k) (suc i) h = get_d_up (suc a) k i (omega arith) ∙ omega arith
+pub get_or_up : (a k i : ℕ) → i < k → get_or (up_from a k) i 0 ≡ a + i
+get_or_up a zero i h = absurd (omega arith)
+get_or_up a (suc k) zero h = omega arith
+get_or_up a (suc k) (suc i) h = get_or_up (suc a) k i (omega arith) ∙ omega arith
 
 -- what stands among a, a + 1, .. , k numbers
 pub in_up : (i a k : ℕ) → a ≤ i → i < a + k → In i (up_from a k)

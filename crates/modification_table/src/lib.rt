@@ -1,4 +1,6 @@
 // The table of modifications.
+#![tactic(auto)]
+
 mod table;
 
 pub use table::{Entered, insert};

@@ -1,4 +1,6 @@
 // Rule texts.
+#![tactic(auto)]
+
 mod text;
 
 pub use text::{Parsed, parse, write};

@@ -19,7 +19,7 @@ use Rattle.records.specs.declared.refusal.Tested.{Tested}
 use Rattle.records.specs.Search.{seek}
 use Rattle.records.specs.SearchLaws.{seek-passes}
 use Rattle.letters.specs.Letters.{capital, capitals, is_letter, no_letter, first_bad}
-use Rattle.letters.specs.CapitalLaws.{other_reads, letter_capital, get_d_capitals}
+use Rattle.letters.specs.CapitalLaws.{other_reads, letter_capital, get_or-capitals}
 use Rattle.peptide_slots.specs.Mirror.{mirror, all_zero}
 use Rattle.peptide_slots.specs.MirrorLaws.{MirroredTo, until, mirror-turned}
 use Rattle.peptide_slots.specs.Windows.{window}
@@ -74,12 +74,12 @@ module _ (part : List ℕ) (some : 1 ≤ length part) (fits : length part ≤ 64
       ∙ length-take-le 64 (part ++ replicate 64 0) (omega (arith, length-append part (replicate 64 0), length-replicate {A = ℕ} 64 0))
 
   held_in : (k : ℕ) → k < length part → get_or held k 0 ≡ capital (get_or part k 0)
-  held_in k h = get_d_capitals (window 64 0 part) k ∙ ap capital (get_or-take 64 (part ++ replicate 64 0) k 0 (omega arith) ∙ get_or-append part (replicate 64 0) 0 k h)
+  held_in k h = get_or-capitals (window 64 0 part) k ∙ ap capital (get_or-take 64 (part ++ replicate 64 0) k 0 (omega arith) ∙ get_or-append part (replicate 64 0) 0 k h)
 
   held-past : ZeroFrom (length part) held
   held-past k h g =
       let e : length part + (k - length part) ≡ k = omega arith in
-      get_d_capitals (window 64 0 part) k
+      get_or-capitals (window 64 0 part) k
       ∙ ap capital
       (get_or-take 64 (part ++ replicate 64 0) k 0 g
       ∙ ap (λ (i : ℕ). get_or (part ++ replicate 64 0) i 0) (sym e)

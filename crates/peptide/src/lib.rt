@@ -1,4 +1,6 @@
 // Peptides: made from a part of a protein or a digest record, weighed, reversed, and their forms.
+#![tactic(auto)]
+
 mod digested;
 mod listing;
 mod making;

@@ -30,6 +30,7 @@ Rising (c ∷ cs) = All (Earlier c) cs × Rising cs
 
 module _ {A : Type 0} (P : A → Type 0) where
   pub all_in : (x : A) (xs : List A) → All P xs → In x xs → P x
+  all_in x [] h x3 = elim x3 [ ]
   all_in x (y ∷ ys) h (inl e) = subst P (sym e) h.0
   all_in x (y ∷ ys) h (inr i) = all_in x ys h.1 i
 

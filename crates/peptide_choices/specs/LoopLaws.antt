@@ -78,4 +78,5 @@ pub left-wide : {m n : ℕ} {s : Stepped} {xs : List (List ℕ)} → ChoicesLeft
 left-wide {m} {n} {s} {xs} l e = go xs (rw e at l.chain) l.all
   where
     go : (ys : List (List ℕ)) → Chain m (some (word_in s)) ys none → AllLen n ys → length (word_in s) ≡ n
+    go [] x'' p = elim x'' [ ]
     go (c ∷ ys) (go_on d) p = p.0

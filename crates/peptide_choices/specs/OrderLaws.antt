@@ -91,10 +91,10 @@ chain_choices (suc n) (suc len) lo = block n len lo (chain_choices n len (suc lo
 
 pub chain_walk : {m : ℕ} {o : Option (List ℕ)} {xs : List (List ℕ)} (fuel : ℕ) → Chain m o xs none → length xs ≤ fuel → steps_from m fuel o ≡ xs
 unfolding steps_from
-chain_walk zero stop h = refl
-chain_walk (suc fuel) stop h = refl
-chain_walk zero (go_on d) h = absurd (not-suc-le-zero h)
-chain_walk (suc fuel) (go_on {c = c} d) h = ap (λ (z : List (List ℕ)). c ∷ z) (chain_walk fuel d (le_of_suc-le-suc h))
+chain_walk {m = m} zero stop h = refl
+chain_walk {m = m} (suc fuel) stop h = refl
+chain_walk {m = m} zero (go_on d) h = absurd (not-suc-le-zero h)
+chain_walk {m = m} (suc fuel) (go_on {c = c} d) h = ap (λ (z : List (List ℕ)). c ∷ z) (chain_walk {o = choice_after m c} fuel d (le_of_suc-le-suc h))
 
 pub chain_first : (n m : ℕ) → Chain m (first_of n m) (choices_of n m 0) none
 unfolding first_of first_from

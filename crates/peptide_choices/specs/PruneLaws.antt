@@ -80,6 +80,7 @@ pub record Cut (m e : ℕ) (c : List ℕ) (xs : List (List ℕ)) : Type 0 where
   pub chain : Chain m (past m e c) rest none
 
 pub cut : {m : ℕ} (e : ℕ) {c : List ℕ} (xs : List (List ℕ)) → Chain m (some c) xs none → Cut m e c xs
+cut {m = m} e {c = c} [] x' = elim x' [ ]
 cut {m} e {c} (c₁ ∷ xs) (go_on d) = ⊎_elim here (λ w. more w (cut e xs (subst (λ (o : Option (List ℕ)). Chain m o xs none) w.next d))) (step m e c)
   where
     here : choice_after m c ≡ past m e c → Cut m e c (c ∷ xs)

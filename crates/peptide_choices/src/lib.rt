@@ -1,4 +1,6 @@
 // The counter of choices.
+#![tactic(auto)]
+
 mod choice;
 
 pub use choice::{Choice, Stepped};

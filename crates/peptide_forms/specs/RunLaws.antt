@@ -65,11 +65,11 @@ unfolding packed_chosen
 length-chosen sites [] = refl
 length-chosen sites (k ∷ c) = ap suc (length-chosen sites c)
 
-get_d_chosen : (sites c : List ℕ) (i : ℕ) → i < length c → get_or (packed_chosen sites c) i 0 ≡ get_or sites (get_or c i 0) 0
+get_or-chosen : (sites c : List ℕ) (i : ℕ) → i < length c → get_or (packed_chosen sites c) i 0 ≡ get_or sites (get_or c i 0) 0
 unfolding packed_chosen
-get_d_chosen sites [] i h = absurd (omega arith)
-get_d_chosen sites (k ∷ c) zero h = refl
-get_d_chosen sites (k ∷ c) (suc i) h = get_d_chosen sites c i (omega arith)
+get_or-chosen sites [] i h = absurd (omega arith)
+get_or-chosen sites (k ∷ c) zero h = refl
+get_or-chosen sites (k ∷ c) (suc i) h = get_or-chosen sites c i (omega arith)
 
 -- one more of the chosen sites
 pub chosen_on : (rules form sites xs : List ℕ) (n j site : ℕ) → n ≤ length xs → j < n → site ≡ get_or sites (get_or xs j 0) 0
@@ -77,7 +77,7 @@ pub chosen_on : (rules form sites xs : List ℕ) (n j site : ℕ) → n ≤ leng
 chosen_on rules form sites xs n j site l h e =
     let k : length (take n xs) ≡ n = length-take-le n xs l in
     let m : length (packed_chosen sites (take n xs)) ≡ length (take n xs) = length-chosen sites (take n xs) in
-    let g : get_or (packed_chosen sites (take n xs)) j 0 ≡ site = get_d_chosen sites (take n xs) j (omega arith) ∙ ap (λ (z : ℕ). get_or sites z 0) (get_or-take n xs j 0 h) ∙ sym e in
+    let g : get_or (packed_chosen sites (take n xs)) j 0 ≡ site = get_or-chosen sites (take n xs) j (omega arith) ∙ ap (λ (z : ℕ). get_or sites z 0) (get_or-take n xs j 0 h) ∙ sym e in
     ap (λ (z : ℕ). apply rules (fill_site rules form z) (drop (j + 1) (packed_chosen sites (take n xs)))) (sym g)
     ∙ apply-on rules form (packed_chosen sites (take n xs)) j (omega arith)
 

@@ -1,4 +1,6 @@
 // Which choices of sites make forms, and the listing of those forms.
+#![tactic(auto)]
+
 mod listing;
 mod passing;
 

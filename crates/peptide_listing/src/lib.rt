@@ -1,4 +1,6 @@
 // The lists that a peptide's forms go by, tested, and the forms listed. Only crates of this repository call these.
+#![tactic(auto)]
+
 mod listing;
 mod tests;
 

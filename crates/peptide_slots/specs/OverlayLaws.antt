@@ -15,11 +15,11 @@ unfolding map_at
 length-map_at f k [] = refl
 length-map_at f k (x ∷ xs) = ap suc (length-map_at f (suc k) xs)
 
-pub get_d_map_at : (f : ℕ → ℕ → ℕ) (k : ℕ) (xs : List ℕ) (j : ℕ) → j < length xs → get_or (map_at f k xs) j 0 ≡ f (k + j) (get_or xs j 0)
+pub get_or-map_at : (f : ℕ → ℕ → ℕ) (k : ℕ) (xs : List ℕ) (j : ℕ) → j < length xs → get_or (map_at f k xs) j 0 ≡ f (k + j) (get_or xs j 0)
 unfolding map_at
-get_d_map_at f k [] j h = absurd (not-suc-le-zero h)
-get_d_map_at f k (x ∷ xs) zero h = ap (λ (z : ℕ). f z x) (sym (add-zero k))
-get_d_map_at f k (x ∷ xs) (suc j) h = get_d_map_at f (suc k) xs j (le_of_suc-le-suc h) ∙ ap (λ (z : ℕ). f z (get_or xs j 0)) (suc-add k j ∙ sym (add-suc k j))
+get_or-map_at f k [] j h = absurd (not-suc-le-zero h)
+get_or-map_at f k (x ∷ xs) zero h = ap (λ (z : ℕ). f z x) (sym (add-zero k))
+get_or-map_at f k (x ∷ xs) (suc j) h = get_or-map_at f (suc k) xs j (le_of_suc-le-suc h) ∙ ap (λ (z : ℕ). f z (get_or xs j 0)) (suc-add k j ∙ sym (add-suc k j))
 
 -- a list that has f at each place is that list
 pub map_at_ext : (f : ℕ → ℕ → ℕ) (xs out : List ℕ) → length out ≡ length xs → ((j : ℕ) → j < length xs → get_or out j 0 ≡ f j (get_or xs j 0)) → out ≡ map_at f 0 xs
@@ -27,7 +27,7 @@ map_at_ext f xs out e h =
     ext_get_or 0 out (map_at f 0 xs) (e ∙ sym (length-map_at f 0 xs))
     (λ j g. let b : j < length xs = omega arith in
     let z : 0 + j ≡ j = omega arith in
-    h j b ∙ ap (λ (q : ℕ). f q (get_or xs j 0)) (sym z) ∙ sym (get_d_map_at f 0 xs j b))
+    h j b ∙ ap (λ (q : ℕ). f q (get_or xs j 0)) (sym z) ∙ sym (get_or-map_at f 0 xs j b))
 
 -- ---- a loop that stores f k (xs k) at place k, one place a turn
 pub record Upto (f : ℕ → ℕ → ℕ) (xs : List ℕ) (k : ℕ) (out : List ℕ) : Type 0 where
@@ -60,9 +60,9 @@ pub length-overlay : (t form : List ℕ) → length (overlay t form) ≡ length 
 unfolding overlay
 length-overlay t form = length-map_at (λ (k : ℕ) (old : ℕ). fill (get_or t k 0) old) 0 form
 
-get_d_overlay : (t form : List ℕ) (j : ℕ) → j < length form → get_or (overlay t form) j 0 ≡ fill (get_or t j 0) (get_or form j 0)
+get_or-overlay : (t form : List ℕ) (j : ℕ) → j < length form → get_or (overlay t form) j 0 ≡ fill (get_or t j 0) (get_or form j 0)
 unfolding overlay
-get_d_overlay t form j h = get_d_map_at (λ (k : ℕ) (old : ℕ). fill (get_or t k 0) old) 0 form j h ∙ ap (λ (z : ℕ). fill (get_or t z 0) (get_or form j 0)) (zero-add j)
+get_or-overlay t form j h = get_or-map_at (λ (k : ℕ) (old : ℕ). fill (get_or t k 0) old) 0 form j h ∙ ap (λ (z : ℕ). fill (get_or t z 0) (get_or form j 0)) (zero-add j)
 
 fill-fill : (id b a : ℕ) → fill id (fill b a) ≡ fill (fill id b) a
 fill-fill id b a = go (eqb a 0) refl
@@ -83,15 +83,15 @@ fill-overlay t form slot id e =
         let i : j < length t = omega arith in
         subst (λ (s : ℕ). get_or (fill_at (overlay t form) s id) j 0 ≡ get_or (overlay (fill_at t s id) form) j 0) q
         (get_or-set_same (overlay t form) j _ 0 g
-        ∙ ap (fill id) (get_d_overlay t form j h)
+        ∙ ap (fill id) (get_or-overlay t form j h)
         ∙ fill-fill id (get_or t j 0) (get_or form j 0)
         ∙ ap (λ (z : ℕ). fill z (get_or form j 0)) (sym (get_or-set_same t j (fill id (get_or t j 0)) 0 i))
-        ∙ sym (get_d_overlay (fill_at t j id) form j h))
+        ∙ sym (get_or-overlay (fill_at t j id) form j h))
     at j h (no q) =
         get_or-set_other (overlay t form) slot j _ 0 q
-        ∙ get_d_overlay t form j h
+        ∙ get_or-overlay t form j h
         ∙ ap (λ (z : ℕ). fill z (get_or form j 0)) (sym (get_or-set_other t slot j (fill id (get_or t slot 0)) 0 q))
-        ∙ sym (get_d_overlay (fill_at t slot id) form j h)
+        ∙ sym (get_or-overlay (fill_at t slot id) form j h)
 
 apply-overlay : (rules t form sites : List ℕ) → length t ≡ length form → apply rules (overlay t form) sites ≡ overlay (apply rules t sites) form
 unfolding apply
@@ -104,7 +104,7 @@ apply-overlay rules t form (s ∷ ss) e =
 overlay_zeros : (form : List ℕ) (n : ℕ) → length form ≡ n → overlay (replicate n 0) form ≡ form
 overlay_zeros form n e =
     ext_get_or 0 (overlay (replicate n 0) form) form (length-overlay (replicate n 0) form)
-    (λ j h. let k : length (overlay (replicate n 0) form) ≡ length form = length-overlay (replicate n 0) form in let g : j < length form = omega arith in get_d_overlay (replicate n 0) form j g ∙ ap (λ (z : ℕ). fill z (get_or form j 0)) (get_or-replicate n j 0 0 (omega arith)) ∙ zero-fill (get_or form j 0))
+    (λ j h. let k : length (overlay (replicate n 0) form) ≡ length form = length-overlay (replicate n 0) form in let g : j < length form = omega arith in get_or-overlay (replicate n 0) form j g ∙ ap (λ (z : ℕ). fill z (get_or form j 0)) (get_or-replicate n j 0 0 (omega arith)) ∙ zero-fill (get_or form j 0))
   where
     zero-fill : (a : ℕ) → fill 0 a ≡ a
     zero-fill zero = refl

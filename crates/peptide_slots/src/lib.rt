@@ -1,4 +1,6 @@
 // What a peptide's arrays are made of: lent bytes, what rules hit, sites, forms, the reversal of the inner places.
+#![tactic(auto)]
+
 mod form;
 mod hits;
 mod mirror;

@@ -1,4 +1,6 @@
 // Proteins grouped by the peptides that show them.
+#![tactic(auto)]
+
 mod arranging;
 mod grouping;
 

@@ -1,5 +1,4 @@
 -- Numbers by first appearance, by one pass with a table, in a lent slice. Assumes nothing.
-use denote.Slice.{shr_slice_at}
 use Rattle.std.specs.Prelude.{◌≡◌, refl, Bool, true, false, List, [], ◌∷◌, ◌++◌, ℕ, suc, ◌+◌, ◌≤◌, ◌<◌, ltb, eqb, length, get_or, drop, set}
 use Rattle.std.proofs.Common.{sym, ap, ◌∙◌, inr, add-one, arith, ltb-true, ltb-false, eqb-true, length-append, length-set, drop_of_length-le, drop-cons, get_or-set_same, get_or-set_other}
 use Rattle.std.proofs.lemmas.Bool.{eqb-false}
@@ -143,7 +142,7 @@ module _ (w₀ w w₁ : List ℕ) (b t m l n i f r : ℕ) (len : length w ≡ le
   long_ks = slice_long l n w₀ o₃
 
   next : drop i ks ≡ x ∷ drop (i + 1) ks
-  next = drop-cons ks i 0 (omega (arith, long_ks)) ∙ rw (add-one i, shr_slice_at l (l + n) w₀ i (omega arith), same-x)
+  next = drop-cons ks i 0 (omega (arith, long_ks)) ∙ rw (add-one i, at_slice l (l + n) w₀ i (omega arith), same-x)
 
   coming₁ : first_ones (slice b (b + r) w₁) (drop (i + 1) ks) ≡ first_ones [] ks
   coming₁ = rw q.found (rw next at p.coming)

@@ -1,5 +1,4 @@
 -- The leaders' texts spread out in a lent slice. Assumes nothing.
-use denote.Slice.{shr_slice_at}
 use Rattle.std.specs.Prelude.{◌≡◌, refl, Bool, true, false, List, [], ◌∷◌, ◌++◌, ℕ, ◌+◌, ◌-◌, ◌≤◌, ◌<◌, ltb, length, get_or, drop, set, replicate}
 use Rattle.std.proofs.Common.{sym, ap, ◌∙◌, inl, inr, append-nil, append_assoc, add-one, arith, ltb-true, ltb-false, eq-eqb, ne_eqb, length-set, length-append, drop_of_length-le, drop-cons, get_or-set_same, get_or-set_other, ext_get_or}
 use Rattle.std.proofs.lemmas.List.{length-replicate, get_or-replicate, length-map}
@@ -177,7 +176,7 @@ grown a k d w w₁ more len fits long new old =
     ∙ ap (λ (l : List ℕ). l ++ slice (a + k) (a + (k + d)) w₁) (slice-same a (a + k) w₁ w (omega arith) (omega arith) old)
     ∙ ap (λ (l : List ℕ). slice a (a + k) w ++ l)
     (ext_get_or 0 (slice (a + k) (a + (k + d)) w₁) more (long₁ ∙ sym long)
-    (λ i y. let v : i < d = omega (arith, long₁) in shr_slice_at (a + k) (a + (k + d)) w₁ i (omega arith) ∙ new i v))
+    (λ i y. let v : i < d = omega (arith, long₁) in at_slice (a + k) (a + (k + d)) w₁ i (omega arith) ∙ new i v))
   where
     long₁ : length (slice (a + k) (a + (k + d)) w₁) ≡ d
     long₁ = length-slice (a + k) (a + (k + d)) w₁ fits ∙ (let u : a + (k + d) - (a + k) ≡ d = omega arith in u)
@@ -220,10 +219,10 @@ module _ (w₀ w : List ℕ) (p : Plan) (t j seen k : ℕ) (len : length w ≡ l
   long_o = slice_long p.things t w₀ (omega (arith, q.order, q.keys, q.fits))
 
   next-r : drop j rs ≡ g ∷ drop (j + 1) rs
-  next-r = drop-cons rs j 0 (omega (arith, long_r)) ∙ rw (add-one j, shr_slice_at p.runs (p.runs + t) w₀ j (omega arith))
+  next-r = drop-cons rs j 0 (omega (arith, long_r)) ∙ rw (add-one j, at_slice p.runs (p.runs + t) w₀ j (omega arith))
 
   next-o : drop j os ≡ x ∷ drop (j + 1) os
-  next-o = drop-cons os j 0 (omega (arith, long_o)) ∙ rw (add-one j, shr_slice_at p.things (p.things + t) w₀ j (omega arith))
+  next-o = drop-cons os j 0 (omega (arith, long_o)) ∙ rw (add-one j, at_slice p.things (p.things + t) w₀ j (omega arith))
 
   -- no leader
   pub spreading_skip : (g ≡ seen → ⊥) → Spreading w₀ w p t (j + 1) seen k
@@ -290,7 +289,7 @@ module _ (w₀ w : List ℕ) (p : Plan) (t j seen k : ℕ) (len : length w ≡ l
           (λ i v.
           copied.keys i v
           ∙ s.rest (p.texts + lo + i) (inl (omega (arith, size, q.ends j h)))
-          ∙ sym (shr_slice_at (p.texts + lo) (p.texts + hi) w₀ i (omega (arith, size))))
+          ∙ sym (at_slice (p.texts + lo) (p.texts + hi) w₀ i (omega (arith, size))))
           (λ i y v. copied.rest i (inl v) (inl (omega (arith, size, enough, q.keys))))
 
       values_more : values_to p (k + r) w₁ ≡ values_to p k w ++ replicate (length A) g

@@ -1,5 +1,4 @@
 -- Things given in a lent slice, sorted by their texts, with their runs, and the runs' texts spread out. Assumes nothing.
-use denote.Slice.{shr_slice_at}
 use Rattle.std.specs.Prelude.{◌≡◌, List, [], ℕ, zero, suc, ◌+◌, ◌-◌, ◌≤◌, ◌<◌, length, get_or, take, drop}
 use Rattle.std.proofs.Common.{sym, ap, ◌∙◌, inl, inr, add-sub_of_le, arith, length-drop, length-take}
 use Rattle.std.proofs.Math.Seq.{slice}
@@ -91,7 +90,7 @@ module _ (w₀ w₂ : List ℕ) (p : Plan) (t r : ℕ) (l₂ : length w₂ ≡ l
 
   inside₂ : (j : ℕ) → j < t → get_or w₂ (p.things + j) 0 < p.kinds
   inside₂ j h =
-      rw (shr_slice_at p.things (p.things + t) w₂ j (omega arith)) at
+      rw (at_slice p.things (p.things + t) w₂ j (omega arith)) at
       (under_at p.kinds (things_to p t w₂) j (rw d.order (under_sorted p.kinds (le_texts (plan_text p w₀)) (things_to p t w₀) g.inside)) (omega (arith, long₂)))
 
   bound₂ : (x : ℕ) → x < p.kinds → (get_or w₂ (p.bounds + x) 0 ≤ get_or w₂ (p.bounds + x + 1) 0) × (get_or w₂ (p.bounds + x + 1) 0 ≤ p.count)

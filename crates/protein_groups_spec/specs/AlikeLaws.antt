@@ -4,8 +4,8 @@ use Rattle.std.proofs.Common.{sym, ap, ◌∙◌, inl, inr, ⊎_elim, arith, eqb
 use Rattle.lists.specs.Tests.{below?, clash, iff}
 use Rattle.lists.specs.Lists.{In, same, bit, times, count}
 use Rattle.lists.specs.SameLaws.{same_refl}
-use Rattle.lists.specs.FirstLaws.{first_at, times_append, get_d_place}
-use Rattle.lists.specs.InLaws.{is_in, map_in, keep_in, in_get_d, some_in, times_in}
+use Rattle.lists.specs.FirstLaws.{first_at, times_append, get_or_place}
+use Rattle.lists.specs.InLaws.{is_in, map_in, keep_in, in-get_or, some_in, times_in}
 use Rattle.lists.specs.KeepLaws.{count-times}
 use Rattle.sorting_spec.specs.Sort.{sorted}
 use Rattle.sorting_spec.specs.SortLaws.{Ordered, sorted_ordered, count-sorted}
@@ -59,8 +59,8 @@ rising-distinct ls = go (sorted lex_le ls) (sorted_ordered lex_le (by_list (λ (
 rising-at : (l : List (List ℕ)) → Rising l → (i j : ℕ) → i < length l → j < length l → get_or l i [] ≡ get_or l j [] → i ≡ j
 rising-at [] r i j a b e = absurd (omega arith)
 rising-at (d ∷ l) r zero zero a b e = refl
-rising-at (d ∷ l) r zero (suc j) a b e = clash (ap (λ (x : List ℕ). lex_le x d) (sym e) ∙ lex_refl d) (r.0 (get_or l j []) (in_get_d [] l j (omega arith)))
-rising-at (d ∷ l) r (suc i) zero a b e = clash (ap (λ (x : List ℕ). lex_le x d) e ∙ lex_refl d) (r.0 (get_or l i []) (in_get_d [] l i (omega arith)))
+rising-at (d ∷ l) r zero (suc j) a b e = clash (ap (λ (x : List ℕ). lex_le x d) (sym e) ∙ lex_refl d) (r.0 (get_or l j []) (in-get_or [] l j (omega arith)))
+rising-at (d ∷ l) r (suc i) zero a b e = clash (ap (λ (x : List ℕ). lex_le x d) e ∙ lex_refl d) (r.0 (get_or l i []) (in-get_or [] l i (omega arith)))
 rising-at (d ∷ l) r (suc i) (suc j) a b e = ap suc (rising-at l r.1 i j (omega arith) (omega arith) e)
 
 pub distinct-at : (ls : List (List ℕ)) (i j : ℕ) → i < length (distinct ls) → j < length (distinct ls) → get_or (distinct ls) i [] ≡ get_or (distinct ls) j [] → i ≡ j
@@ -122,7 +122,7 @@ module _ (flags : List ℕ) (peptides : ℕ) (qs : List Pair) where
   found_is : (y j : ℕ) → In y ps → j < length ps → eqb (first_at y ps) j ≡ eqb y (get_or ps j 0)
   found_is y j i h =
       iff (eqb (first_at y ps) j) (eqb y (get_or ps j 0))
-      (λ e. eq-eqb y (get_or ps j 0) (sym (get_d_place y ps i) ∙ ap (λ (k : ℕ). get_or ps k 0) (eqb-true (first_at y ps) j e)))
+      (λ e. eq-eqb y (get_or ps j 0) (sym (get_or_place y ps i) ∙ ap (λ (k : ℕ). get_or ps k 0) (eqb-true (first_at y ps) j e)))
       (λ e. eq-eqb (first_at y ps) j (ap (λ (x : ℕ). first_at x ps) (eqb-true y (get_or ps j 0) e) ∙ place_in_found flags peptides qs j h))
 
   places_times : (j : ℕ) → j < length ps → (l : List ℕ) → ((y : ℕ) → In y l → In y ps) → times j (map (λ (y : ℕ). first_at y ps) l) ≡ times (get_or ps j 0) l

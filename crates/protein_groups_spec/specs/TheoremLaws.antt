@@ -11,12 +11,12 @@ use Rattle.std.proofs.Math.Dec.{eqb}
 use Rattle.std.proofs.Math.ListN.{get_or, get_or-eq_default}
 use Rattle.sorting_spec.specs.RunLaws.{length-numbers}
 use Rattle.lists.specs.KeepLaws.{count-times}
-use Rattle.lists.specs.InLaws.{in_left, in_right, in_append, in_keep, keep_in, in_map, map_in, in_get_d, get_d_in, is_in, in_some, some_in, occurs_in, in_occurs, in_times, times_in, count_in, in_count}
+use Rattle.lists.specs.InLaws.{in_left, in_right, in_append, in_keep, keep_in, in_map, map_in, in-get_or, get_or_in, is_in, in_some, some_in, occurs_in, in_occurs, in_times, times_in, count_in, in_count}
 use Rattle.lists.specs.Tests.{below?, clash, iff}
 use Rattle.lists.specs.Lists.{In, up_from, keep, same, bit, count, All, occurs, times}
 use Rattle.lists.specs.RowLaws.{in_up, up_in}
 use Rattle.lists.specs.SameLaws.{same_refl, same-eq}
-use Rattle.lists.specs.FirstLaws.{first_at, first_ones, place_lt, occurs_append, times_append, place_at, get_d_place}
+use Rattle.lists.specs.FirstLaws.{first_at, first_ones, place_lt, occurs_append, times_append, place_at, get_or_place}
 use Rattle.sorting_spec.specs.Sort.{sorted}
 use Rattle.sorting_spec.specs.SortLaws.{in_sorted, sorted_in, count-sorted}
 use Rattle.sorting_spec.specs.Lex.{lex_le}
@@ -329,7 +329,7 @@ module _ (flags : List ℕ) (peptides : ℕ) (qs : List Pair) where
   place_in_found k h = place_at ps k h (found_once (get_or ps k 0))
 
   pub member_seen : (k : ℕ) → k < length ps → (q : Pair) × In q qs × (get_or ps k 0 ≡ packed_seen flags q)
-  member_seen k h = let (q, i, e, l) = shown_in flags qs (get_or ps k 0) 0 peptides (found_in (get_or ps k 0) (in_get_d 0 ps k h)) in (q, i, e)
+  member_seen k h = let (q, i, e, l) = shown_in flags qs (get_or ps k 0) 0 peptides (found_in (get_or ps k 0) (in-get_or 0 ps k h)) in (q, i, e)
 
   -- a pair's protein stands in the evidence of its peptide
   own : (q : Pair) (p : ℕ) → In q qs → q.peptide ≡ p → In q (pairs_of qs p)
@@ -350,14 +350,14 @@ module _ (flags : List ℕ) (peptides : ℕ) (qs : List Pair) where
 
   pub some-meta : (k : ℕ) → k < length ps → (m : ℕ) × In m (list_from 0 ms k)
   some-meta k h =
-      let (q, i, e, l) = shown_in flags qs (get_or ps k 0) 0 peptides (found_in (get_or ps k 0) (in_get_d 0 ps k h)) in
-      let (m, b, s) = get_d_in [] (packed_evidence ps flags qs q.peptide) ms (has-meta q i l) in
+      let (q, i, e, l) = shown_in flags qs (get_or ps k 0) 0 peptides (found_in (get_or ps k 0) (in-get_or 0 ps k h)) in
+      let (m, b, s) = get_or_in [] (packed_evidence ps flags qs q.peptide) ms (has-meta q i l) in
       (0 + m, in_list 0 m ms k b (is_in (ap (λ (x : ℕ). first_at x ps) (sym e) ∙ place_in_found k h) (sym s) (in_evidence q q.peptide i refl)))
 
   -- each meta-peptide is one of a protein found
   pub meta-has : (m : ℕ) → m < length ms → (p : ℕ) × In p (taking peptides qs) × (get_or ms m [] ≡ packed_evidence ps flags qs p)
   unfolding packed_metas
-  meta-has m h = map_in (packed_evidence ps flags qs) (get_or ms m []) (taking peptides qs) (distinct_in (get_or ms m []) (map (packed_evidence ps flags qs) (taking peptides qs)) (in_get_d [] ms m h))
+  meta-has m h = map_in (packed_evidence ps flags qs) (get_or ms m []) (taking peptides qs) (distinct_in (get_or ms m []) (map (packed_evidence ps flags qs) (taking peptides qs)) (in-get_or [] ms m h))
 
   pub taking-has : (p : ℕ) → In p (taking peptides qs) → (q : Pair) × In q qs × (q.peptide ≡ p) × (p < peptides)
   taking-has p i =
@@ -377,12 +377,12 @@ module _ (flags : List ℕ) (peptides : ℕ) (qs : List Pair) where
 
   -- the list of a protein found is a group's
   pub list_group : (k : ℕ) → k < length ps → (g : ℕ) × (g < length ls) × (get_or ls g [] ≡ list_from 0 ms k)
-  list_group k h = get_d_in [] (list_from 0 ms k) ls (in_distinct (list_from 0 ms k) (lists ms (length ps)) (in_map (list_from 0 ms) k (up_from 0 (length ps)) (in_up k 0 (length ps) (omega arith) (omega arith))))
+  list_group k h = get_or_in [] (list_from 0 ms k) ls (in_distinct (list_from 0 ms k) (lists ms (length ps)) (in_map (list_from 0 ms) k (up_from 0 (length ps)) (in_up k 0 (length ps) (omega arith) (omega arith))))
 
   -- a group's list is one of a protein found
   pub group_list : (g : ℕ) → g < length ls → (k : ℕ) × (k < length ps) × (list_from 0 ms k ≡ get_or ls g [])
   group_list g h =
-      let (k, i, e) = map_in (list_from 0 ms) (get_or ls g []) (up_from 0 (length ps)) (distinct_in (get_or ls g []) (lists ms (length ps)) (in_get_d [] ls g h)) in
+      let (k, i, e) = map_in (list_from 0 ms) (get_or ls g []) (up_from 0 (length ps)) (distinct_in (get_or ls g []) (lists ms (length ps)) (in-get_or [] ls g h)) in
       let u = up_in k 0 (length ps) i in
       (k, omega arith, sym e)
 
@@ -395,7 +395,7 @@ module _ (flags : List ℕ) (peptides : ℕ) (qs : List Pair) where
       (r, u, eqb-true r.peptide p y, e ∙ ap (λ (y : ℕ). first_at y ps) z)
 
   pub own-meta : (q : Pair) → In q qs → q.peptide < peptides → (m : ℕ) × (m < length ms) × (get_or ms m [] ≡ packed_evidence ps flags qs q.peptide)
-  own-meta q i l = get_d_in [] (packed_evidence ps flags qs q.peptide) ms (has-meta q i (omega arith))
+  own-meta q i l = get_or_in [] (packed_evidence ps flags qs q.peptide) ms (has-meta q i (omega arith))
 
   -- a group with a peptide's meta-peptide has one of its proteins
   pub reached-by_list : (g m p : ℕ) → p < peptides → g < length ls → get_or ms m [] ≡ packed_evidence ps flags qs p → In m (get_or ls g [])
@@ -406,7 +406,7 @@ module _ (flags : List ℕ) (peptides : ℕ) (qs : List Pair) where
       let z : n ≡ m = omega arith in
       let (r, u, v, w) = evidence_in k p (is_in refl (ap (λ (o : ℕ). get_or ms o []) z ∙ e) j) in
       let f : In (packed_seen flags r) ps = in_found (packed_seen flags r) (in_shown flags qs r 0 peptides u (omega arith) (omega arith)) in
-      (r, u, v, (k, b, y, ap (λ (o : ℕ). get_or ps o 0) w ∙ get_d_place (packed_seen flags r) ps f))
+      (r, u, v, (k, b, y, ap (λ (o : ℕ). get_or ps o 0) w ∙ get_or_place (packed_seen flags r) ps f))
 
   -- a protein and flag stand in as many members as their number in what is found
   pub standing-times : (p f : ℕ) → f ≤ 1 → standing p f (packed_grouping flags peptides qs).members ≡ times (p * 2 + f) ps

@@ -1,5 +1,4 @@
 -- The evidence of each key, in a lent slice: by key, numbered, sorted. Assumes nothing.
-use denote.Slice.{shr_slice_at}
 use Rattle.std.specs.Prelude.{◌≡◌, refl, Bool, true, ◌&&◌, List, [], ◌∷◌, map, ℕ, zero, suc, ◌+◌, ◌-◌, ◌≤◌, ◌<◌, ltb, leb, length, get_or}
 use Rattle.std.proofs.Common.{sym, ap, ◌∙◌, inl, inr, add-one, arith, lt-ltb, le-leb}
 use Rattle.std.proofs.Math.Seq.{slice}
@@ -58,7 +57,7 @@ module _ (w₀ w₁ : List ℕ) (k : ℕ) (p : Plan) (l₁ : length w₁ ≡ len
   long_vs = slice_long p.values p.count w₀ f.fits
 
   vs_under : Under k vs
-  vs_under = under_of k vs (λ i h. let u : i < p.count = omega (arith, long_vs) in rw (shr_slice_at p.values (p.values + p.count) w₀ i (omega arith)) (g.below i u))
+  vs_under = under_of k vs (λ i h. let u : i < p.count = omega (arith, long_vs) in rw (at_slice p.values (p.values + p.count) w₀ i (omega arith)) (g.below i u))
 
   -- what numbering asks
   pub table-zero : (x : ℕ) → x < k → get_or w₁ (k + x) 0 ≡ 0
@@ -67,7 +66,7 @@ module _ (w₀ w₁ : List ℕ) (k : ℕ) (p : Plan) (l₁ : length w₁ ≡ len
   pub all-below : (i : ℕ) → i < p.count → get_or w₁ (p.texts + i) 0 < k
   all-below i h =
       let u : length (slice p.texts (p.texts + p.count) w₁) ≡ p.count = slice_long p.texts p.count w₁ (omega (arith, inside.0)) in
-      rw (shr_slice_at p.texts (p.texts + p.count) w₁ i (omega arith)) at (under_at k (slice p.texts (p.texts + p.count) w₁) i (rw s.values (under_by-keys k 0 p.kinds ks vs vs_under)) (omega arith))
+      rw (at_slice p.texts (p.texts + p.count) w₁ i (omega arith)) at (under_at k (slice p.texts (p.texts + p.count) w₁) i (rw s.values (under_by-keys k 0 p.kinds ks vs vs_under)) (omega arith))
 
   module _ (w₂ : List ℕ) (r : ℕ) (l₂ : length w₂ ≡ length w₁) (d : AllNumbered w₁ w₂ 0 k k p.texts p.count r) where
     bound_is : (j : ℕ) → j ≤ p.kinds → bound w₂ p.bounds j ≡ below j ks

@@ -1,5 +1,4 @@
 -- The half of the grouping that goes by peptides: proteins by first appearance, and the meta-peptides spread out. Assumes nothing.
-use denote.Slice.{shr_slice_at}
 use Rattle.std.specs.Prelude.{◌≡◌, List, map, ℕ, ◌+◌, ◌-◌, ◌≤◌, ◌<◌, length, get_or}
 use Rattle.std.proofs.Common.{sym, ap, ◌∙◌, inl, zero-add, arith}
 use Rattle.std.proofs.Math.Seq.{slice, length-slice}
@@ -87,7 +86,7 @@ module _ (w₀ w₁ : List ℕ) (k : ℕ) (p : Plan) (r : ℕ) (l₁ : length w�
     by_peptides = record {
       few = e.few;
       entries = d.few;
-      under = λ i h. rw (shr_slice_at p.keys (p.keys + t) w₂ i (omega arith)) at (under_at r (keys_to p t w₂) i (rw d.keys all_under) (omega (arith, long_keys)));
+      under = λ i h. rw (at_slice p.keys (p.keys + t) w₂ i (omega arith)) at (under_at r (keys_to p t w₂) i (rw d.keys all_under) (omega (arith, long_keys)));
       between = λ j h v. d.rest j (inl v) ∙ e.rest j h (inl (omega (arith, f.order, f.ranks)));
       shown = λ flags qs ks vs. record {
         found = found_same ∙ order-proteins flags qs ks vs;

@@ -1,5 +1,4 @@
 -- The two halves make the grouping. Assumes nothing.
-use denote.Slice.{shr_slice_at}
 use Rattle.std.specs.Prelude.{◌≡◌, List, map, ℕ, ◌+◌, ◌-◌, ◌*◌, ◌<◌, get_or}
 use Rattle.std.proofs.Math.Path.{sym, ap}
 use Rattle.std.proofs.Common.{◌∙◌, zero-add}
@@ -91,7 +90,7 @@ module _ (w₀ : List ℕ) (k m n : ℕ) (g : Placeable w₀ k m n) where
 
       inside : (j : ℕ) → j < r → get_or w₂ (k + j) 0 < r
       inside j h =
-          rw (shr_slice_at k (k + r) w₂ j (omega arith)) at
+          rw (at_slice k (k + r) w₂ j (omega arith)) at
           (under_at r (slice k (k + r) w₂) j (rw d.order those_under) (omega (arith, ap length d.order, long_those)))
 
       pub grouping-fits : GroupingFits w₂ k n e r
@@ -110,8 +109,8 @@ module _ (w₀ : List ℕ) (k m n : ℕ) (g : Placeable w₀ k m n) where
 
       edge_at : (i : ℕ) → i < e → standing_edge w₂ a b i ≡ (get_or (groups_in (spread_sorted text those)) i 0, get_or (metas_in (spread_sorted text those)) i 0)
       edge_at i h =
-          let x : get_or w₂ (b + i) 0 ≡ get_or (groups_in (spread_sorted text those)) i 0 = sym (shr_slice_at b (b + e) w₂ i (omega arith)) ∙ ap (λ (z : List ℕ). get_or z i 0) d.values in
-          let y : get_or w₂ (a + i) 0 ≡ get_or (metas_in (spread_sorted text those)) i 0 = sym (shr_slice_at a (a + e) w₂ i (omega arith)) ∙ ap (λ (z : List ℕ). get_or z i 0) d.keys in
+          let x : get_or w₂ (b + i) 0 ≡ get_or (groups_in (spread_sorted text those)) i 0 = sym (at_slice b (b + e) w₂ i (omega arith)) ∙ ap (λ (z : List ℕ). get_or z i 0) d.values in
+          let y : get_or w₂ (a + i) 0 ≡ get_or (metas_in (spread_sorted text those)) i 0 = sym (at_slice a (a + e) w₂ i (omega arith)) ∙ ap (λ (z : List ℕ). get_or z i 0) d.keys in
           cc
 
       edges-read : map (standing_edge w₂ a b) (up_from 0 e) ≡ spread_sorted text those
@@ -123,11 +122,11 @@ module _ (w₀ : List ℕ) (k m n : ℕ) (g : Placeable w₀ k m n) where
       module _ (ps : List ℕ) (found : slice 0 r w₁ ≡ ps) where
         member-at : (j : ℕ) → j < r → standing_member w₂ k (2 * k) j ≡ packed_member ps (get_or (run_numbers (le_texts text) those) j 0) (get_or those j 0)
         member-at j h =
-            let x : get_or w₂ (2 * k + j) 0 ≡ get_or (run_numbers (le_texts text) those) j 0 = sym (shr_slice_at (2 * k) (2 * k + r) w₂ j (omega arith)) ∙ ap (λ (z : List ℕ). get_or z j 0) d.ranks in
-            let y : get_or w₂ (k + j) 0 ≡ get_or those j 0 = sym (shr_slice_at k (k + r) w₂ j (omega arith)) ∙ ap (λ (z : List ℕ). get_or z j 0) d.order in
+            let x : get_or w₂ (2 * k + j) 0 ≡ get_or (run_numbers (le_texts text) those) j 0 = sym (at_slice (2 * k) (2 * k + r) w₂ j (omega arith)) ∙ ap (λ (z : List ℕ). get_or z j 0) d.ranks in
+            let y : get_or w₂ (k + j) 0 ≡ get_or those j 0 = sym (at_slice k (k + r) w₂ j (omega arith)) ∙ ap (λ (z : List ℕ). get_or z j 0) d.order in
             let v : get_or w₂ (get_or w₂ (k + j) 0) 0 ≡ get_or ps (get_or w₂ (k + j) 0) 0 =
             d.before (get_or w₂ (k + j) 0) (omega (arith, inside j h, p.few))
-            ∙ sym (shr_slice_at 0 r w₁ (get_or w₂ (k + j) 0) (omega (arith, inside j h)) ∙ rw zero-add)
+            ∙ sym (at_slice 0 r w₁ (get_or w₂ (k + j) 0) (omega (arith, inside j h)) ∙ rw zero-add)
             ∙ ap (λ (z : List ℕ). get_or z (get_or w₂ (k + j) 0) 0) found in
             rw (x, v, y)
 

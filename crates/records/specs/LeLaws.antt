@@ -112,16 +112,16 @@ number-stored w n s at h k =
 abbrev pub Apart : ℕ → ℕ → ℕ → ℕ → Type 0
 Apart j w at n = (j + w ≤ at) ⊎ (at + n ≤ j)
 
-pub get_d_sets_other : (vs s : List ℕ) (at j : ℕ) → Apart j 1 at (length vs) → get_or (sets s at vs) j 0 ≡ get_or s j 0
-get_d_sets_other [] s at j h = refl
-get_d_sets_other (v ∷ vs) s at j h =
-    get_d_sets_other vs (set s at v) (suc at) j (⊎_elim (λ (x : j + 1 ≤ at). inl (omega arith)) (λ (x : at + suc (length vs) ≤ j). inr (omega arith)) h)
+pub get_or-sets_other : (vs s : List ℕ) (at j : ℕ) → Apart j 1 at (length vs) → get_or (sets s at vs) j 0 ≡ get_or s j 0
+get_or-sets_other [] s at j h = refl
+get_or-sets_other (v ∷ vs) s at j h =
+    get_or-sets_other vs (set s at v) (suc at) j (⊎_elim (λ (x : j + 1 ≤ at). inl (omega arith)) (λ (x : at + suc (length vs) ≤ j). inr (omega arith)) h)
     ∙ get_or-set_other s at j v 0 (λ (e : j ≡ at). ⊎_elim (λ (x : j + 1 ≤ at). omega arith) (λ (x : at + suc (length vs) ≤ j). omega arith) h)
 
 -- what lies elsewhere is read as before
 pub number_apart : (w : ℕ) (vs s : List ℕ) (at j : ℕ) → Apart j w at (length vs) → number_at w (sets s at vs) j ≡ number_at w s j
 number_apart zero vs s at j h = number-none (sets s at vs) j ∙ sym (number-none s j)
 number_apart (suc w) vs s at j h =
-    let p : get_or (sets s at vs) j 0 ≡ get_or s j 0 = get_d_sets_other vs s at j (⊎_elim (λ (x : j + suc w ≤ at). inl (omega arith)) (λ (x : at + length vs ≤ j). inr (omega arith)) h) in
+    let p : get_or (sets s at vs) j 0 ≡ get_or s j 0 = get_or-sets_other vs s at j (⊎_elim (λ (x : j + suc w ≤ at). inl (omega arith)) (λ (x : at + length vs ≤ j). inr (omega arith)) h) in
     let q : number_at w (sets s at vs) (suc j) ≡ number_at w s (suc j) = number_apart w vs s at (suc j) (⊎_elim (λ (x : j + suc w ≤ at). inl (omega arith)) (λ (x : at + length vs ≤ j). inr (omega arith)) h) in
     number-next w (sets s at vs) j ∙ rw (p, q) (sym (number-next w s j))

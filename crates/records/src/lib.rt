@@ -1,4 +1,6 @@
 // What every entry stands on: refusals, little-endian numbers in lent bytes, and room.
+#![tactic(auto)]
+
 mod number;
 mod refusal;
 mod room;

@@ -2,6 +2,8 @@
 // reads stands at the head of the module that replays it (crates replay_entries, replay_peptides, replay_digests, replay_proteins). Says how many
 // answers of each file were compared and how many differ, and the line of each that does; of a file that is missing, that it has
 // none. Answers on letters are replayed a second time with every second letter small (document 02, [2]).
+#![tactic(auto)]
+
 mod lines;
 mod masking;
 mod tally;

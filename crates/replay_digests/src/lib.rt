@@ -1,4 +1,6 @@
 // Replays answers on digests and their groups, a line each. Only the program replay calls these.
+#![tactic(auto)]
+
 mod digests;
 mod groups;
 

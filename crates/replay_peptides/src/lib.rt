@@ -1,4 +1,6 @@
 // Replays answers on modifications and peptides, a line each. Only the program replay calls these.
+#![tactic(auto)]
+
 mod forms;
 mod masses;
 mod rules;

@@ -1,4 +1,6 @@
 // Replays answers on covers, groups of proteins and report lines, a line each. Only the program replay calls these.
+#![tactic(auto)]
+
 mod covers;
 mod passes;
 mod proteins;

@@ -1,4 +1,6 @@
 // The report line of a peptide.
+#![tactic(auto)]
+
 mod reporting;
 
 pub use reporting::{Report, Reported, report_line, tested};

@@ -1,5 +1,7 @@
 // The groups of a report line: which apply, and their entries laid out in a lent slice. No entries: only crates of this repository
 // call these.
+#![tactic(auto)]
+
 mod laying;
 mod selecting;
 

@@ -1,5 +1,4 @@
 -- That the numbers of a group's text are bytes. Assumes nothing.
-use denote.Slice.{mut_slice_at}
 use Rattle.std.specs.Prelude.{ℕ, ◌+◌, ◌*◌, ◌/◌, ◌%◌, ◌<◌, Bool, true, false, cond, List, [], ◌∷◌, ◌++◌, map, eqb, get_or, take, drop}
 use Rattle.std.proofs.Common.{arith, length-take, length-drop, get_or-take}
 use Rattle.lists.specs.Lists.{All}
@@ -35,7 +34,7 @@ module _ (names keys : List ℕ) (p : (i : ℕ) → get_or names i 0 < 256) (q :
       (under_of 256 (name_of names x)
       (λ i h.
       let k : x * 64 + i < x * 64 + 64 = omega (arith, length-drop (x * 64) (take (x * 64 + 64) names), length-take (x * 64 + 64) names) in
-      rw (mut_slice_at (x * 64) (x * 64 + 64) names i k) (p (x * 64 + i))))
+      rw (at_slice (x * 64) (x * 64 + 64) names i k) (p (x * 64 + i))))
 
   bytes_entry : (x : ℕ) → Under 256 (entry_text names keys x)
   bytes_entry x = go (eqb (x / 2 % 2) 1)

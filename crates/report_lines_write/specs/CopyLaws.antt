@@ -1,5 +1,4 @@
 -- Numbers copied within a slice. Assumes nothing.
-use denote.Slice.{shr_slice_at}
 use Rattle.std.specs.Prelude.{ℕ, ◌+◌, ◌≤◌, ◌<◌, ◌≡◌, refl, ◌⊎◌, List, length, get_or, set}
 use Rattle.std.proofs.Common.{sym, ◌∙◌, inl, inr, ⊎_elim, arith, length-set, get_or-set_same, get_or-set_other, ext_get_or}
 use Rattle.std.proofs.Math.Seq.{slice, length-slice}
@@ -44,7 +43,7 @@ copied-part v from to n w h k c =
     ext_get_or 0 (slice to (to + n) w) (slice from (from + n) v) (long ∙ sym (length-slice from (from + n) v h ∙ omega arith))
     (λ i q.
     let r : i < n = omega (arith, long) in
-    shr_slice_at to (to + n) w i (omega arith) ∙ c.copied i r ∙ sym (shr_slice_at from (from + n) v i (omega arith)))
+    at_slice to (to + n) w i (omega arith) ∙ c.copied i r ∙ sym (at_slice from (from + n) v i (omega arith)))
   where
     long : length (slice to (to + n) w) ≡ n
     long = length-slice to (to + n) w (omega (arith, c.as_long)) ∙ omega arith

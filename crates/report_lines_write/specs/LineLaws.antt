@@ -1,5 +1,4 @@
 -- Groups that stand as stretches: the line that the code reads off is document 01's. Assumes nothing.
-use denote.Slice.{shr_slice_at}
 use Rattle.std.specs.Prelude.{ℕ, zero, suc, ◌+◌, ◌-◌, ◌*◌, ◌/◌, ◌%◌, ◌≤◌, ◌<◌, ◌≡◌, refl, Bool, true, false, cond, ◌&&◌, ◌⊎◌, ltb, eqb, get_or, take, drop, replicate}
 use Rattle.std.proofs.Common.{sym, ◌∙◌, ⊎_elim, arith, add-one, ltb-true, lt-ltb, le-ltb, eq-eqb, ne_eqb, length-append, length-take, length-drop, take_all, take-take, drop_at, get_or-take, get_or-drop, ext_get_or, length-take-le, get_or-append-add}
 use Rattle.std.proofs.Math.Path.{ap}
@@ -137,7 +136,7 @@ module _ (names : List ℕ) (ms : List Member) (marks list : List ℕ) (decoy : 
       go false = tt
 
   tag_there : (i : ℕ) → i < 16 → get_or w (2 * c + i) 0 ≡ get_or (tag_keys tag) i 0
-  tag_there i h = sym (shr_slice_at (2 * c) (2 * c + 16) w i (omega arith)) ∙ ap (λ (l : List ℕ). get_or l i 0) s.tagged
+  tag_there i h = sym (at_slice (2 * c) (2 * c + 16) w i (omega arith)) ∙ ap (λ (l : List ℕ). get_or l i 0) s.tagged
 
   -- THE LAW of how they stand
   pub stretched_laid : StretchesLaid w c (length marks)

@@ -1,5 +1,4 @@
 -- The slice when the groups are ready to be sorted: where they begin, and behind the tag's keys their entries. Assumes nothing.
-use denote.Slice.{shr_slice_at}
 use Rattle.std.specs.Prelude.{ℕ, suc, ◌+◌, ◌-◌, ◌*◌, ◌/◌, ◌%◌, ◌≤◌, ◌<◌, ◌≡◌, true, cond, eqb, length, get_or, take, drop}
 use Rattle.std.proofs.Common.{sym, ap, ◌∙◌, inl, inr, arith, zero-add, ltb-true, length-drop, take-append-drop, drop-drop, get_or-take, get_or-drop, ext_get_or, length-take-le}
 use mathlib.Core.List.{List, [], ◌∷◌, ◌++◌, flatten, map, map-map}
@@ -85,7 +84,7 @@ module _ (w₀ : List ℕ) (c groups : ℕ) (l : StretchesLaid w₀ c groups) wh
       evens_of (stretch_in w₀ (2 * c + 16) g)
       (λ i k.
       let r : bound_in w₀ (2 * c + 16) g + i < bound_in w₀ (2 * c + 16) (g + 1) = omega (arith, stretch-length g h) in
-      let e : get_or (stretch_in w₀ (2 * c + 16) g) i 0 ≡ get_or w₀ (bound_in w₀ (2 * c + 16) g + i) 0 = shr_slice_at (bound_in w₀ (2 * c + 16) g) (bound_in w₀ (2 * c + 16) (g + 1)) w₀ i r in
+      let e : get_or (stretch_in w₀ (2 * c + 16) g) i 0 ≡ get_or w₀ (bound_in w₀ (2 * c + 16) g + i) 0 = at_slice (bound_in w₀ (2 * c + 16) g) (bound_in w₀ (2 * c + 16) (g + 1)) w₀ i r in
       rw e (l.even (bound_in w₀ (2 * c + 16) g + i) (omega (arith, bound-within w₀ c groups (g + 1) l (omega arith)))))
 
   module _ (w : List ℕ) (count : ℕ) (r : TextsReady w₀ c groups w count) (names : List ℕ) where

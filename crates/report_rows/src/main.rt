@@ -10,6 +10,8 @@
 // It prints `group G: NAMES` for each group of the cover, then `PEPTIDE<tab>COUNT<tab>LINE` for each row; or one line that says why
 // not, with document 01's number and place. It holds 65,535 bytes a file, 4,096 rows, 4,096 names and 16,384 pairs of a row and a
 // name, and says so where that is too little: the library itself works in whatever memory it is lent.
+#![tactic(auto)]
+
 mod telling;
 
 use libc::STDIN_FILENO;

@@ -1,4 +1,6 @@
 // What report_rows prints: report lines, and why a text is refused. Only that program calls these.
+#![tactic(auto)]
+
 mod reports;
 mod saying;
 

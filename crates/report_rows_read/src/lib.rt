@@ -1,4 +1,6 @@
 // The rows of a text, and the catalogue of their names. Only the program report_rows calls these.
+#![tactic(auto)]
+
 mod names;
 mod rows;
 

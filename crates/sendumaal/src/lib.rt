@@ -1,4 +1,6 @@
 // The C face: the entries of the library over numbers, slices and results, as include/sendumaal.h declares them.
+#![tactic(auto)]
+
 mod digests;
 mod files;
 mod groups;

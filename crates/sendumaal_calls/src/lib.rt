@@ -1,4 +1,6 @@
 // How arguments and answers pass through the C face. Only crates of this repository call these.
+#![tactic(auto)]
+
 mod enzymes;
 mod files;
 mod peptides;

@@ -1,4 +1,6 @@
 // A stable sort of values by their keys, in tables of one lent slice of numbers. Only crates of this repository call this.
+#![tactic(auto)]
+
 mod places;
 mod sorting;
 

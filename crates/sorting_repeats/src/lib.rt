@@ -1,4 +1,6 @@
 // The first name that stands twice. Only crates of this repository call this.
+#![tactic(auto)]
+
 mod repeats;
 
 pub use repeats::{Repeated, first_repeated};

@@ -1,4 +1,6 @@
 // The runs of equal texts in a sorted stretch. Only crates of this repository call these.
+#![tactic(auto)]
+
 mod runs;
 
 pub use runs::{Numbered, number_runs, run_end};

@@ -1,7 +1,7 @@
 -- Things that go by texts: the runs of the sorted things are, for each distinct text in order, the things that have it, as they
 -- stood. Assumes nothing.
 use Rattle.std.specs.Prelude.{◌≡◌, refl, Bool, true, false, cond, List, [], ◌∷◌, map, ℕ, length}
-use Rattle.std.proofs.Common.{sym, ap, ◌∙◌}
+use Rattle.std.proofs.Common.{subst, sym, ap, ◌∙◌}
 use Rattle.std.proofs.lemmas.List.{length-map}
 use Rattle.lists.specs.SameLaws.{same_refl, same-eq}
 use Rattle.lists.specs.Tests.{clash}
@@ -141,7 +141,8 @@ module _ {A : Type 0} (text : A → List ℕ) where
           → (x ∷ keep (λ k. same (text k) (text x)) (y ∷ ys)) ∷ gathered (y ∷ ys) (cond t (leads_after y ys) (y ∷ leads_after y ys)) ≡ runs_of le (x ∷ y ∷ ys)
       go true e r =
           let q : text x ≡ text y = lex_antisym (text x) (text y) h.0 e in
-          rw (q, same_refl (text y), behind-y) (sym (ap (joined le x) (sym r) ∙ rw e))
+          subst (λ (t : List ℕ). (x ∷ keep (λ k. same (text k) t) (y ∷ ys)) ∷ gathered (y ∷ ys) (leads_after y ys) ≡ joined le x (runs_of le (y ∷ ys)))
+          (sym q) (rw (same_refl (text y), behind-y) (sym (ap (joined le x) (sym r) ∙ rw e)))
       go false e r =
           rw (none x y ys e h.1, same_refl (text y), behind-y) (sym (ap (joined le x) (sym r) ∙ rw e))
 

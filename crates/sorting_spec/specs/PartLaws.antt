@@ -1,14 +1,13 @@
 -- Laws of parts of lists. Assumes nothing.
-use denote.Slice.{shr_slice_at}
 use Rattle.std.specs.Prelude.{◌≡◌, refl, List, [], ◌∷◌, ◌++◌, map, ℕ, zero, suc, ◌+◌, ◌-◌, ◌≤◌, ◌<◌, set, length, get_or, take, drop}
 use Rattle.std.proofs.Common.{sym, ap, ◌∙◌, add-sub_of_le, arith, length-drop, take-append-drop, take-suc, take-suc-set, get_or-take, get_or-drop, ext_get_or, take-take, length-take-le, take_all}
 use Rattle.std.proofs.lemmas.List.{length-map, drop-append-le}
 use Rattle.std.proofs.Math.Seq.{slice, length-slice}
-use Rattle.lists.specs.InLaws.{get_d_mapped}
+use Rattle.lists.specs.InLaws.{get_or_mapped}
 
 -- an element in a part
-pub shr_slice_at : (f t : ℕ) (l : List ℕ) (i : ℕ) → f + i < t → get_or (slice f t l) i 0 ≡ get_or l (f + i) 0
-shr_slice_at f t l i h = get_or-drop f (take t l) i 0 ∙ get_or-take t l (f + i) 0 h
+pub at_slice : (f t : ℕ) (l : List ℕ) (i : ℕ) → f + i < t → get_or (slice f t l) i 0 ≡ get_or l (f + i) 0
+at_slice f t l i h = get_or-drop f (take t l) i 0 ∙ get_or-take t l (f + i) 0 h
 
 -- what fronts, tails and parts that are equal say of an element
 pub at_take : (n : ℕ) (x y : List ℕ) → take n x ≡ take n y → (i : ℕ) → i < n → get_or x i 0 ≡ get_or y i 0
@@ -25,13 +24,13 @@ slice_mapped g f t x y hx hy q =
     ext_get_or 0 (slice f t x) (map g (slice f t y)) (length-slice f t x hx ∙ sym (length-slice f t y hy) ∙ sym (length-map (slice f t y) g))
     (λ i h.
     let k : f + i < t = omega (arith, length-slice f t x hx) in
-    shr_slice_at f t x i k ∙ q (f + i) (omega arith) k ∙ ap g (sym (shr_slice_at f t y i k)) ∙ sym (get_d_mapped g (slice f t y) i (omega (arith, length-slice f t y hy))))
+    at_slice f t x i k ∙ q (f + i) (omega arith) k ∙ ap g (sym (at_slice f t y i k)) ∙ sym (get_or_mapped g (slice f t y) i (omega (arith, length-slice f t y hy))))
 
 -- and back: parts and tails are equal whose elements are
 pub slice-same : (f t : ℕ) (x y : List ℕ) → t ≤ length x → t ≤ length y → ((i : ℕ) → f ≤ i → i < t → get_or x i 0 ≡ get_or y i 0) → slice f t x ≡ slice f t y
 slice-same f t x y hx hy g =
     ext_get_or 0 (slice f t x) (slice f t y) (length-slice f t x hx ∙ sym (length-slice f t y hy))
-    (λ i h. let k : f + i < t = omega (arith, length-slice f t x hx) in shr_slice_at f t x i k ∙ g (f + i) (omega arith) k ∙ sym (shr_slice_at f t y i k))
+    (λ i h. let k : f + i < t = omega (arith, length-slice f t x hx) in at_slice f t x i k ∙ g (f + i) (omega arith) k ∙ sym (at_slice f t y i k))
 
 pub drop-same : (n : ℕ) (x y : List ℕ) → length x ≡ length y → ((i : ℕ) → n ≤ i → get_or x i 0 ≡ get_or y i 0) → drop n x ≡ drop n y
 drop-same n x y e g =

@@ -1,4 +1,6 @@
 // What numbers stand for: lists, names, letters and joined names. Only crates of this repository call these.
+#![tactic(auto)]
+
 mod naming;
 mod text;
 

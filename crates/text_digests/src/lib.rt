@@ -1,5 +1,7 @@
 // What the programs that list digests share: the settings on a line, a line for each record, and refusals. Only programs of this
 // repository call these.
+#![tactic(auto)]
+
 mod page;
 mod request;
 

@@ -1,5 +1,7 @@
 // The fields of a line, which are parted by blanks: numbers, records, marks, names and texts, and what an answer is held to. Only
 // programs of this repository call these.
+#![tactic(auto)]
+
 mod answers;
 mod decimals;
 mod fields;

@@ -1,4 +1,6 @@
 // The lines of a text, and counts in 32 bits. Only programs of this repository call these.
+#![tactic(auto)]
+
 mod counts;
 mod lines;
 

@@ -8,4 +8,4 @@ pub slice_bounds-replay-end : goal.slice_bounds-replay-end
 slice_bounds-replay-end c =
     let n = c.load-n in
     let m = c.mask in
-    sym (length-take-le n.result m.new.0 (omega (arith, n.ensures.0, n.auto.1.0, m.auto.0)))
+    sym (length-take-le n.result m.new.s (omega (arith, n.ensures.0, n.auto.buffer, m.auto.s)))

@@ -13,7 +13,7 @@ pub returns-then-marks-groups : goal.returns-then-marks-groups
 returns-then-marks-groups c =
     let a = c.args in
     let call = c.cover_short in
-    made_short a.edges.now a.groups a.work.now a.marks.now call.new.1.1.1.1.1.0 call.new.1.1.1.1.0 c.requires.groups-max call.ensures.1 call.ensures.0 c.if-marks-groups.true
+    made_short a.edges.now a.groups a.work.now a.marks.now call.new.work call.new.marks c.requires.groups-max call.ensures.1 call.ensures.0 c.if-marks-groups.true
 
 -- TODO fields ['run_fits', 'groups_in_bounds']
 pub cover_all-requires : goal.cover_all-requires
@@ -23,4 +23,4 @@ pub returns : goal.returns
 returns c =
     let a = c.args in
     let call = c.cover_all in
-    made_all a.edges.now a.groups a.work.now a.marks.now call.new.1.1.1.1.1.0 call.new.1.1.1.1.0 c.requires.groups-max call.ensures.1 call.ensures.0 c.if-marks-groups.false
+    made_all a.edges.now a.groups a.work.now a.marks.now call.new.work call.new.marks c.requires.groups-max call.ensures.1 call.ensures.0 c.if-marks-groups.false

@@ -13,4 +13,4 @@ pub returns : goal.returns
 returns c =
     let a = c.args in
     let made = c.cover_into in
-    (put_front a.groups a.marks.now made.new.1.1.1.1.0 (ap length made.ensures.0 ∙ length-cover a.groups _) c.requires.groups_in_bounds ∙ ap (λ (l : List ℕ). sets a.marks.now 0 l) made.ensures.0, made.ensures.1)
+    (put_front a.groups a.marks.now made.new.marks (ap length made.ensures.0 ∙ length-cover a.groups _) c.requires.groups_in_bounds ∙ ap (λ (l : List ℕ). sets a.marks.now 0 l) made.ensures.0, made.ensures.1)

@@ -13,5 +13,5 @@ pub returns : goal.returns
 returns c =
     let a = c.args in
     let made = c.cover_into in
-    let m = mid_front a.groups a.all.now made.new.1.1.1.1.0 (ap length made.ensures.0 ∙ length-cover a.groups _) in
+    let m = mid_front a.groups a.all.now made.new.marks (ap length made.ensures.0 ∙ length-cover a.groups _) in
     (c.put_bytes.ensures ∙ ap (λ (l : List ℕ). sets a.marks.now 0 l) (m ∙ made.ensures.0), made.ensures.1)

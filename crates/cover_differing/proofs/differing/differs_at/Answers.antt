@@ -11,13 +11,13 @@ go_along-requires c = (c.requires.groups_linked.by_old, (c.requires.g_lt_groups,
 pub go_along-lack-requires : goal.go_along-lack-requires
 go_along-lack-requires c =
     let up = c.go_along in
-    (still_new c.requires.groups_linked up.ensures up.auto.1.0, (c.requires.g_lt_groups, counted_few c.requires.groups_linked up.ensures))
+    (still_new c.requires.groups_linked up.ensures up.auto.w, (c.requires.g_lt_groups, counted_few c.requires.groups_linked up.ensures))
 
 pub go_along-left-requires : goal.go_along-left-requires
 go_along-left-requires c =
     let up = c.go_along in
     let off = c.go_along-lack in
-    (still_old c.requires.groups_linked up.ensures off.ensures (off.auto.1.0 ∙ up.auto.1.0), (c.requires.g_lt_groups, off_few c.requires.groups_linked up.ensures off.ensures))
+    (still_old c.requires.groups_linked up.ensures off.ensures (off.auto.w ∙ up.auto.w), (c.requires.g_lt_groups, off_few c.requires.groups_linked up.ensures off.ensures))
 
 -- TODO fields ['value', 'w_unchanged']
 pub returns : goal.returns
@@ -25,4 +25,4 @@ returns c =
     let up = c.go_along in
     let off = c.go_along-lack in
     let last = c.go_along-left in
-    (differ_made c.requires.groups_linked up.ensures off.ensures last.ensures, differ_same c.requires.groups_linked up.ensures off.ensures last.ensures (last.auto.1.0 ∙ off.auto.1.0 ∙ up.auto.1.0))
+    (differ_made c.requires.groups_linked up.ensures off.ensures last.ensures, differ_same c.requires.groups_linked up.ensures off.ensures last.ensures (last.auto.w ∙ off.auto.w ∙ up.auto.w))

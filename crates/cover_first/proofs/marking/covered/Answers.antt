@@ -17,8 +17,7 @@ loop-i-init c = (omega arith, flags_start c.args.groups c.args.metas (meta_at c.
 
 pub loop-i-preserved : goal.loop-i-preserved
 loop-i-preserved c =
-    let lp = c.loop-i in
-    (
+    let lp = c.loop-i in (
       omega arith,
       rw c.meta_of-x.ensures
           (covered_step c.args.groups c.args.metas c.args.edges.now c.args.n c.args.w.now c.requires.1 lp.w lp.i (omega arith) c.requires.0 lp.invariant.1 c.flagged-v.result (rw (← c.group_of-g.ensures, ← c.meta_of-x.ensures) c.flagged-v.ensures)),

@@ -19,8 +19,7 @@ loop-i-init c =
 
 pub loop-i-preserved : goal.loop-i-preserved
 loop-i-preserved c =
-    let lp = c.loop-i in
-    (
+    let lp = c.loop-i in (
       omega arith,
       rw c.group_of-g.ensures
           (forced_step c.args.areas c.args.edges.now c.args.n c.args.w.now c.requires.1 lp.w lp.i (omega arith) c.requires.0 lp.invariant.1 c.flagged-v.result (rw (← c.group_of-g.ensures, ← c.meta_of-x.ensures, ← c.size_at-only.ensures) c.flagged-v.ensures)),

@@ -22,7 +22,7 @@ loop-i-preserved c =
     let a = c.args in
     let lp = c.loop-i in
     let e = rw (c.u32_at-g.ensures, c.u32_at-m.ensures) at c.join.ensures in
-    (omega arith, refl, c.join.auto.0 ∙ lp.invariant.2, edges-turn a.groups a.edges.now a.w.now lp.w c.join.new.w a.p (nodes a.groups a.metas) lp.i lp.invariant.3 e)
+    (omega arith, refl, c.join.auto.w ∙ lp.invariant.2, edges-turn a.groups a.edges.now a.w.now lp.w c.join.new.w a.p (nodes a.groups a.metas) lp.i lp.invariant.3 e)
 
 pub returns : goal.returns
 returns c = let e : c.loop-i.i ≡ c.args.n = omega arith in rw (← e) c.loop-i.invariant.3

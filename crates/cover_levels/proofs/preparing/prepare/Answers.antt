@@ -3,4 +3,4 @@ use Rattle.cover_levels.specs.PrepareLaws.{layout_kept}
 use Rattle.cover_levels.proofs.preparing.prepare.Goals as goal
 
 pub order-requires : goal.order-requires
-order-requires c = let l = c.lists in (layout_kept c.args.w.now _ l.auto.1.1.0 c.requires.0, c.requires.1, l.ensures)
+order-requires c = let l = c.lists in (layout_kept c.args.w.now _ l.auto.w c.requires.0, c.requires.1, l.ensures)

@@ -10,7 +10,7 @@ pub reach-requires : goal.reach-requires
 reach-requires c = (mark_walk c.args.areas (edges_to c.args.edges.now c.args.n) c.args.c c.requires.1 c.args.w.now c.requires.0, c.requires.1)
 
 pub shape_of-w : goal.shape_of-w
-shape_of-w c = let a = c.args in c.reach.auto.1.1.0 ∙ length-set a.w.now (a.areas.groups + a.areas.metas + a.c) 1
+shape_of-w c = let a = c.args in c.reach.auto.w ∙ length-set a.w.now (a.areas.groups + a.areas.metas + a.c) 1
 
 pub returns : goal.returns
 returns c = takes_all c.args.areas (edges_to c.args.edges.now c.args.n) c.args.c c.requires.1 c.args.w.now c.requires.0 c.reach.new.w c.reach.ensures

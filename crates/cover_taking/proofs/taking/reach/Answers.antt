@@ -27,7 +27,7 @@ pub loop-p-preserved : goal.loop-p-preserved
 loop-p-preserved c =
     let lp = c.loop-p in
     let call = c.visit in
-    (lp.invariant.0, reaching_step c.args.areas (edges_to c.args.edges.now c.args.n) c.args.c c.requires.1 c.args.w.now c.requires.0 lp.w lp.p lp.invariant.1 (omega (arith, lp.invariant.0)) call.new.1.1.0 call.auto.1.1.0 (rw (← c.wide-x.ensures.0) call.ensures))
+    (lp.invariant.0, reaching_step c.args.areas (edges_to c.args.edges.now c.args.n) c.args.c c.requires.1 c.args.w.now c.requires.0 lp.w lp.p lp.invariant.1 (omega (arith, lp.invariant.0)) call.new.w call.auto.w (rw (← c.wide-x.ensures.0) call.ensures))
 
 pub returns : goal.returns
 returns c = let lp = c.loop-p in reaches c.args.areas (edges_to c.args.edges.now c.args.n) c.args.c c.requires.1 c.args.w.now c.requires.0 lp.w lp.p lp.invariant.1 (omega (arith, lp.invariant.0))

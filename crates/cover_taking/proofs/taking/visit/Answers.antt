@@ -19,11 +19,11 @@ lower-requires c =
     (visit_lowerable c.args.areas (edges_to c.args.edges.now c.args.n) c.args.w.now c.requires.0 c.args.x c.requires.1 (ne_eqb _ 1 c.if-w-areas-eq1.false))
 
 pub shape_of-w : goal.shape_of-w
-shape_of-w c = let a = c.args in c.lower.auto.0 ∙ length-set a.w.now (a.areas.groups + a.x) 1
+shape_of-w c = let a = c.args in c.lower.auto.w ∙ length-set a.w.now (a.areas.groups + a.x) 1
 
 pub returns : goal.returns
 returns c =
     let list = c.stretch_at-list in
     let low = c.lower in
-    meta_visited c.args.areas (edges_to c.args.edges.now c.args.n) c.args.w.now c.requires.0 c.args.x c.requires.1 low.new.0 low.auto.0 (ne_eqb _ 1 c.if-w-areas-eq1.false)
+    meta_visited c.args.areas (edges_to c.args.edges.now c.args.n) c.args.w.now c.requires.0 c.args.x c.requires.1 low.new.w low.auto.w (ne_eqb _ 1 c.if-w-areas-eq1.false)
     (rw (← list.ensures.0, ← list.ensures.1) low.ensures.0) low.ensures.1

@@ -19,9 +19,9 @@ loop-g-preserved c =
     let more = c.loop-g-test.true in (
       omega arith,
       refl,
-      found.auto.0 ∙ lp.invariant.2,
+      found.auto.w ∙ lp.invariant.2,
       length-set lp.marks lp.g c.picked-mark.result ∙ lp.invariant.3,
-      mixing_turn a.groups a.metas a.w.now lp.w found.new.0 a.given.now a.marks.now lp.marks lp.g found.result c.picked-mark.result lp.invariant.4 (omega arith) (omega (arith, lp.invariant.3)) found.ensures c.picked-mark.ensures,
+      mixing_turn a.groups a.metas a.w.now lp.w found.new.w a.given.now a.marks.now lp.marks lp.g found.result c.picked-mark.result lp.invariant.4 (omega arith) (omega (arith, lp.invariant.3)) found.ensures c.picked-mark.ensures,
     )
 
 pub returns : goal.returns

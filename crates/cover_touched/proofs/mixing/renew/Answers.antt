@@ -12,4 +12,4 @@ returns c =
     let cleared = c.clear in
     let mixed = c.mix in
     let made = c.touch in
-    (mixed.ensures (edges_to a.old.now a.on) (edges_to a.new.now a.nn) made.ensures, cleared.ensures ∙ ap (λ (n : ℕ). replicate n 0) (mixed.auto.1.1.1.0 ∙ made.auto.1.1.1.1.1.1.0))
+    (mixed.ensures (edges_to a.old.now a.on) (edges_to a.new.now a.nn) made.ensures, cleared.ensures ∙ ap (λ (n : ℕ). replicate n 0) (mixed.auto.w ∙ made.auto.w))

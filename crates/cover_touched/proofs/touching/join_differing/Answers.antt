@@ -26,10 +26,10 @@ loop-g-preserved c =
     let a = c.args in
     let lp = c.loop-g in
     let call = c.join_if in
-    let next = call.new.1.1.1.1.1.1.0 in (
+    let next = call.new.w in (
       omega arith,
-      call.auto.1.1.1.1.1.1.0 ∙ lp.invariant.1,
-      linked_same lp.w next call.auto.1.1.1.1.1.1.0 call.ensures.rest lp.invariant.2,
+      call.auto.w ∙ lp.invariant.1,
+      linked_same lp.w next call.auto.w call.ensures.rest lp.invariant.2,
       seeds-turn (differing (edges_to a.old.now a.on) (edges_to a.new.now a.nn)) a.w.now lp.w next a.metas (nodes a.groups a.metas) lp.g lp.invariant.3 call.ensures,
     )
 

@@ -8,7 +8,7 @@ use Rattle.cover_edges.specs.Edges.{edges_to}
 use Rattle.cover_walk.proofs.walking.descend.Goals as goal
 
 pub loop-d-preserved : goal.loop-d-preserved
-loop-d-preserved c = (c.sweep.auto.1.1.0 ∙ c.loop-d.invariant.0, c.sweep.ensures)
+loop-d-preserved c = (c.sweep.auto.w ∙ c.loop-d.invariant.0, c.sweep.ensures)
 
 pub returns : goal.returns
 returns c = levels_end c.args.areas (edges_to c.args.edges.now c.args.n) c.loop-d.w 0 (subst (λ (x : ℕ). Levels c.args.areas (edges_to c.args.edges.now c.args.n) x 0 c.loop-d.w) (omega arith) c.loop-d.invariant.1)

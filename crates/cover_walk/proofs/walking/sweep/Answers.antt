@@ -17,7 +17,7 @@ pub loop-areas-smaller : goal.loop-areas-smaller
 loop-areas-smaller c = omega (arith, c.more.ensures.0 c.loop-areas-test.true)
 
 pub loop-areas-preserved : goal.loop-areas-preserved
-loop-areas-preserved c = (c.step.auto.1.1.0 ∙ c.loop-areas.invariant.0, omega (arith, c.more.ensures.0 c.loop-areas-test.true), c.step.ensures)
+loop-areas-preserved c = (c.step.auto.w ∙ c.loop-areas.invariant.0, omega (arith, c.more.ensures.0 c.loop-areas-test.true), c.step.ensures)
 
 pub returns : goal.returns
 returns c = levels_down c.args.areas (edges_to c.args.edges.now c.args.n) c.loop-areas.w c.args.d c.loop-areas.i c.loop-areas.invariant.2 c.requires.1 (c.more.ensures.1 c.loop-areas-test.false)

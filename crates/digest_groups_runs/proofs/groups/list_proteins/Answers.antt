@@ -17,7 +17,7 @@ returns c =
     let a = c.args in
     let p = c.requires in
     let t = c.take_proteins in
-    let m = t.new.1.0 in
+    let m = t.new.w in
     let s : length m ≡ length a.w.now = t.ensures.same_length in
     let f = order-fitting a.lo a.hi a.n (2 * a.n) (length m) p.0 p.1 (omega (arith, p.0, p.1)) (omega (arith, p.2.fits)) in
     rw (c.sort.ensures.1, f) (listed_of a.names.now a.digests.now a.w.now m a.lo a.hi a.n p.0 p.1 p.2.fits t.ensures)

@@ -8,5 +8,5 @@ returns c =
     let a = c.args in
     let p = c.requires in
     let t = c.spell_all in
-    let m = t.new.1.1.1.0 in
+    let m = t.new.w in
     sorted-tables a.bounds.now a.letters.now a.digests.now a.n m p.0 t.ensures (omega (arith, p.1)) c.sort.new.w c.sort.ensures.1

@@ -9,6 +9,6 @@ returns c = let a = c.args in
     let then = c.fill_blocks-2 in
     record {
       wide = omega arith;
-      small = leasts_kept 64 0 a.n a.longest.now first.new.1.1.1.1.0 then.new.1.1.1.1.0 1024 first.ensures.0 (omega arith) then.ensures.1;
+      small = leasts_kept 64 0 a.n a.longest.now first.new.least then.new.least 1024 first.ensures.0 (omega arith) then.ensures.1;
       great = then.ensures.0;
     }

@@ -24,7 +24,7 @@ returns-in_default c = let a = c.args in
     let l = c.loop-a in
     let b = c.block_end-end in
     let x = c.list_block in
-    (walk_full a.letters.now a.protein a.len 64 l.a b.result a.to l.k l.out x.new.1.1.1.1.1.1.1.1.1.1.0 b.ensures (omega arith) (rw c.in_default.is at x.ensures.0) ∙ l.invariant.4, x.ensures.1)
+    (walk_full a.letters.now a.protein a.len 64 l.a b.result a.to l.k l.out x.new.out b.ensures (omega arith) (rw c.in_default.is at x.ensures.0) ∙ l.invariant.4, x.ensures.1)
 
 pub loop-a-preserved : goal.loop-a-preserved
 loop-a-preserved c = let a = c.args in
@@ -32,7 +32,7 @@ loop-a-preserved c = let a = c.args in
     let b = c.block_end-end in
     let x = c.list_block in
     let y = c.x-1.given in
-    (omega arith, omega arith, omega arith, x.ensures.1, walk_kept a.letters.now a.protein a.len 64 l.a b.result a.to l.k l.out x.new.1.1.1.1.1.1.1.1.1.1.0 b.ensures (omega arith) y.0.0 (rw y.1 at x.ensures.0) ∙ l.invariant.4)
+    (omega arith, omega arith, omega arith, x.ensures.1, walk_kept a.letters.now a.protein a.len 64 l.a b.result a.to l.k l.out x.new.out b.ensures (omega arith) y.0.0 (rw y.1 at x.ensures.0) ∙ l.invariant.4)
 
 pub returns : goal.returns
 returns c = let a = c.args in

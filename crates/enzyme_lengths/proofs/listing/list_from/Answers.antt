@@ -21,7 +21,7 @@ returns-in_default c = let a = c.args in
     let m = c.later-second in
     let x = c.list_starts in
     let w = within (goal.at.returns-in_default c).After-position-position in
-    (part_full a.letters.now a.protein a.len a.from m.result a.to a.count a.out.now x.new.1.1.1.1.1.1.1.1.1.1.0 w.1 w.0 (rw c.in_default.is at x.ensures.0), x.ensures.1)
+    (part_full a.letters.now a.protein a.len a.from m.result a.to a.count a.out.now x.new.out w.1 w.0 (rw c.in_default.is at x.ensures.0), x.ensures.1)
 
 pub list_later-requires : goal.list_later-requires
 list_later-requires c = (c.requires.0, c.requires.1, c.requires.2, c.requires.3, c.list_starts.ensures.1, omega (arith, c.later-second.ensures), (within (goal.at.list_later-requires c).After-position-position).0)
@@ -33,4 +33,4 @@ returns c = let a = c.args in
     let k = c.k-1.given in
     let y = c.list_later.ensures in
     let w = within (goal.at.returns c).After-position-position in
-    (y.0 ∙ part-kept a.letters.now a.protein a.len a.from m.result a.to a.count a.out.now x.new.1.1.1.1.1.1.1.1.1.1.0 w.1 w.0 k.0.0 (rw k.1 at x.ensures.0), y.1)
+    (y.0 ∙ part-kept a.letters.now a.protein a.len a.from m.result a.to a.count a.out.now x.new.out w.1 w.0 k.0.0 (rw k.1 at x.ensures.0), y.1)

@@ -12,7 +12,7 @@ pub returns-in_default : goal.returns-in_default
 returns-in_default c = let a = c.args in
     let m = c.inner_end-end in
     let x = c.list_starts in
-    (part_full a.letters.now a.protein a.len a.from m.result a.to a.count a.out.now x.new.1.1.1.1.1.1.1.1.1.1.0 m.ensures.0 m.ensures.1 (rw c.in_default.is at x.ensures.0), x.ensures.1)
+    (part_full a.letters.now a.protein a.len a.from m.result a.to a.count a.out.now x.new.out m.ensures.0 m.ensures.1 (rw c.in_default.is at x.ensures.0), x.ensures.1)
 
 pub list_starts-requires-2 : goal.list_starts-requires-2
 list_starts-requires-2 c = (c.requires.0, c.requires.1, c.requires.2, c.requires.3, c.list_starts.ensures.1, c.inner_end-end.ensures.3)
@@ -23,4 +23,4 @@ returns c = let a = c.args in
     let x = c.list_starts in
     let k = c.k-1.given in
     let y = c.list_starts-2.ensures in
-    (y.0 ∙ part-kept a.letters.now a.protein a.len a.from m.result a.to a.count a.out.now x.new.1.1.1.1.1.1.1.1.1.1.0 m.ensures.0 m.ensures.1 k.0.0 (rw k.1 at x.ensures.0), y.1)
+    (y.0 ∙ part-kept a.letters.now a.protein a.len a.from m.result a.to a.count a.out.now x.new.out m.ensures.0 m.ensures.1 k.0.0 (rw k.1 at x.ensures.0), y.1)

@@ -40,7 +40,7 @@ list_length-requires c = let l = c.loop-len in
 pub returns-in_default : goal.returns-in_default
 returns-in_default c = let l = c.loop-len in
     let x = c.list_length in
-    sym (chosen_full c.args.letters.now c.args.terms.protein (these (goal.at.returns-in_default c).After-wide) (rest (goal.at.returns-in_default c).After-wide) l.k l.out x.new.1.1.1.1.1.1.1.1.0 (rw c.in_default.is at x.ensures.0)) ∙ ahead (goal.at.returns-in_default c).After-wide
+    sym (chosen_full c.args.letters.now c.args.terms.protein (these (goal.at.returns-in_default c).After-wide) (rest (goal.at.returns-in_default c).After-wide) l.k l.out x.new.out (rw c.in_default.is at x.ensures.0)) ∙ ahead (goal.at.returns-in_default c).After-wide
 
 pub loop-len-preserved : goal.loop-len-preserved
 loop-len-preserved c = let a = c.args in
@@ -48,8 +48,8 @@ loop-len-preserved c = let a = c.args in
     let w = c.wide in
     let x = c.list_length in
     let y = c.x-1.given in
-    let told = told_later w.result (l.len + 1) a.letters.now a.longest.now a.next.now a.size.now x.new.1.1.1.1.0 (omega (arith, w.ensures.0)) x.ensures.1 in
-    (omega arith, omega arith, omega arith, l.invariant.3, told, sym (chosen-kept a.letters.now a.terms.protein (these (goal.at.loop-len-preserved c).After-wide) (rest (goal.at.loop-len-preserved c).After-wide) l.k l.out x.new.1.1.1.1.1.1.1.1.0 y.0.0 (rw y.1 at x.ensures.0)) ∙ ahead (goal.at.loop-len-preserved c).After-wide)
+    let told = told_later w.result (l.len + 1) a.letters.now a.longest.now a.next.now a.size.now x.new.head (omega (arith, w.ensures.0)) x.ensures.1 in
+    (omega arith, omega arith, omega arith, l.invariant.3, told, sym (chosen-kept a.letters.now a.terms.protein (these (goal.at.loop-len-preserved c).After-wide) (rest (goal.at.loop-len-preserved c).After-wide) l.k l.out x.new.out y.0.0 (rw y.1 at x.ensures.0)) ∙ ahead (goal.at.loop-len-preserved c).After-wide)
 
 pub returns : goal.returns
 returns c = let a = c.args in

@@ -33,7 +33,7 @@ returns-in_default c = let l = c.loop-a in
     let w = c.place in
     let t = c.times_where-times in
     let x = c.write_placed in (
-      sym (chosen-one_full c.args.letters.now c.args.protein c.args.len l.a (l.a + c.args.len) w.result (rest (goal.at.returns-in_default c).In-loop-a) l.k l.out x.new.1.1.1.1.1.1.1.1.0 refl (omega (arith, c.loop-a-test.true, c.requires.2)) (λ h. w.ensures ∙ c.requires.1.each l.a h) t.result t.ensures.1
+      sym (chosen-one_full c.args.letters.now c.args.protein c.args.len l.a (l.a + c.args.len) w.result (rest (goal.at.returns-in_default c).In-loop-a) l.k l.out x.new.out refl (omega (arith, c.loop-a-test.true, c.requires.2)) (λ h. w.ensures ∙ c.requires.1.each l.a h) t.result t.ensures.1
           (rw (c.in_default.is, placed_as (length c.args.letters.now) c.args.position c.args.protein (site l.a (l.a + c.args.len)) t.result (c.requires.5 l.a l.invariant.4 (omega (arith, c.loop-a-test.true)))) at x.ensures)) ∙ ahead (goal.at.returns-in_default c).In-loop-a,
       t.ensures.0,
     )
@@ -47,7 +47,7 @@ loop-a-preserved c = let l = c.loop-a in
       omega arith,
       omega arith,
       t.ensures.0,
-      sym (chosen-one-kept c.args.letters.now c.args.protein c.args.len l.a (l.a + c.args.len) w.result (rest (goal.at.loop-a-preserved c).In-loop-a) l.k l.out x.new.1.1.1.1.1.1.1.1.0 refl (omega (arith, c.loop-a-test.true, c.requires.2)) (λ h. w.ensures ∙ c.requires.1.each l.a h) t.result t.ensures.1
+      sym (chosen-one-kept c.args.letters.now c.args.protein c.args.len l.a (l.a + c.args.len) w.result (rest (goal.at.loop-a-preserved c).In-loop-a) l.k l.out x.new.out refl (omega (arith, c.loop-a-test.true, c.requires.2)) (λ h. w.ensures ∙ c.requires.1.each l.a h) t.result t.ensures.1
           y.0.0 (rw (y.1, placed_as (length c.args.letters.now) c.args.position c.args.protein (site l.a (l.a + c.args.len)) t.result (c.requires.5 l.a l.invariant.4 (omega (arith, c.loop-a-test.true)))) at x.ensures)) ∙ ahead (goal.at.loop-a-preserved c).In-loop-a,
       omega (arith, l.invariant.4),
     )

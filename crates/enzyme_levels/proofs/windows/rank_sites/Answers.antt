@@ -14,12 +14,12 @@ pub bring-requires : goal.bring-requires
 bring-requires c = let a = c.args in
     let p = c.requires in
     let u = c.line_up in
-    for_writing (sort_key a.key a.letters.now a.starts.now a.name.now a.rank.now) a.letters.now a.starts.now a.order.now u.new.1.1.1.1.1.0 a.other.now u.new.1.1.1.1.1.1.0 a.g a.m
-    p.0 u.ensures.0 u.auto.1.1.1.1.1.0 p.2 u.auto.1.1.1.1.1.1.0 p.3 a.rank.now p.1
+    for_writing (sort_key a.key a.letters.now a.starts.now a.name.now a.rank.now) a.letters.now a.starts.now a.order.now u.new.order a.other.now u.new.runs a.g a.m
+    p.0 u.ensures.0 u.auto.order p.2 u.auto.runs p.3 a.rank.now p.1
 
 pub mark-requires : goal.mark-requires
 mark-requires c = let a = c.args in
     let p = c.requires in
     let u = c.line_up in
-    for_writing (sort_key a.key a.letters.now a.starts.now a.name.now a.rank.now) a.letters.now a.starts.now a.order.now u.new.1.1.1.1.1.0 a.other.now u.new.1.1.1.1.1.1.0 a.g a.m
-    p.0 u.ensures.0 u.auto.1.1.1.1.1.0 p.2 u.auto.1.1.1.1.1.1.0 p.3 a.share.now p.4
+    for_writing (sort_key a.key a.letters.now a.starts.now a.name.now a.rank.now) a.letters.now a.starts.now a.order.now u.new.order a.other.now u.new.runs a.g a.m
+    p.0 u.ensures.0 u.auto.order p.2 u.auto.runs p.3 a.share.now p.4

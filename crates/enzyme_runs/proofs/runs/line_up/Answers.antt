@@ -13,10 +13,10 @@ pub number_runs-requires : goal.number_runs-requires
 number_runs-requires c = let a = c.args in
     let p = c.requires in
     let t = c.sort in
-    let x = t.new.1.1.1.1.1.0 in
-    let ar = sort_arranged a.key a.letters.now a.starts.now a.name.now a.rank.now a.order.now x a.g p.0 t.auto.1.1.1.1.1.0 t.ensures.0 p.3 in (
-      omega (arith, t.auto.1.1.1.1.1.0, p.0),
-      omega (arith, t.auto.1.1.1.1.1.1.0, p.1),
+    let x = t.new.order in
+    let ar = sort_arranged a.key a.letters.now a.starts.now a.name.now a.rank.now a.order.now x a.g p.0 t.auto.order t.ensures.0 p.3 in (
+      omega (arith, t.auto.order, p.0),
+      omega (arith, t.auto.other, p.1),
       p.2,
       sited_arranged (sort_key a.key a.letters.now a.starts.now a.name.now a.rank.now) a.letters.now a.starts.now a.order.now x a.g ar p.4,
     )
@@ -25,4 +25,4 @@ pub returns : goal.returns
 returns c = let a = c.args in
     let p = c.requires in
     let t = c.sort in
-    (sort_arranged a.key a.letters.now a.starts.now a.name.now a.rank.now a.order.now t.new.1.1.1.1.1.0 a.g p.0 t.auto.1.1.1.1.1.0 t.ensures.0 p.3, c.number_runs.ensures)
+    (sort_arranged a.key a.letters.now a.starts.now a.name.now a.rank.now a.order.now t.new.order a.g p.0 t.auto.order t.ensures.0 p.3, c.number_runs.ensures)

@@ -35,7 +35,7 @@ returns-in_default c =
     let s = a.letters.now in
     let ts = pieces a.knife s in
     let q = l.invariant.6 ts p.2 in
-    sizes_full (length s) a.terms.protein a.starts.now (weights ts) a.terms.minimum a.terms.maximum a.m l.over a.missed l.k l.out q.1 l.invariant.0 u.new.1.1.1.1.1.1.1.1.1.1.0
+    sizes_full (length s) a.terms.protein a.starts.now (weights ts) a.terms.minimum a.terms.maximum a.m l.over a.missed l.k l.out q.1 l.invariant.0 u.new.out
     (rw c.in_default.is at u.ensures ∙ level_listed ts s a.starts.now l.order l.other a.name.now l.rank l.share l.over l.g a.m q.0 (length s) a.terms.protein a.terms.minimum a.terms.maximum l.k l.out)
 
 pub next_level-g-requires : goal.next_level-g-requires
@@ -58,15 +58,15 @@ loop-over-preserved c =
     let z : c.wide-sites.result ≡ suc l.over = omega arith in
     let y : c.wide-sites.result + 1 ≡ suc (l.over + 1) = omega arith in (
       omega (arith, c.loop-over-test.true),
-      v.auto.1.1.1.1.1.0 ∙ l.invariant.1,
-      v.auto.1.1.1.1.1.1.0 ∙ l.invariant.2,
-      v.auto.1.1.1.1.1.1.1.1.0 ∙ l.invariant.3,
-      v.auto.1.1.1.1.1.1.1.1.1.0 ∙ l.invariant.4,
-      omega (arith, u.auto.1.1.1.1.1.1.1.1.1.1.0, l.invariant.5),
+      v.auto.order ∙ l.invariant.1,
+      v.auto.other ∙ l.invariant.2,
+      v.auto.rank ∙ l.invariant.3,
+      v.auto.share ∙ l.invariant.4,
+      omega (arith, u.auto.out, l.invariant.5),
       λ ts lr.
           let q = l.invariant.6 ts lr in (
             rw y at (v.ensures ts (rw z q.0)),
-            sizes-kept (length s) a.terms.protein a.starts.now (weights ts) a.terms.minimum a.terms.maximum a.m l.over a.missed l.k l.out q.1 l.invariant.0 u.new.1.1.1.1.1.1.1.1.1.1.0 c.in-Kept.x
+            sizes-kept (length s) a.terms.protein a.starts.now (weights ts) a.terms.minimum a.terms.maximum a.m l.over a.missed l.k l.out q.1 l.invariant.0 u.new.out c.in-Kept.x
                 (rw c.in-Kept.is at u.ensures ∙ level_listed ts s a.starts.now l.order l.other a.name.now l.rank l.share l.over l.g a.m q.0 (length s) a.terms.protein a.terms.minimum a.terms.maximum l.k l.out),
           ),
     )
@@ -90,5 +90,5 @@ returns c =
     let ts = pieces a.knife s in
     let e : a.missed ≡ l.over = omega (arith, l.invariant.0, c.loop-over-test.false) in
     let q = l.invariant.6 ts p.2 in
-    sizes-last (length s) a.terms.protein a.starts.now (weights ts) a.terms.minimum a.terms.maximum a.m l.over a.missed l.k l.out q.1 (omega arith) u.result u.new.1.1.1.1.1.1.1.1.1.1.0
+    sizes-last (length s) a.terms.protein a.starts.now (weights ts) a.terms.minimum a.terms.maximum a.m l.over a.missed l.k l.out q.1 (omega arith) u.result u.new.out
     (rw e at u.ensures ∙ level_listed ts s a.starts.now l.order l.other a.name.now l.rank l.share l.over l.g a.m q.0 (length s) a.terms.protein a.terms.minimum a.terms.maximum l.k l.out)

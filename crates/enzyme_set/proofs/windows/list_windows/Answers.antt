@@ -23,7 +23,7 @@ list_levels-requires c =
     let p = c.requires in
     let st = p.2 in
     let f = c.first_level-g in
-    (p.0, p.1, f.ensures (pieces k l) (pieces-placed k l _ _ st.count st.room st.at), omega (arith, p.3, f.auto.1.1.1.0), omega (arith, p.4, f.auto.1.1.1.1.0), omega (arith, p.6, f.auto.1.1.1.1.1.1.0), omega (arith, p.7, f.auto.1.1.1.1.1.1.1.0))
+    (p.0, p.1, f.ensures (pieces k l) (pieces-placed k l _ _ st.count st.room st.at), omega (arith, p.3, f.auto.order), omega (arith, p.4, f.auto.other), omega (arith, p.6, f.auto.rank), omega (arith, p.7, f.auto.share))
 
 pub returns : goal.returns
 returns c =

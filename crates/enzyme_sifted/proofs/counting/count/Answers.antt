@@ -20,7 +20,7 @@ loop-z-preserved c =
     let l = c.loop-z in
     let v = c.code_at-code.result in
     let turn = seen_more (code_at (length a.seen.now) a.letters.now a.starts.now) l.codes l.seen l.z v (omega arith) c.code_at-code.ensures l.invariant.3 in
-    (omega arith, length-set l.codes l.z v ∙ l.invariant.1, c.raise.auto.0 ∙ l.invariant.2, rw c.raise.ensures turn)
+    (omega arith, length-set l.codes l.z v ∙ l.invariant.1, c.raise.auto.seen ∙ l.invariant.2, rw c.raise.ensures turn)
 
 pub returns : goal.returns
 returns c = let e : c.loop-z.z ≡ c.args.m = omega arith in rw e at c.loop-z.invariant.3

@@ -8,4 +8,4 @@ returns c =
     let a = c.args in
     let t = c.count in
     let p = c.pick in
-    sifted a.letters.now a.starts.now t.new.1.1.1.0 t.new.1.1.1.1.0 p.new.1.1.1.0 (length a.seen.now) a.m p.result t.ensures p.ensures
+    sifted a.letters.now a.starts.now t.new.codes t.new.seen p.new.order (length a.seen.now) a.m p.result t.ensures p.ensures

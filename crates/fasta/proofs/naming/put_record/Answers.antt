@@ -18,8 +18,8 @@ loop-i-preserved c =
     let t = c.args.text.now in
     let l = c.loop-i in
     let p = c.put_byte in
-    let e : p.new.0 ≡ set l.out l.i (get_or t l.i 0) = cc in
-    (omega arith, p.auto.0 ∙ l.invariant.1, ap (λ (z : List ℕ). sets z (l.i + 1) (drop (l.i + 1) (padded t))) e ∙ padded-stored l.out t l.i c.requires (omega arith) ∙ l.invariant.2)
+    let e : p.new.out ≡ set l.out l.i (get_or t l.i 0) = cc in
+    (omega arith, p.auto.out ∙ l.invariant.1, ap (λ (z : List ℕ). sets z (l.i + 1) (drop (l.i + 1) (padded t))) e ∙ padded-stored l.out t l.i c.requires (omega arith) ∙ l.invariant.2)
 
 pub shape_of-out : goal.shape_of-out
 shape_of-out c = c.loop-i.invariant.1

@@ -20,11 +20,11 @@ loop-i-preserved-then-b-gt64 c =
     let p = c.put_byte in
     let b = get_or s l.i 0 in
     let e = high_taken s l.i c.requires (omega arith) c.if-b-gt64.true in
-    let f : p.new.0 ≡ set l.out l.k (65 + (b - 65) % 32) = cc in
+    let f : p.new.out ≡ set l.out l.k (65 + (b - 65) % 32) = cc in
     let g = high_raised s l.i c.requires (omega arith) c.if-b-gt64.true in (
       omega arith,
       omega arith,
-      p.auto.0 ∙ l.invariant.2,
+      p.auto.out ∙ l.invariant.2,
       ap (λ (z : List ℕ). sets z (l.k + 1) (capitals (together (drop (l.i + 1) s)))) (f ∙ ap (set l.out l.k) g) ∙ letter_stored l.out l.k s l.i (omega arith) e ∙ l.invariant.3,
       omega (arith, ap length (together-take s l.i (omega arith) e)),
     )

@@ -33,5 +33,5 @@ pub returns : goal.returns
 returns c =
     let b = c.args.b in
     let k = c.wrapping_sub_u8 in
-    let e : k.result ≡ (bit_or b 32 + 159) % 256 = omega (arith, k.type-inv, k.ensures) in
-    ap (λ (x : ℕ). ltb x 26) e ∙ alike b (search (rules, c.well-formed.0))
+    let e : k.result ≡ (bit_or b 32 + 159) % 256 = omega (arith, k.type_inv, k.ensures) in
+    ap (λ (x : ℕ). ltb x 26) e ∙ alike b (search (rules, c.well_formed.0))

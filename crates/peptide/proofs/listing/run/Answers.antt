@@ -18,7 +18,7 @@ use Rattle.peptide.proofs.listing.run.Goals as goal
 pub slice_bounds-list_all-end : goal.slice_bounds-list_all-end
 slice_bounds-list_all-end c =
     let k = c.collect_used-m in
-    omega (arith, k.ensures.0, k.auto.1.1.1.1.0, length-replicate {A = ℕ} 2112 0)
+    omega (arith, k.ensures.0, k.auto.out, length-replicate {A = ℕ} 2112 0)
 
 pub returns : goal.returns
 returns c =
@@ -26,9 +26,9 @@ returns c =
     let k = c.collect_used-m in
     let read = c.raised-letters.ensures in
     let table = c.fixed_table-table in
-    let sites = take (k.result - 0) k.new.1.1.1.1.0 in
-    let n : length a.p.ids ≡ 64 = search (rules, c.well-formed.0) in
-    let e : sites ≡ used a.variable.now (packed_sites a.p a.variable.now) = ap (λ (z : ℕ). take z k.new.1.1.1.1.0) (sub-zero k.result) ∙ rw read at k.ensures.1 in
+    let sites = take (k.result - 0) k.new.out in
+    let n : length a.p.ids ≡ 64 = search (rules, c.well_formed.0) in
+    let e : sites ≡ used a.variable.now (packed_sites a.p a.variable.now) = ap (λ (z : ℕ). take z k.new.out) (sub-zero k.result) ∙ rw read at k.ensures.1 in
     c.list_all.ensures
     ∙ ap (λ (z : List ℕ). counted 66 most_forms a.out.now (map (quick z table.result.slots sites a.variable.now) (packed_choices sites a.variable.now a.limit a.cap))) c.bare-bare.ensures
     ∙ ap (counted 66 most_forms a.out.now) (by-table a.p a.variable.now a.fixed.now sites table.result.slots a.limit a.cap n e (rw read at table.ensures))

@@ -6,6 +6,7 @@ use mathlib.Core.List.{List}
 use native.Mathlib.Omega.{arith}
 use native.Mathlib.Decide.{dec_lt}
 use lib.ListN.{get_or}
+use Rattle.peptide_choices.proofs.choice.movable.Goals.{then-a-m+else-n-i, else-a-m}
 use Rattle.peptide_choices.proofs.choice.movable.Goals as goal
 
 pub loop-i-init : goal.loop-i-init
@@ -26,7 +27,7 @@ lower e n m i xs z a h j p q = go (dec_lt (i - 1) j)
         rw f a
 
 pub loop-i-preserved : goal.loop-i-preserved
-loop-i-preserved c = (omega arith, lower c.args.e c.args.n c.args.m c.loop-i.i c.args.at c.loop-i-test.true (⊎_elim (λ w. omega arith) (λ w. omega arith) c.if-a-m.branch) c.loop-i.invariant.1)
+loop-i-preserved c = (omega arith, lower c.args.e c.args.n c.args.m c.loop-i.i c.args.at c.loop-i-test.true (elim c.if-a-m.branch [ then-a-m+else-n-i w ↦ omega arith | else-a-m w ↦ omega arith ]) c.loop-i.invariant.1)
 
 pub returns : goal.returns
 returns c = (omega arith, ((λ g. absurd (omega arith)), λ j p q. c.loop-i.invariant.1 j (omega arith) q))

@@ -44,7 +44,7 @@ pub made-next-requires : goal.made-next-requires
 made-next-requires c = let l = c.loop-s.invariant in omega (arith, l.low, l.high, l.left.size)
 
 pub overflow_mul-count : goal.overflow_mul-count
-overflow_mul-count c = omega (arith, c.if-room-count.false, c.well-formed.1.1.1.1.1.1)
+overflow_mul-count c = omega (arith, c.if-room-count.false, c.well_formed.1.1.1.1.1.1)
 
 pub put_form-requires : goal.put_form-requires
 put_form-requires c =

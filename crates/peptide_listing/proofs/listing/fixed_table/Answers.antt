@@ -20,7 +20,7 @@ pub returns : goal.returns
 returns c =
     let a = c.args in
     let k = c.collect-m in
-    let new = k.new.1.1.1.1.0 in
+    let new = k.new.out in
     let fixed = a.fixed.now in
     c.with_all.ensures
     ∙ ap (λ (z : List ℕ). apply fixed z (take (k.result - 0) new)) c.empty-empty.ensures

@@ -21,7 +21,7 @@ loop-r-preserved c =
     let a = c.args in
     let l = c.loop-r in
     let called = c.push_slots-at in
-    (omega arith, sites-written-more a.letters a.n a.position a.rules.now (length a.rules.now / 8) a.out.now l.out l.at l.r called.new.1.1.1.1.1.1.0 called.result c.requires.0 c.loop-r-test.true called.ensures called.auto.1.1.1.1.1.1.0 l.invariant.1)
+    (omega arith, sites-written-more a.letters a.n a.position a.rules.now (length a.rules.now / 8) a.out.now l.out l.at l.r called.new.out called.result c.requires.0 c.loop-r-test.true called.ensures called.auto.out l.invariant.1)
 
 pub returns : goal.returns
 returns c = sites-written-all _ _ _ _ _ _ _ _ _ refl c.loop-r-test.false c.loop-r.invariant.1

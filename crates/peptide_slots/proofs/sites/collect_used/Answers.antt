@@ -24,5 +24,5 @@ returns c =
     let u = c.keep_used in
     let vs = all_sites a.letters a.n a.position a.rules.now in
     let few : length vs ≤ 2112 = all_few a.letters a.n a.position a.rules.now h.0 h.1 in
-    let t = used-first_taken a.rules.now vs a.out.now k.new.1.1.1.1.0 u.new.1.1.0 k.result u.result (omega (arith, h.2)) k.ensures u.ensures in
+    let t = used-first_taken a.rules.now vs a.out.now k.new.out u.new.out k.result u.result (omega (arith, h.2)) k.ensures u.ensures in
     (omega (arith, t.0), t.1)

@@ -27,7 +27,7 @@ loop-i-preserved c =
     let a = c.args in
     let l = c.loop-i in
     let p = c.put_if-next in
-    (omega arith, used-first-more a.rules.now a.out.now l.out l.i l.next _ (get_or l.out l.i 0) p.new.0 p.result (omega (arith, c.loop-i-test.true, c.requires)) refl (ap (λ (z : ℕ). not (eqb z 0)) c.u32_at-limit.ensures) p.ensures l.invariant.1)
+    (omega arith, used-first-more a.rules.now a.out.now l.out l.i l.next _ (get_or l.out l.i 0) p.new.out p.result (omega (arith, c.loop-i-test.true, c.requires)) refl (ap (λ (z : ℕ). not (eqb z 0)) c.u32_at-limit.ensures) p.ensures l.invariant.1)
 
 pub returns : goal.returns
 returns c = used-first-all _ _ _ _ _ _ c.loop-i.invariant.0 c.loop-i-test.false c.loop-i.invariant.1

@@ -26,7 +26,7 @@ loop-k-preserved c =
     let a = c.args in
     let l = c.loop-k in
     let called = c.put_if-next in
-    (omega arith, hits-written-more (test a.t1 a.n a.kind a.position a.letter) a.base a.n a.out.now a.at l.out l.next l.k _ called.new.0 called.result c.loop-k-test.true c.hits_at-hit.ensures called.ensures called.auto.0 l.invariant.1)
+    (omega arith, hits-written-more (test a.t1 a.n a.kind a.position a.letter) a.base a.n a.out.now a.at l.out l.next l.k _ called.new.out called.result c.loop-k-test.true c.hits_at-hit.ensures called.ensures called.auto.out l.invariant.1)
 
 pub returns : goal.returns
 unfolding places_of

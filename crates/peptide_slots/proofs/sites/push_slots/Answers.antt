@@ -6,13 +6,13 @@ use Rattle.peptide_slots.proofs.sites.push_slots.Goals as goal
 pub put_if-second-requires : goal.put_if-second-requires
 put_if-second-requires c =
     let p = c.put_if-first in
-    omega (arith, c.requires, p.auto.0, wrote_if _ _ _ _ _ _ p.ensures)
+    omega (arith, c.requires, p.auto.out, wrote_if _ _ _ _ _ _ p.ensures)
 
 pub push_places-requires : goal.push_places-requires
 push_places-requires c =
     let p = c.put_if-first in
     let q = c.put_if-second in
-    omega (arith, c.requires, p.auto.0, q.auto.0, wrote_if _ _ _ _ _ _ p.ensures, wrote_if _ _ _ _ _ _ q.ensures)
+    omega (arith, c.requires, p.auto.out, q.auto.out, wrote_if _ _ _ _ _ _ p.ensures, wrote_if _ _ _ _ _ _ q.ensures)
 
 pub returns : goal.returns
 returns c =
@@ -20,7 +20,7 @@ returns c =
     let p = c.put_if-first in
     let q = c.put_if-second in
     let r = c.push_places in
-    slots_wrote a.letters a.n a.kind a.position a.letter a.base _ _ a.out.now a.at p.new.0 p.result q.new.0 q.result _ r.result
+    slots_wrote a.letters a.n a.kind a.position a.letter a.base _ _ a.out.now a.at p.new.out p.result q.new.out q.result _ r.result
     c.at_first.ensures
     c.at_last.ensures
     p.ensures

@@ -26,7 +26,7 @@ same c = search rules
 pub hand_out-requires : goal.hand_out-requires
 hand_out-requires c =
     let a = c.args in let p = c.requires in let g = c.group_in-made in
-    rw (c.keys_at-a.ensures, same (goal.at.hand_out-requires c).After-group_in-made) (stands_writable a.pairs.now a.flags.now a.peptides a.proteins (length a.work.now) p.0 p.1 g.new.0 g.result.edges g.result.members g.ensures.0)
+    rw (c.keys_at-a.ensures, same (goal.at.hand_out-requires c).After-group_in-made) (stands_writable a.pairs.now a.flags.now a.peptides a.proteins (length a.work.now) p.0 p.1 g.new.w g.result.edges g.result.members g.ensures.0)
 
 pub returns : goal.returns
 returns c =
@@ -34,6 +34,6 @@ returns c =
     let p = g.ensures.1 a.flags.now (pairs_in a.pairs.now)
     (peptides_stand a.pairs.now a.flags.now a.peptides a.proteins (length a.work.now) q.0 q.1 w (stand (goal.at.returns c).After-set_up))
     (shown_stand a.pairs.now a.flags.now a.peptides a.proteins (length a.work.now) q.0 q.1 w (stand (goal.at.returns c).After-set_up)) in
-    left-made a.pairs.now a.flags.now a.peptides a.proteins (length a.work.now) q.0 a.work.now a.edges.now a.members.now g.new.0 o.new.0 o.new.1.1.0 o.new.1.1.1.0
+    left-made a.pairs.now a.flags.now a.peptides a.proteins (length a.work.now) q.0 a.work.now a.edges.now a.members.now g.new.w o.new.w o.new.edges o.new.members
     (stands_at (2 * a.proteins) c.keys_at-a.result (length a.pairs.now / 8) g.result.edges g.result.members) g.result.groups g.result.metas c.answer.result
     (rw c.keys_at-a.ensures p.edges_are) p.members_are p.groups_are p.metas_are o.ensures (same (goal.at.returns c).After-group_in-made) c.answer.ensures

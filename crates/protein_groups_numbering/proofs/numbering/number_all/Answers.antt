@@ -20,7 +20,7 @@ turn : (c : After-wide)
     → NumberTurn c.args.w.now c.learn-found.new.w c.args.b c.args.t c.args.m c.args.l c.args.n c.loop-i.i c.learn-found.result c.wide.result
 turn c =
     let a = c.args in let pre = c.requires in let l = c.loop-i in let k = c.learn-found in
-    rw c.wide.ensures.0 (numbering_turn a.w.now l.w k.new.0 a.b a.t a.m a.l a.n l.i l.found k.result l.invariant.1 k.auto.0 pre.0 pre.1 pre.2 (omega arith) pre.5 l.invariant.2 k.ensures)
+    rw c.wide.ensures.0 (numbering_turn a.w.now l.w k.new.w a.b a.t a.m a.l a.n l.i l.found k.result l.invariant.1 k.auto.w pre.0 pre.1 pre.2 (omega arith) pre.5 l.invariant.2 k.ensures)
 
 pub overflow_add-of : goal.overflow_add-of
 overflow_add-of c = omega (arith, (turn (goal.at.overflow_add-of c).After-wide).inside)
@@ -29,18 +29,18 @@ pub offset_bounds-w-of : goal.offset_bounds-w-of
 offset_bounds-w-of c = omega (arith, (turn (goal.at.offset_bounds-w-of c).After-wide).inside)
 
 pub bounds-w-of : goal.bounds-w-of
-bounds-w-of c = omega (arith, (turn (goal.at.bounds-w-of c).After-wide).inside, c.learn-found.auto.0)
+bounds-w-of c = omega (arith, (turn (goal.at.bounds-w-of c).After-wide).inside, c.learn-found.auto.w)
 
 pub overflow_sub-k : goal.overflow_sub-k
 overflow_sub-k c = omega (arith, (turn (goal.at.overflow_sub-k c).After-wide).number)
 
 pub bounds-w-at-in-loop-i : goal.bounds-w-at-in-loop-i
-bounds-w-at-in-loop-i c = omega (arith, c.learn-found.auto.0)
+bounds-w-at-in-loop-i c = omega (arith, c.learn-found.auto.w)
 
 pub loop-i-preserved : goal.loop-i-preserved
 loop-i-preserved c =
     let k = c.learn-found in let u = turn (goal.at.loop-i-preserved c).After-wide in
-    (omega arith, length-set k.new.0 _ _ ∙ k.auto.0 ∙ c.loop-i.invariant.1, u.more _ (omega (arith, u.number)))
+    (omega arith, length-set k.new.w _ _ ∙ k.auto.w ∙ c.loop-i.invariant.1, u.more _ (omega (arith, u.number)))
 
 pub returns : goal.returns
 returns c = let a = c.args in let l = c.loop-i in numbering_end a.w.now l.w a.b a.t a.m a.l a.n l.i l.found l.invariant.1 c.requires.2 (omega arith) l.invariant.2

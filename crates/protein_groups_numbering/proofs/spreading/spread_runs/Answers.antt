@@ -34,7 +34,7 @@ more : (c : After-slice_known-then-g-seen-1)
     → Spreading c.args.w.now c.spread_text-k.new.w c.args.plan c.args.t (c.loop-j.j + 1) (c.loop-j.seen + 1) (c.loop-j.k + c.spread_text-k.result)
 more c =
     let s = c.args in let l = c.loop-j in let d = c.spread_text-k in
-    spreading_more s.w.now l.w s.plan s.t l.j l.seen l.k l.invariant.1 c.requires (omega arith) l.invariant.2 (leads TODO-c.After-spread_text-arg-1) d.new.0 d.result d.auto.0 d.ensures
+    spreading_more s.w.now l.w s.plan s.t l.j l.seen l.k l.invariant.1 c.requires (omega arith) l.invariant.2 (leads TODO-c.After-spread_text-arg-1) d.new.w d.result d.auto.w d.ensures
 
 pub overflow_add-k : goal.overflow_add-k
 overflow_add-k c = let q = c.requires in omega (arith, (more (goal.at.overflow_add-k c).After-slice_known-then-g-seen-1).few, q.keys, q.fits)
@@ -43,7 +43,7 @@ pub overflow_add-seen : goal.overflow_add-seen
 overflow_add-seen c = omega (arith, c.requires.few, c.loop-j.invariant.2.count)
 
 pub loop-j-preserved-then-g-seen : goal.loop-j-preserved-then-g-seen
-loop-j-preserved-then-g-seen c = (omega arith, c.spread_text-k.auto.0 ∙ c.loop-j.invariant.1, more (goal.at.loop-j-preserved-then-g-seen c).After-slice_known-then-g-seen-1)
+loop-j-preserved-then-g-seen c = (omega arith, c.spread_text-k.auto.w ∙ c.loop-j.invariant.1, more (goal.at.loop-j-preserved-then-g-seen c).After-slice_known-then-g-seen-1)
 
 pub loop-j-preserved : goal.loop-j-preserved
 loop-j-preserved c =

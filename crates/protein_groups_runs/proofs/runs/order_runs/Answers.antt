@@ -20,7 +20,7 @@ returns-in-Runs c =
     let pre = c.requires in
     let f = c.sort_range in
     let g = c.number_runs-numbered in
-    runs_ordered a.w.now f.new.1.1.0 g.new.1.1.0 [] a.o a.t a.s a.e a.base g.result f.auto.1.1.0 g.auto.1.1.0 pre.0 pre.1 pre.2 pre.3 f.ensures g.ensures c.in-Runs.count c.in-Runs.is
+    runs_ordered a.w.now f.new.w g.new.w [] a.o a.t a.s a.e a.base g.result f.auto.w g.auto.w pre.0 pre.1 pre.2 pre.3 f.ensures g.ensures c.in-Runs.count c.in-Runs.is
 
 pub returns-in-Unfit : goal.returns-in-Unfit
 returns-in-Unfit c =
@@ -28,4 +28,4 @@ returns-in-Unfit c =
     let pre = c.requires in
     let f = c.sort_range in
     let g = c.number_runs-numbered in
-    let no : Unfit ≡ Runs (length (runs_of (le_by (Numbers a.base) [] (drop a.e f.new.1.1.0)) (slice a.o (a.o + a.t) f.new.1.1.0))) = sym c.in-Unfit.is ∙ counts a.w.now f.new.1.1.0 g.new.1.1.0 [] a.o a.t a.s a.e a.base g.result f.auto.1.1.0 g.auto.1.1.0 pre.0 pre.1 pre.2 pre.3 f.ensures g.ensures in let z : ◌≡◌ {A = ℕ} 0 1 = cc in absurd (omega arith)
+    let no : Unfit ≡ Runs (length (runs_of (le_by (Numbers a.base) [] (drop a.e f.new.w)) (slice a.o (a.o + a.t) f.new.w))) = sym c.in-Unfit.is ∙ counts a.w.now f.new.w g.new.w [] a.o a.t a.s a.e a.base g.result f.auto.w g.auto.w pre.0 pre.1 pre.2 pre.3 f.ensures g.ensures in let z : ◌≡◌ {A = ℕ} 0 1 = cc in absurd (omega arith)

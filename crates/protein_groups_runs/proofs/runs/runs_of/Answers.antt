@@ -16,9 +16,9 @@ sorts c =
     rw e at c.order_runs-count.ensures
 
 pub spread_runs-entries-requires : goal.spread_runs-entries-requires
-spread_runs-entries-requires c = let a = c.args in let d = c.order_runs-count in spreadable a.w.now d.new.0 a.plan a.t d.result d.auto.0 c.requires (sorts (goal.at.spread_runs-entries-requires c).After-order_runs-count)
+spread_runs-entries-requires c = let a = c.args in let d = c.order_runs-count in spreadable a.w.now d.new.w a.plan a.t d.result d.auto.w c.requires (sorts (goal.at.spread_runs-entries-requires c).After-order_runs-count)
 
 pub returns : goal.returns
 returns c =
     let a = c.args in let d = c.order_runs-count in let s = c.spread_runs-entries in
-    ran a.w.now d.new.0 a.plan a.t d.result d.auto.0 c.requires (sorts (goal.at.returns c).After-order_runs-count) s.new.0 s.result s.auto.0 s.ensures
+    ran a.w.now d.new.w a.plan a.t d.result d.auto.w c.requires (sorts (goal.at.returns c).After-order_runs-count) s.new.w s.result s.auto.w s.ensures

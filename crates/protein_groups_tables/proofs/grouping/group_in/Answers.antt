@@ -15,13 +15,13 @@ half c = rw c.peptide_plan-first.ensures at c.by_peptides-half.ensures
 pub by_proteins-made-requires : goal.by_proteins-made-requires
 by_proteins-made-requires c =
     let a = c.args in let p = c.by_peptides-half in
-    rw c.peptide_plan-first.ensures (proteins-asked a.w.now a.k a.m a.n c.requires p.new.0 p.result.found p.result.entries p.result.metas p.auto.0 (half (goal.at.by_proteins-made-requires c).After-by_peptides-half))
+    rw c.peptide_plan-first.ensures (proteins-asked a.w.now a.k a.m a.n c.requires p.new.w p.result.found p.result.entries p.result.metas p.auto.w (half (goal.at.by_proteins-made-requires c).After-by_peptides-half))
 
 pub returns : goal.returns
 returns c =
     let a = c.args in let g = c.requires in let p = c.by_peptides-half in let q = c.by_proteins-made in
     let d = rw c.peptide_plan-first.ensures at q.ensures in
     rw c.wide.ensures.0 (
-      grouping-fits a.w.now a.k a.m a.n g p.new.0 p.result.found p.result.entries p.result.metas p.auto.0 (half (goal.at.returns c).After-by_peptides-half) q.new.0 q.result.entries q.result.count q.auto.0 d,
-      grouping-placed a.w.now a.k a.m a.n g p.new.0 p.result.found p.result.entries p.result.metas p.auto.0 (half (goal.at.returns c).After-by_peptides-half) q.new.0 q.result.entries q.result.count q.auto.0 d,
+      grouping-fits a.w.now a.k a.m a.n g p.new.w p.result.found p.result.entries p.result.metas p.auto.w (half (goal.at.returns c).After-by_peptides-half) q.new.w q.result.entries q.result.count q.auto.w d,
+      grouping-placed a.w.now a.k a.m a.n g p.new.w p.result.found p.result.entries p.result.metas p.auto.w (half (goal.at.returns c).After-by_peptides-half) q.new.w q.result.entries q.result.count q.auto.w d,
     )

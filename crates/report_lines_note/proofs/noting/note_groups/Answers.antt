@@ -30,7 +30,7 @@ loop-i-preserved c =
     let l = c.loop-i in
     let call = c.note_group in (
       omega arith,
-      call.auto.1.1.1.1.0 ∙ l.invariant.1,
+      call.auto.w ∙ l.invariant.1,
       λ list h. flag_turn a.members.now l.i a.marks.now list a.decoy a.w.now l.w _ a.c a.m (group_in ((goal.at.loop-i-preserved c).In-loop-i)) (protein_in ((goal.at.loop-i-preserved c).In-loop-i)) (omega arith) h call.ensures (l.invariant.2 list h),
     )
 

@@ -28,7 +28,7 @@ write_rest-end-requires c =
 line : (c : After-slice_known-3-1)
     → let a = c.args in
     let r = c.write_rest-end in
-    Put a.out.now 0 (texts_of a.names.now a.keys.now a.starts.now) r.new.1.1.1.1.0 r.result
+    Put a.out.now 0 (texts_of a.names.now a.keys.now a.starts.now) r.new.out r.result
 line c =
     let a = c.args in
     line-put (joined_text a.names.now a.keys.now) a.starts.now (some-starts a.starts.now c.if-starts-eq0.false) c.write_text-first.ensures c.write_rest-end.ensures

@@ -8,4 +8,4 @@ write_line-requires c = lined-fits c.order-count.ensures c.requires
 pub returns : goal.returns
 returns c =
     let l = c.write_line in
-    lined-written c.order-count.ensures c.args.out.now l.new.1.1.1.0 l.result.bytes l.result.groups l.ensures
+    lined-written c.order-count.ensures c.args.out.now l.new.out l.result.bytes l.result.groups l.ensures

@@ -12,5 +12,5 @@ returns c =
     let a = c.args in
     let r = c.arrange-count in
     let f = sort_fits a.names.now p r.ensures in
-    let e : c.sort.new.w ≡ arranged Joined a.names.now 0 r.result a.c (2 * a.c) r.new.0 = rw f at c.sort.ensures.1 in
+    let e : c.sort.new.w ≡ arranged Joined a.names.now 0 r.result a.c (2 * a.c) r.new.w = rw f at c.sort.ensures.1 in
     rw e (line_ordered a.names.now p r.ensures)

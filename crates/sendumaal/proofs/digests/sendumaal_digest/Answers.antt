@@ -18,7 +18,7 @@ returns-then-is_enzyme c =
     let d = c.digest-answer in
     let t = c.counted in
     digest-done q c.if-missed-gt16.false e.result e.ensures
-    t.result t.new.1.1.0 (sym c.is_enzyme.ensures ∙ c.if-is_enzyme.true) t.new.1.0 d.result d.new.1.1.1.1.1.0 t.ensures d.ensures
+    t.result t.new.place (sym c.is_enzyme.ensures ∙ c.if-is_enzyme.true) t.new.count d.result d.new.out t.ensures d.ensures
 
 pub returns : goal.returns
 returns c =
@@ -27,4 +27,4 @@ returns c =
     let e = c.enzyme_numbered-cutter in
     let t = c.told_field in
     digest-field q c.if-missed-gt16.false e.result e.ensures
-    t.result t.new.1.0 (sym c.is_enzyme.ensures ∙ c.if-is_enzyme.false) (t.ensures ∙ ap field_call c.tested.ensures)
+    t.result t.new.place (sym c.is_enzyme.ensures ∙ c.if-is_enzyme.false) (t.ensures ∙ ap field_call c.tested.ensures)

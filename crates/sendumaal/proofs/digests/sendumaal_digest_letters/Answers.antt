@@ -8,5 +8,5 @@ pub returns : goal.returns
 returns c =
     let a = c.args in
     let w = c.digest_letters-answer in
-    count_said w.result c.counted.result c.counted.new.place c.counted.new.count a.count.now c.counted.ensures (w.new.1.1.0 ∷ [])
+    count_said w.result c.counted.result c.counted.new.place c.counted.new.count a.count.now c.counted.ensures (w.new.out ∷ [])
     (letters_outcome a.letters.now a.bytes.now a.out.now) w.ensures

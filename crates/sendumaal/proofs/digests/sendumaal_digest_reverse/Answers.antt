@@ -8,4 +8,4 @@ use Rattle.sendumaal.proofs.digests.sendumaal_digest_reverse.Goals as goal
 pub returns : goal.returns
 returns c =
     let w = c.reverse_record-answer in
-    check_said w.result c.told.result c.told.new.place c.told.ensures (w.new.0 ∷ []) ∙ ap tested_call w.ensures
+    check_said w.result c.told.result c.told.new.place c.told.ensures (w.new.bytes ∷ []) ∙ ap tested_call w.ensures

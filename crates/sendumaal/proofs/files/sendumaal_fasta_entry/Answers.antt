@@ -10,5 +10,5 @@ returns c =
     let w = c.read_entry-answer in
     let t = c.told_entry in
     let q : EntryArguments = record { bytes = a.bytes.now; at = a.at; name = a.name.now; letters = a.letters.now; next = a.next.now; count = a.count.now; found = a.found.now } in
-    entry_said q w.result (w.new.1.1.0 ∷ w.new.1.1.1.0 ∷ []) w.ensures t.result
-    ((t.new.1.1.1.1.0 ∷ []) ∷ (t.new.1.0 ∷ []) ∷ (t.new.1.1.0 ∷ []) ∷ (t.new.1.1.1.0 ∷ []) ∷ []) t.ensures
+    entry_said q w.result (w.new.name ∷ w.new.letters ∷ []) w.ensures t.result
+    ((t.new.place ∷ []) ∷ (t.new.next ∷ []) ∷ (t.new.count ∷ []) ∷ (t.new.found ∷ []) ∷ []) t.ensures

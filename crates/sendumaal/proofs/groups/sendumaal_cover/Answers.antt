@@ -8,5 +8,5 @@ pub returns : goal.returns
 returns c =
     let a = c.args in
     let w = c.cover-answer in
-    count_said w.result c.counted.result c.counted.new.place c.counted.new.count a.count.now c.counted.ensures (w.new.1.1.1.0 ∷ w.new.1.1.1.1.0 ∷ [])
+    count_said w.result c.counted.result c.counted.new.place c.counted.new.count a.count.now c.counted.ensures (w.new.work ∷ w.new.marks ∷ [])
     (cover_outcome a.edges.now a.groups a.metas a.work.now a.marks.now) w.ensures

@@ -9,5 +9,5 @@ returns c =
     let a = c.args in
     let w = c.group_digests-answer in
     count_said w.result c.counted.result c.counted.new.place c.counted.new.count a.count.now c.counted.ensures
-    (w.new.1.1.1.1.0 ∷ w.new.1.1.1.1.1.0 ∷ w.new.1.1.1.1.1.1.0 ∷ [])
+    (w.new.work ∷ w.new.groups ∷ w.new.proteins ∷ [])
     (digest_groups_outcome a.names.now a.bounds.now a.letters.now a.digests.now a.work.now a.groups.now a.proteins.now) w.ensures

@@ -8,5 +8,5 @@ pub returns : goal.returns
 returns c =
     let a = c.args in
     let w = c.update-answer in
-    count_said w.result c.counted.result c.counted.new.place c.counted.new.count a.count.now c.counted.ensures (w.new.1.1.1.1.1.0 ∷ w.new.1.1.1.1.1.1.0 ∷ [])
+    count_said w.result c.counted.result c.counted.new.place c.counted.new.count a.count.now c.counted.ensures (w.new.work ∷ w.new.marks ∷ [])
     (update_outcome a.old.now a.new.now a.groups a.metas a.given.now a.work.now a.marks.now) w.ensures

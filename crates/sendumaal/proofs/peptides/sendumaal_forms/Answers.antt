@@ -33,7 +33,7 @@ returns c =
     let q : FormsArguments = record { letters = a.letters.now; ids = a.ids.now; nterm = a.nterm; cterm = a.cterm; position = a.position; variable = a.variable.now; fixed = a.fixed.now; limit = a.limit; cap = a.cap; out = a.out.now; count = a.count.now } in
     let w = c.forms-answer in
     let t = c.counted in
-    count_said w.result t.result t.new.1.1.0 t.new.1.0 q.count t.ensures (w.new.1.1.1.1.1.0 ∷ [])
+    count_said w.result t.result t.new.place t.new.count q.count t.ensures (w.new.out ∷ [])
     (forms_outcome (formed q) q.variable q.fixed q.limit q.cap q.out)
     (w.ensures ∙ ap (λ (p : Peptide). forms_outcome p q.variable q.fixed q.limit q.cap q.out) c.peptide_of-p.ensures)
     ∙ forms_listed q (sym c.too_large.ensures ∙ c.if-too_large.false) c.if-ids-letters.false

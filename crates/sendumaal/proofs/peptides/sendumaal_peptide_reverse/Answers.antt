@@ -22,4 +22,4 @@ returns-in-Passed c =
     let a = c.args in
     let t = c.turn in
     reverse_yes a.letters.now a.ids.now a.decoy.now (sym c.test_reverse-found.ensures ∙ c.in-Passed.is)
-    c.flipped.result t.new.0 t.new.1.0 c.flipped.ensures t.ensures.0 t.ensures.1
+    c.flipped.result t.new.letters t.new.ids c.flipped.ensures t.ensures.0 t.ensures.1

@@ -11,12 +11,12 @@ returns-then-are_flags c =
     let l = c.report_line-answer in
     let t = c.reported in
     let q : LineArguments = record { names = a.names.now; members = a.members.now; marks = a.marks.now; proteins = a.proteins.now; decoy = a.decoy; tag = a.tag.now; generated = a.generated; line = a.line.now; bytes = a.bytes.now; groups = a.groups.now } in
-    line-done q t.result t.new.1.1.1.0
-    (sym c.are_flags.ensures ∙ c.if-are_flags.true) t.new.1.0 t.new.1.1.0 l.result l.new.1.1.1.1.1.1.1.0 t.ensures l.ensures
+    line-done q t.result t.new.place
+    (sym c.are_flags.ensures ∙ c.if-are_flags.true) t.new.bytes t.new.groups l.result l.new.out t.ensures l.ensures
 
 pub returns : goal.returns
 returns c =
     let a = c.args in
     let t = c.told_field in
     let q : LineArguments = record { names = a.names.now; members = a.members.now; marks = a.marks.now; proteins = a.proteins.now; decoy = a.decoy; tag = a.tag.now; generated = a.generated; line = a.line.now; bytes = a.bytes.now; groups = a.groups.now } in
-    line-field q t.result t.new.1.0 (sym c.are_flags.ensures ∙ c.if-are_flags.false) (t.ensures ∙ ap field_call c.tested.ensures)
+    line-field q t.result t.new.place (sym c.are_flags.ensures ∙ c.if-are_flags.false) (t.ensures ∙ ap field_call c.tested.ensures)

@@ -27,7 +27,7 @@ pub returns-then-is_rule : goal.returns-then-is_rule
 returns-then-is_rule c =
     let a = c.args in
     let w = c.write_rule-answer in
-    check_said w.result c.told.result c.told.new.place c.told.ensures (w.new.1.0 ∷ [])
+    check_said w.result c.told.result c.told.new.place c.told.ensures (w.new.out ∷ [])
     ∙ ap tested_call (w.ensures ∙ ap (λ (s : Specificity). write_rule_outcome (record { on = s; id = a.id; limit = a.limit }) a.out.now) c.specificity_of-on.ensures)
     ∙ record_rule a.kind a.letter a.out.now a.id a.limit (sym c.is_rule.ensures ∙ c.if-is_rule.true)
 

@@ -22,7 +22,7 @@ pub returns-then-is_rule : goal.returns-then-is_rule
 returns-then-is_rule c =
     let a = c.args in
     let w = c.write-answer in
-    count_said w.result c.counted.result c.counted.new.place c.counted.new.count a.count.now c.counted.ensures (w.new.1.0 ∷ [])
+    count_said w.result c.counted.result c.counted.new.place c.counted.new.count a.count.now c.counted.ensures (w.new.out ∷ [])
     (write_outcome (specificity a.kind a.letter) a.out.now) (w.ensures ∙ ap (λ (s : Specificity). write_outcome s a.out.now) c.specificity_of-on.ensures)
     ∙ write_rule a.kind a.letter a.out.now a.count.now (sym c.is_rule.ensures ∙ c.if-is_rule.true)
 

@@ -10,12 +10,12 @@ returns-in-Id c =
     let a = c.args in
     let i = c.insert-answer in
     let n = c.answer-1 in
-    insert_id (insert_outcome a.table.now a.count a.mass a.name) i.result (i.new.0 ∷ []) a.id.now i.ensures n.given.0.0 n.given.1
+    insert_id (insert_outcome a.table.now a.count a.mass a.name) i.result (i.new.table ∷ []) a.id.now i.ensures n.given.0.0 n.given.1
 
 pub returns-in-Refused : goal.returns-in-Refused
 returns-in-Refused c =
     let a = c.args in
     let i = c.insert-answer in
     let n = c.answer-in-Refused-1 in
-    said n.given.0.0 c.number.result c.place.result c.number.ensures c.place.ensures ((a.id.now ∷ []) ∷ i.new.0 ∷ [])
-    ∙ insert_no (insert_outcome a.table.now a.count a.mass a.name) i.result (i.new.0 ∷ []) a.id.now i.ensures n.given.0.0 n.given.1
+    said n.given.0.0 c.number.result c.place.result c.number.ensures c.place.ensures ((a.id.now ∷ []) ∷ i.new.table ∷ [])
+    ∙ insert_no (insert_outcome a.table.now a.count a.mass a.name) i.result (i.new.table ∷ []) a.id.now i.ensures n.given.0.0 n.given.1

@@ -12,7 +12,7 @@ pub slice_bounds-clear-end-2 : goal.slice_bounds-clear-end-2
 slice_bounds-clear-end-2 c =
     let a = c.args in
     let so = c.sort_range in
-    sym (length-take-le (a.n + a.n) so.new.1.1.0 (omega (arith, so.auto.1.1.0, c.count_up.auto.0, c.requires)))
+    sym (length-take-le (a.n + a.n) so.new.w (omega (arith, so.auto.w, c.count_up.auto.w, c.requires)))
 
 pub returns : goal.returns
 returns c =
@@ -21,7 +21,7 @@ returns c =
     let so = c.sort_range in
     let n = a.n in
     let names = a.names.now in (
-      repeated names up.new.0 so.new.1.1.0 n c.least_repeat-r.result up.ensures.0 so.ensures c.least_repeat-r.ensures,
-      front_cleared (n + n) so.new.1.1.0 c.clear.new.w (omega (arith, so.auto.1.1.0, up.auto.0, c.requires)) c.clear.ensures
-          ∙ ap (λ (x : List ℕ). replicate (n + n) 0 ++ x) (repeated_rest names a.w.now up.new.0 so.new.1.1.0 n up.auto.0 so.auto.1.1.0 up.ensures.1 so.ensures),
+      repeated names up.new.w so.new.w n c.least_repeat-r.result up.ensures.0 so.ensures c.least_repeat-r.ensures,
+      front_cleared (n + n) so.new.w c.clear.new.w (omega (arith, so.auto.w, up.auto.w, c.requires)) c.clear.ensures
+          ∙ ap (λ (x : List ℕ). replicate (n + n) 0 ++ x) (repeated_rest names a.w.now up.new.w so.new.w n up.auto.w so.auto.w up.ensures.1 so.ensures),
     )

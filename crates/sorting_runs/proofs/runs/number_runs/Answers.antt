@@ -14,7 +14,7 @@ pub returns-then-counts : goal.returns-then-counts
 returns-then-counts c =
     let a = c.args in
     let n = c.number_fitting-count in
-    number_fits a.by a.letters.now a.lo a.hi a.to a.e a.w.now n.new.1.1.0 n.result (sym c.counts.ensures ∙ c.if-counts.true) n.ensures.0 n.ensures.1 n.ensures.2 n.ensures.3
+    number_fits a.by a.letters.now a.lo a.hi a.to a.e a.w.now n.new.w n.result (sym c.counts.ensures ∙ c.if-counts.true) n.ensures.0 n.ensures.1 n.ensures.2 n.ensures.3
 
 pub returns-else-counts : goal.returns-else-counts
 returns-else-counts c =
