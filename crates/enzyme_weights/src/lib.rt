@@ -4,3 +4,4 @@
 mod weights;
 
 pub use weights::new_weight;
+pub use weights::weight_at;

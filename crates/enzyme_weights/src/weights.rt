@@ -1,8 +1,14 @@
 // Weights of windows.
 ghost use Rattle.std.specs.Prelude.{◌≡◌, ◌&&◌, ◌≤◌, ◌<◌, min, ltb, eqb, length, get_or};
-ghost use Rattle.enzyme_weights.specs.Weights.{run_size, class_size};
+ghost use Rattle.enzyme_weights.specs.Weights.{run_size, class_size, weight_in};
 
 use enzyme_keys::wide;
+
+fn number(x: u8) -> usize
+    ensures { result ≡ x }
+{
+    x as usize
+}
 
 // How many of the first g places belong to the run that starts at place p.
 fn run_size(runs: &[u16], g: usize, p: usize) -> u32
@@ -67,4 +73,24 @@ pub fn new_weight(order: &[u16], runs: &[u16], rank: &[u16], g: usize, i: usize)
         return 1;
     }
     class_size(order, runs, rank, g, i)
+}
+
+// The weight of the window of n sites from site i: 0 where an earlier site starts an equal one, else how many are equal to it.
+pub fn weight_at(
+    order: &[u16],
+    runs: &[u16],
+    rank: &[u16],
+    share: &[u8],
+    g: usize,
+    n: usize,
+    i: usize,
+) -> u32
+    requires { (g ≤ length order.now) × (g ≤ length runs.now) × (g ≤ 65536) × (i < length rank.now) × (i < length share.now) }
+    ensures { result ≡ weight_in order.now runs.now rank.now share.now g n i }
+{
+    let shared = number(share[i]);
+    if n <= shared {
+        return 0;
+    }
+    new_weight(order, runs, rank, g, i)
 }
