@@ -1,7 +1,7 @@
 -- What stands where in a reversed list. Assumes nothing.
-use Rattle.std.specs.Prelude.{ℕ, suc, ◌+◌, ◌-◌, ◌≤◌, ◌<◌, ◌≡◌, length, get_or}
+use Rattle.std.specs.Prelude.{ℕ, suc, ◌-◌, ◌≤◌, ◌<◌, ◌≡◌, length, get_or}
 use Rattle.std.proofs.Common.{sym, ap, ◌∙◌, ⊎_elim, arith}
-use mathlib.Core.List.{List, [], ◌∷◌, ◌++◌, reverse, reverse-cons}
+use mathlib.Core.List.{List, [], ◌∷◌, reverse, reverse-cons}
 use Rattle.std.proofs.lemmas.List.{length-reverse, get_or_at}
 use Rattle.std.proofs.Math.ListN.{get_or-append}
 use Rattle.lists.specs.Tests.{below?}

@@ -1,5 +1,5 @@
 -- `letter_at` meets its contract. Assumes nothing.
-use Rattle.std.proofs.Common.{sym, ◌∙◌, rules}
+use Rattle.std.proofs.Common.{sym, ◌∙◌}
 use Rattle.letters.specs.ReversalLaws.{letter_inner, letter_outer, letter_past}
 use Rattle.letters.proofs.reversal.letter_at.Goals as goal
 

@@ -1,8 +1,8 @@
 -- `all_good` meets its contract: as long as all are letters, the first that is none is still ahead. Assumes nothing.
-use Rattle.std.proofs.Common.{◌≡◌, ◌-◌, ◌≤◌, true, not, length, sym, ap, ◌∙◌, arith, rules}
+use Rattle.std.proofs.Common.{◌≡◌, not, length, sym, ap, ◌∙◌, arith}
 use Rattle.lists.specs.Tests.{both}
-use Rattle.records.specs.SeekingLaws.{Seeking, seeking_all, seeking_on, seeking_end}
-use Rattle.letters.specs.Letters.{no_letter, first_bad}
+use Rattle.records.specs.SeekingLaws.{seeking_all, seeking_on, seeking_end}
+use Rattle.letters.specs.Letters.{first_bad}
 use Rattle.letters.proofs.stretch.all_good.Goals as goal
 
 pub loop-i-init : goal.loop-i-init

@@ -1,7 +1,6 @@
 -- `all_good` meets its contract: as long as all are letters, the first that is none is still ahead. Assumes nothing.
-use Rattle.std.proofs.Common.{◌≡◌, ◌-◌, ◌≤◌, true, not, length, sym, ap, ◌∙◌, arith, rules}
-use Rattle.lists.specs.Tests.{both}
-use Rattle.records.specs.SeekingLaws.{Seeking, seeking_all, seeking_on, seeking_end}
+use Rattle.std.proofs.Common.{◌≡◌, ◌-◌, ◌≤◌, true, length}
+use Rattle.records.specs.SeekingLaws.{Seeking}
 use Rattle.letters.specs.Letters.{no_letter, first_bad}
 use Rattle.letters.proofs.stretch.all_good.Given as goal
 

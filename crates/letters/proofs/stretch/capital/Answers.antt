@@ -1,5 +1,5 @@
 -- `capital` meets its contract. Assumes nothing.
-use Rattle.std.proofs.Common.{◌≡◌, leb, sym, ◌∙◌, arith, rules, leb-true}
+use Rattle.std.proofs.Common.{leb, sym, ◌∙◌, arith, leb-true}
 use Rattle.lists.specs.Tests.{both}
 use Rattle.letters.specs.Letters.{capital}
 use Rattle.letters.proofs.stretch.capital.Goals as goal

@@ -1,5 +1,4 @@
 -- `first_bad` meets its contract. Assumes nothing.
-use Rattle.std.proofs.Common.{rules}
 use Rattle.letters.proofs.stretch.first_bad.Goals as goal
 
 pub returns-then-all_good : goal.returns-then-all_good

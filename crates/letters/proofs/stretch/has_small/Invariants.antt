@@ -1,7 +1,6 @@
 -- `has_small` meets its contract: what was found is of the first i bytes. Assumes nothing.
-use Rattle.std.proofs.Common.{◌≡◌, ℕ, ◌+◌, ◌-◌, ◌<◌, ◌≤◌, Bool, ◌||◌, List, length, get_or, take, sym, refl, ap, ◌∙◌, add-one, arith, take_all, take-suc, rules}
+use Rattle.std.proofs.Common.{◌≡◌, ◌-◌, ◌≤◌, length, take}
 use Rattle.lists.specs.Lists.{some}
-use Rattle.lists.specs.KeepLaws.{some_app}
 use Rattle.letters.specs.Letters.{is_small}
 use Rattle.letters.proofs.stretch.has_small.Given as goal
 

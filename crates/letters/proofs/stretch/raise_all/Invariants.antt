@@ -1,8 +1,7 @@
 -- `raise_all` meets its contract: the places before i hold capitals, the others what they held. Assumes nothing.
-use Rattle.std.proofs.Common.{◌≡◌, ℕ, ◌+◌, ◌-◌, ◌<◌, ◌≤◌, length, get_or, set, sym, refl, ap, ◌∙◌, inr, arith, length-set, rules}
-use Rattle.lists.specs.FrameLaws.{Framed, framed_none, framed_then, framed_within, framed_set, set_more}
+use Rattle.std.proofs.Common.{◌≡◌, ℕ, ◌-◌, ◌<◌, length, get_or}
+use Rattle.lists.specs.FrameLaws.{Framed}
 use Rattle.letters.specs.Letters.{capital}
-use Rattle.letters.specs.CapitalLaws.{capitals_is}
 use Rattle.letters.proofs.stretch.raise_all.Given as goal
 
 abbrev pub invariant-loop-i : goal.invariant-loop-i

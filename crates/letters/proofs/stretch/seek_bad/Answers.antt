@@ -1,7 +1,7 @@
 -- `seek_bad` meets its contract. Assumes nothing.
-use Rattle.std.proofs.Common.{◌-◌, not, length, sym, ap, ◌∙◌, arith, rules}
-use Rattle.records.specs.SeekingLaws.{Seeking, seeking_all, seeking_stop, seeking_on, seeking_end}
-use Rattle.letters.specs.Letters.{no_letter, first_bad}
+use Rattle.std.proofs.Common.{not, sym, ap, ◌∙◌, arith}
+use Rattle.records.specs.SeekingLaws.{seeking_all, seeking_stop, seeking_on, seeking_end}
+use Rattle.letters.specs.Letters.{first_bad}
 use Rattle.letters.proofs.stretch.seek_bad.Goals as goal
 
 pub loop-i-init : goal.loop-i-init

@@ -1,6 +1,6 @@
 -- `seek_bad` meets its contract. Assumes nothing.
-use Rattle.std.proofs.Common.{◌-◌, not, length, sym, ap, ◌∙◌, arith, rules}
-use Rattle.records.specs.SeekingLaws.{Seeking, seeking_all, seeking_stop, seeking_on, seeking_end}
+use Rattle.std.proofs.Common.{◌-◌, length}
+use Rattle.records.specs.SeekingLaws.{Seeking}
 use Rattle.letters.specs.Letters.{no_letter, first_bad}
 use Rattle.letters.proofs.stretch.seek_bad.Given as goal
 

@@ -1,9 +1,7 @@
 -- `put_bytes` meets its contract: what is still to be stored from k on gives the whole. Assumes nothing.
-use Prim.Native.Nat.{◌-◌}
 use native.Mathlib.Omega.{arith}
-use mathlib.Core.Path.{◌≡◌, sym, ◌∙◌}
-use lib.ListN.{length, get_or, drop, length-set}
-use lib.Seq.{sets}
+use mathlib.Core.Path.{sym, ◌∙◌}
+use lib.ListN.{get_or, drop, length-set}
 use Rattle.records.specs.LeLaws.{sets_out}
 use Rattle.records.specs.StoreLaws.{store_on, store_end}
 use Rattle.records.proofs.number.put_bytes.Goals as goal

@@ -1,10 +1,10 @@
 -- `clear` meets its contract: the first i are 0. Assumes nothing.
-use Prim.Native.Nat.{ℕ, ◌≤◌, ◌<◌, ◌-◌, ◌+◌}
+use Prim.Native.Nat.{◌≤◌, ◌<◌}
 use native.Mathlib.Omega.{arith}
 use mathlib.Core.Path.{◌≡◌, ◌∙◌}
-use mathlib.Core.List.{◌++◌, append-nil}
-use lib.ListN.{length, replicate, drop, length-set, drop_of_length-le}
-use borrow.Author.Fill.{fill_none, fill_more}
+use mathlib.Core.List.{append-nil}
+use lib.ListN.{length, length-set, drop_of_length-le}
+use borrow.Author.Fill.{fill_more}
 use Rattle.records.proofs.work.clear.Goals as goal
 
 pub loop-i-preserved : goal.loop-i-preserved

@@ -1,11 +1,8 @@
 -- `put_numbers` meets its contract: what is still to be stored from k on gives the whole. Assumes nothing.
 use Prim.Native.Nat.{◌-◌}
-use native.Mathlib.Omega.{arith}
-use mathlib.Core.Path.{◌≡◌, sym, ◌∙◌}
-use lib.ListN.{length, get_or, drop, length-set}
+use mathlib.Core.Path.{◌≡◌}
+use lib.ListN.{length, drop}
 use lib.Seq.{sets}
-use Rattle.records.specs.LeLaws.{sets_out}
-use Rattle.records.specs.StoreLaws.{store_on, store_end}
 use Rattle.records.proofs.work.put_numbers.Given as goal
 
 abbrev pub invariant-loop-i : goal.invariant-loop-i

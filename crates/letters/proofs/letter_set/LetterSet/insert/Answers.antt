@@ -1,5 +1,5 @@
 -- `LetterSet::insert` meets its contract. Assumes nothing.
-use Rattle.std.proofs.Common.{◌≡◌, ℕ, ◌+◌, ◌-◌, ◌^◌, ◌≤◌, ap, ◌∙◌, one-mul, arith, shl_exact, rules, le-leb}
+use Rattle.std.proofs.Common.{◌≡◌, ℕ, ◌+◌, ◌-◌, ◌^◌, ◌≤◌, ap, ◌∙◌, one-mul, arith, shl_exact, le-leb}
 use borrow.Author.Tests.{lt-leb}
 use lib.Bits.{bit_or}
 use Rattle.letters.specs.declared.letter_set.LetterSet.{LetterSet}
