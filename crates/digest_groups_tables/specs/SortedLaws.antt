@@ -9,7 +9,7 @@ use Rattle.sorting_texts.specs.declared.text.By.TheVariants.{Spelled}
 use Rattle.sorting_spec.specs.Sort.{sorted}
 use Rattle.sorting_spec.specs.SortLaws.{sorted_in, length-sorted}
 use Rattle.sorting_texts.specs.Text.{le_by}
-use Rattle.sorting_spec.specs.PartLaws.{at-slice}
+use Rattle.sorting_spec.specs.PartLaws.{at_slice}
 use Rattle.sorting_spec.specs.Runs.{runs_of}
 use Rattle.sorting_slices.specs.Sorting.{fitting, arranged}
 use Rattle.sorting_slices.specs.SortingLaws.{order-fitting, length-arranged, arranged-sorted, arranged-drop}

@@ -6,7 +6,7 @@ use Rattle.std.proofs.Math.Seq.{slice, slice_empty}
 use Rattle.lists.specs.Lists.{occurs}
 use Rattle.lists.specs.FrameLaws.{Out, Framed, framed_none, framed_then, framed_set}
 use Rattle.lists.specs.FirstLaws.{first_at, first_ones, learnt, has-learnt, place-firsts, Once, at_most, once-new, first_mark, first_mark-zero, mark-more, mark_other, mark-same}
-use Rattle.sorting_spec.specs.PartLaws.{at-slice, slice-same, slice_set}
+use Rattle.sorting_spec.specs.PartLaws.{at_slice, slice-same, slice_set}
 use Rattle.protein_groups_numbering.specs.SliceLaws.{slice_long, out_more}
 
 -- the f found of m stand from b on, and their table from t on

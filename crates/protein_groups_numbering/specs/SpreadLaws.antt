@@ -4,7 +4,7 @@ use Rattle.std.proofs.Common.{sym, ap, ◌∙◌, inl, inr, append-nil, append_a
 use Rattle.std.proofs.lemmas.List.{length-replicate, get_or-replicate, length-map}
 use Rattle.std.proofs.Math.Seq.{slice, slice_empty, length-slice}
 use Rattle.lists.specs.FrameLaws.{Out, Framed, framed_none}
-use Rattle.sorting_spec.specs.PartLaws.{at-slice, slice-same, slice-join}
+use Rattle.sorting_spec.specs.PartLaws.{at_slice, slice-same, slice-join}
 use Rattle.cover_spec.specs.Cover.{Edge}
 use Rattle.protein_groups_spec.specs.CountingLaws.{along, metas_in, groups_in}
 use Rattle.protein_groups_spec.specs.LeaderLaws.{spread_by}

@@ -9,7 +9,7 @@ use Rattle.sorting_spec.specs.SortLaws.{total-sorted, under_sorted}
 use Rattle.sorting_texts.specs.declared.text.By.TheVariants.{Numbers}
 use Rattle.sorting_spec.specs.Sort.{sorted}
 use Rattle.sorting_texts.specs.Text.{text_by}
-use Rattle.sorting_spec.specs.PartLaws.{at-slice, slice-same, drop-same}
+use Rattle.sorting_spec.specs.PartLaws.{at_slice, slice-same, drop-same}
 use Rattle.sorting_spec.specs.Runs.{runs_of, run_numbers}
 use Rattle.protein_groups_spec.specs.CountingLaws.{metas_in, groups_in}
 use Rattle.protein_groups_spec.specs.LeaderLaws.{le_texts, spread_sorted, texts_length, spread_most}
