@@ -15,16 +15,16 @@ pub loop-k-preserved : goal.loop-k-preserved
 loop-k-preserved c =
     let a = c.args in
     let l = c.loop-k in
-    let n : length a.t3 ≡ 64 = search rules in
-    (omega arith, simp length-set l.invariant.1, copy_into-more _ 2 a.t3 l.slots l.k (omega arith) l.invariant.2)
+    let n : length a.ids ≡ 64 = search rules in
+    (omega arith, simp length-set l.invariant.1, copy_into-more _ 2 a.ids l.slots l.k (omega arith) l.invariant.2)
 
 pub returns : goal.returns
 returns c =
     let a = c.args in
     let l = c.loop-k in
-    let n : length a.t3 ≡ 64 = search rules in
-    let w = copy_into-all _ 2 a.t3 l.slots l.k (omega arith) l.invariant.2 in
-    bare_is a.nterm a.cterm a.t3 l.slots n w
+    let n : length a.ids ≡ 64 = search rules in
+    let w = copy_into-all _ 2 a.ids l.slots l.k (omega arith) l.invariant.2 in
+    bare_is a.nterm a.cterm a.ids l.slots n w
 
 pub bounds-slots-0 : goal.bounds-slots-0
 bounds-slots-0 c = omega arith

@@ -8,10 +8,8 @@ use Rattle.peptide_slots.specs.Overlays.{overlay}
 use Rattle.peptide_slots.specs.Hits.{fill}
 use Rattle.peptide_slots.specs.OverlayLaws.{Upto, map_at_ext, upto_more, upto_none}
 use Rattle.std.proofs.Common.{rules}
+use Rattle.peptide_slots.proofs.form.overlaid.Invariants.{merge}
 use Rattle.peptide_slots.proofs.form.overlaid.Goals as goal
-
-abbrev merge : List ℕ → ℕ → ℕ → ℕ
-merge table k old = fill (get_or table k 0) old
 
 pub loop-k-init : goal.loop-k-init
 loop-k-init c = (omega arith, upto_none _ _)

@@ -9,6 +9,9 @@ use Rattle.peptide_slots.specs.Hits.{fill}
 use Rattle.peptide_slots.specs.OverlayLaws.{Upto, map_at_ext, upto_more, upto_none}
 use Rattle.peptide_slots.proofs.form.overlaid.Given as goal
 
+abbrev pub merge : List ℕ → ℕ → ℕ → ℕ
+merge table k old = fill (get_or table k 0) old
+
 abbrev pub invariant-loop-k : goal.invariant-loop-k
 invariant-loop-k l = (l.k ≤ 66) × Upto (merge l.from) l.old l.k l.slots
 

@@ -16,15 +16,15 @@ pub loop-i-preserved : goal.loop-i-preserved
 loop-i-preserved c =
     let a = c.args in
     let l = c.loop-i in
-    let k : length a.t1 ≡ 64 = search rules in
-    (omega arith, zero-on l.all a.t1 l.i (omega arith) ∙ l.invariant.1)
+    let k : length a.xs ≡ 64 = search rules in
+    (omega arith, zero-on l.all a.xs l.i (omega arith) ∙ l.invariant.1)
 
 pub returns : goal.returns
 returns c =
     let a = c.args in
     let l = c.loop-i in
-    let k : length a.t1 ≡ 64 = search rules in
-    zero_end l.all a.t1 l.i (omega arith) ∙ l.invariant.1
+    let k : length a.xs ≡ 64 = search rules in
+    zero_end l.all a.xs l.i (omega arith) ∙ l.invariant.1
 
 pub bounds-xs-i : goal.bounds-xs-i
 bounds-xs-i c = omega arith

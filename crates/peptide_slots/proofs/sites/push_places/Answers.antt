@@ -7,11 +7,8 @@ use lib.ListN.{get_or}
 use Rattle.peptide_slots.specs.Hits.{hits_at}
 use Rattle.peptide_slots.specs.SiteLaws.{HitsWritten, hits-written-all, hits-written-more, hits-written-none}
 use Rattle.peptide_slots.specs.Sites.{places_of}
+use Rattle.peptide_slots.proofs.sites.push_places.Invariants.{test}
 use Rattle.peptide_slots.proofs.sites.push_places.Goals as goal
-
--- the test at a place
-abbrev test : List ℕ → ℕ → ℕ → ℕ → ℕ → ℕ → Bool
-test letters n kind position letter k = hits_at kind position letter n k (get_or letters k 0)
 
 pub loop-k-init : goal.loop-k-init
 loop-k-init c = (omega arith, hits-written-none _ _ _ _ _)
@@ -26,7 +23,7 @@ loop-k-preserved c =
     let a = c.args in
     let l = c.loop-k in
     let called = c.put_if-next in
-    (omega arith, hits-written-more (test a.t1 a.n a.kind a.position a.letter) a.base a.n a.out.now a.at l.out l.next l.k _ called.new.out called.result c.loop-k-test.true c.hits_at-hit.ensures called.ensures called.auto.out l.invariant.1)
+    (omega arith, hits-written-more (test a.letters a.n a.kind a.position a.letter) a.base a.n a.out.now a.at l.out l.next l.k _ called.new.out called.result c.loop-k-test.true c.hits_at-hit.ensures called.ensures called.auto.out l.invariant.1)
 
 pub returns : goal.returns
 unfolding places_of

@@ -9,6 +9,10 @@ use Rattle.peptide_slots.specs.SiteLaws.{HitsWritten, hits-written-all, hits-wri
 use Rattle.peptide_slots.specs.Sites.{places_of}
 use Rattle.peptide_slots.proofs.sites.push_places.Given as goal
 
+-- the test at a place
+abbrev pub test : List ℕ → ℕ → ℕ → ℕ → ℕ → ℕ → Bool
+test letters n kind position letter k = hits_at kind position letter n k (get_or letters k 0)
+
 abbrev pub invariant-loop-k : goal.invariant-loop-k
 invariant-loop-k l = (l.k ≤ l.n) × HitsWritten (test l.letters l.n l.kind l.position l.letter) l.base l.n l.initial.out l.at l.out l.next l.k
 

@@ -6,11 +6,8 @@ use lib.ListN.{get_or, replicate, length-replicate}
 use mathlib.Core.List.{List}
 use Rattle.peptide_slots.specs.OverlayLaws.{Upto, upto_none, upto_more}
 use Rattle.peptide_slots.specs.WindowLaws.{window_is}
+use Rattle.peptide_slots.proofs.windows.window.Invariants.{byte_at}
 use Rattle.peptide_slots.proofs.windows.window.Goals as goal
-
--- what is stored at place k
-abbrev byte_at : ℕ → List ℕ → ℕ → ℕ → ℕ
-byte_at from bytes k old = get_or bytes (from + k) 0
 
 pub loop-i-init : goal.loop-i-init
 loop-i-init c = (omega arith, upto_none _ _)

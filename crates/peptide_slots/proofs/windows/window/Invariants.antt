@@ -8,6 +8,10 @@ use Rattle.peptide_slots.specs.OverlayLaws.{Upto, upto_none, upto_more}
 use Rattle.peptide_slots.specs.WindowLaws.{window_is}
 use Rattle.peptide_slots.proofs.windows.window.Given as goal
 
+-- what is stored at place k
+abbrev pub byte_at : ℕ → List ℕ → ℕ → ℕ → ℕ
+byte_at from bytes k old = get_or bytes (from + k) 0
+
 abbrev pub invariant-loop-i : goal.invariant-loop-i
 invariant-loop-i l = (l.i ≤ 64) × Upto (byte_at l.from l.bytes) l.initial.out l.i l.out
 
