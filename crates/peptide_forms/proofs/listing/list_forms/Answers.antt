@@ -16,6 +16,7 @@ use Rattle.peptide_forms.specs.PassingLaws.{bad_append}
 use Rattle.peptide_forms.specs.RunLaws.{quick, cap_ahead, cap_reached_lem}
 use Rattle.peptide_forms.specs.TurnLaws.{reached-part, reached-sound, reached-whole}
 use Rattle.std.proofs.Common.{rules}
+use Rattle.peptide_forms.proofs.listing.list_forms.Goals.{then-kept-n+else-cap-count+else-room-count, else-kept-n}
 use Rattle.peptide_forms.proofs.listing.list_forms.Goals as goal
 
 pub outer-init : goal.outer-init
@@ -71,15 +72,14 @@ loop-s-preserved c =
     let e = c.loop-s-test.true in
     let H : List ℕ → ℕ → Stepped → Type 0 = Here (packed_passes a.sites.now a.rules.now) (quick a.bare.slots a.table.slots a.sites.now a.rules.now) (length a.sites.now) a.limit a.cap o.n a.room o.count o.out in
     subst (λ (t : Stepped). H c.if-kept-n.out c.if-kept-n.count t) (sym c.next_past-s.ensures)
-    (⊎_elim
-    (λ w. subst₂ (λ (z : List ℕ) (k : ℕ). H z k (stepped l.s.choice r.result)) (sym w.8) (sym w.9)
-    (took l.invariant e (reached-sound r.ensures) w.5.last.1.0 (reached-whole r.ensures (w.0.taken ∙ sym (left-wide l.invariant.left e)))
-    (cap_ahead a.cap l.count w.1.left) w.2.left w.5.kept.1.0
-    (w.5.ensures ∙ ap (sets l.out (66 * l.count)) w.3.ensures)))
-    (λ w. subst₂ (λ (z : List ℕ) (k : ℕ). H z k (stepped l.s.choice r.result)) (sym w.1) (sym w.2)
+    (elim c.if-kept-n.branch [
+      then-kept-n+else-cap-count+else-room-count w ↦ subst₂ (λ (z : List ℕ) (k : ℕ). H z k (stepped l.s.choice r.result)) (sym w.out-is) (sym w.count-is)
+    (took l.invariant e (reached-sound r.ensures) w.put_form.new.out (reached-whole r.ensures (w.if-kept-n.true ∙ sym (left-wide l.invariant.left e)))
+    (cap_ahead a.cap l.count w.if-cap-count.false) w.if-room-count.false w.put_form.auto.out
+    (w.put_form.ensures ∙ ap (sets l.out (66 * l.count)) w.made-next.ensures))
+    | else-kept-n w ↦ subst₂ (λ (z : List ℕ) (k : ℕ). H z k (stepped l.s.choice r.result)) (sym w.out-is) (sym w.count-is)
     (skipped l.invariant e (reached-sound r.ensures)
-    (reached-part r.ensures (let i : r.result ≤ length (word_in l.s) = r.ensures.within in let wide = left-wide l.invariant.left e in omega (arith, w.0.left)))))
-    c.if-kept-n.branch)
+    (reached-part r.ensures (let i : r.result ≤ length (word_in l.s) = r.ensures.within in let wide = left-wide l.invariant.left e in omega (arith, w.if-kept-n.false)))) ])
 
 pub overflow_add-n : goal.overflow_add-n
 overflow_add-n c = omega (arith, c.loop-s.invariant.high)

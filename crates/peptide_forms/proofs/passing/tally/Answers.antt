@@ -17,15 +17,15 @@ pub loop-i-preserved : goal.loop-i-preserved
 loop-i-preserved c =
     let a = c.args in
     let l = c.loop-i in
-    let n : length a.t1 ≡ 8 = search rules in
-    (omega arith, uses_tallied_turn a.sites.now a.slot a.rule a.t1 a.j l.i l.free l.uses c.site_at-site.result c.one_if-more.result (omega arith) c.loop-i-test.true c.site_at-site.ensures c.one_if-more.ensures.0 c.one_if-more.ensures.1 l.invariant.1)
+    let n : length a.at ≡ 8 = search rules in
+    (omega arith, uses_tallied_turn a.sites.now a.slot a.rule a.at a.j l.i l.free l.uses c.site_at-site.result c.one_if-more.result (omega arith) c.loop-i-test.true c.site_at-site.ensures c.one_if-more.ensures.0 c.one_if-more.ensures.1 l.invariant.1)
 
 pub returns : goal.returns
 returns c =
     let e : c.loop-i.i ≡ c.args.j = omega arith in
     let a = c.args in
     let l = c.loop-i in
-    subst (λ (z : ℕ). UsesTallied a.sites.now a.slot a.rule (take a.j a.t1) z l.free l.uses) e l.invariant.1
+    subst (λ (z : ℕ). UsesTallied a.sites.now a.slot a.rule (take a.j a.at) z l.free l.uses) e l.invariant.1
 
 pub offset_bounds-at-i : goal.offset_bounds-at-i
 offset_bounds-at-i c = omega arith

@@ -9,12 +9,11 @@ returns-in-Refused c =
     let a = c.args in
     weighed-refused a.letters.now a.masses.now a.water _ (sym c.in-Refused.is ∙ c.test_letters.ensures)
 
--- TODO fields ['masses_len', 'by_index']
 pub sum-requires : goal.sum-requires
 sum-requires c =
     let a = c.args in
     let w = passed_weighable a.letters.now a.masses.now (sym c.test_letters.ensures ∙ c.in_default.is) in
-    (w.whole, w.good)
+    record { masses_len = w.whole; by_index = w.good }
 
 pub returns : goal.returns
 returns c =
