@@ -208,13 +208,13 @@ module _ (areas : Areas) where
 
     pub forced_inside : (n + m + group_at bs i < length w) × (mo + meta_at bs i + 1 < length w) × (get_or w (mo + meta_at bs i) 0 ≤ get_or w (mo + meta_at bs i + 1) 0)
     forced_inside = (
-      omega (arith, (inp i b).0, r.order-above, r.order-fits, h.size),
+      omega (arith, (inp i b).0, r.order_above, r.order-fits, h.size),
       omega (arith, (inp i b).1, r.by_meta.fits, h.size),
       omega (arith, same_at (mo + meta_at bs i) (omega (arith, r.by_meta.above)), same_at (mo + meta_at bs i + 1) (omega (arith, r.by_meta.above)), r.by_meta.sizes (meta_at bs i) (inp i b).1),
     )
 
     pub forced_step : (v : ℕ) → v ≡ cond (eqb (get_or w (mo + meta_at bs i + 1) 0 - get_or w (mo + meta_at bs i) 0) 1) 1 (get_or w (n + m + group_at bs i) 0) → Forced bs w₀ (set w (n + m + group_at bs i) v) (i + 1)
-    forced_step v e = flags_step (n + m) n (group_at bs) (only_edge mo bs w₀) w₀ w i v h (inp i b).0 (omega (arith, r.order-above, r.order-fits, h.size))
+    forced_step v e = flags_step (n + m) n (group_at bs) (only_edge mo bs w₀) w₀ w i v h (inp i b).0 (omega (arith, r.order_above, r.order-fits, h.size))
         (e ∙ rw (same_at (mo + meta_at bs i) (omega (arith, r.by_meta.above)), same_at (mo + meta_at bs i + 1) (omega (arith, r.by_meta.above))))
 
 -- ---- one turn of the loops that cover and count

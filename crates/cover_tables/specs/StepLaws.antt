@@ -76,12 +76,12 @@ module _ (areas : Areas) (all : List Edge) where
       holds = λ g b. let (i, j, q) = r.order.holds g b in (i, j, at i ∙ q);
       falls = λ i j b k. rw (at i, at j) (r.order.falls i j b k);
     };
-    order_above = r.order-above;
+    order_above = r.order_above;
     order-fits = omega (arith, r.order-fits);
   }
     where
       at : (i : ℕ) → get_or v (od + i) 0 ≡ get_or w (od + i) 0
-      at i = h (od + i) (inr (omega (arith, r.order-above)))
+      at i = h (od + i) (inr (omega (arith, r.order_above)))
 
   -- whether meta-peptide y is covered
   abbrev pub covers : List ℕ → ℕ → Bool
@@ -121,7 +121,7 @@ module _ (areas : Areas) (all : List Edge) where
     covered = set w (n + x) 1
 
     pub meta_inside : n + x < length w
-    meta_inside = omega (arith, r.order-above, r.order-fits)
+    meta_inside = omega (arith, r.order_above, r.order-fits)
 
     covers-set : (y : ℕ) → covers covered y ≡ (eqb y x || covers w y)
     covers-set y = step (eqb y x) refl
@@ -303,7 +303,7 @@ module _ (areas : Areas) (all : List Edge) where
   -- a mark changes nothing else
   module _ (c : ℕ) (b : c < n) (w : List ℕ) (a : Walk w) where
     pub mark_inside : n + m + c < length w
-    mark_inside = omega (arith, a.tables.order-above, a.tables.order-fits)
+    mark_inside = omega (arith, a.tables.order_above, a.tables.order-fits)
 
     abbrev pub with_mark : List ℕ
     with_mark = set w (n + m + c) 1
@@ -354,7 +354,7 @@ module _ (areas : Areas) (all : List Edge) where
     place-group = tb.order.below i b
 
     pub group_inside : place w i < length w
-    group_inside = omega (arith, place-group, tb.order-above, tb.order-fits)
+    group_inside = omega (arith, place-group, tb.order_above, tb.order-fits)
 
     left : get_or w (place w i) 0 ≡ remaining n all h.turns (place w i)
     left = stands_counts tb.bounds h.turns w h.stands (place w i) place-group
@@ -376,7 +376,7 @@ module _ (areas : Areas) (all : List Edge) where
         moved : At n all (place v) (suc h.turns) d (i + 1)
         moved =
             let a : At n all (place w) (suc h.turns) d (i + 1) = subst (λ (x : ℕ). At n all (place w) (suc h.turns) x (i + 1)) (sym z') u.1 in
-            record { upper = a.upper; passed = λ j k. rw (t.rest (od + j) (inr (omega (arith, tb.order-above)))) (a.passed j k) }
+            record { upper = a.upper; passed = λ j k. rw (t.rest (od + j) (inr (omega (arith, tb.order_above)))) (a.passed j k) }
 
   pub levels_down : (w : List ℕ) (d i : ℕ) → Levels d i w → 0 < d → (i < n → of_group (place w i) all < d) → Levels (d - 1) 0 w
   levels_down w d i h z e = record {

@@ -6,7 +6,7 @@ use Rattle.std.proofs.lemmas.Bool.{eqb-false}
 use Rattle.lists.specs.Lists.{bit, times}
 use Rattle.lists.specs.InLaws.{in-get_or, in_times}
 use Rattle.lists.specs.FrameLaws.{Framed, framed_none, framed_then, framed_set}
-use Rattle.sorting_spec.specs.PartLaws.{at-slice, slice-same}
+use Rattle.sorting_spec.specs.PartLaws.{at_slice, slice-same}
 
 -- ---- how often a number stands in a stretch
 

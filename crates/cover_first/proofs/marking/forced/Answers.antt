@@ -35,28 +35,28 @@ pub meta_of-x-requires : goal.meta_of-x-requires
 meta_of-x-requires c = omega (arith, c.requires.3)
 
 pub overflow_add-areas : goal.overflow_add-areas
-overflow_add-areas c = omega (arith, (inside (goal.at.overflow_add-areas c).After-group_of-g).1)
+overflow_add-areas c = omega (arith, (inside (goal.at.overflow_add-areas c).After-meta_of-x).1)
 
 pub size_at-only-requires : goal.size_at-only-requires
-size_at-only-requires c = ((inside (goal.at.size_at-only-requires c).After-group_of-g).1, (inside (goal.at.size_at-only-requires c).After-group_of-g).2)
+size_at-only-requires c = ((inside (goal.at.size_at-only-requires c).After-meta_of-x).1, (inside (goal.at.size_at-only-requires c).After-meta_of-x).2)
 
 pub overflow_add-at : goal.overflow_add-at
-overflow_add-at c = omega (arith, (inside (goal.at.overflow_add-at c).After-group_of-g).0)
+overflow_add-at c = omega (arith, (inside (goal.at.overflow_add-at c).After-meta_of-x).0)
 
 pub overflow_add-at-in-loop-i : goal.overflow_add-at-in-loop-i
-overflow_add-at-in-loop-i c = omega (arith, (inside (goal.at.overflow_add-at-in-loop-i c).After-group_of-g).0)
+overflow_add-at-in-loop-i c = omega (arith, (inside (goal.at.overflow_add-at-in-loop-i c).After-meta_of-x).0)
 
 pub offset_bounds-w-at : goal.offset_bounds-w-at
-offset_bounds-w-at c = omega (arith, (inside (goal.at.offset_bounds-w-at c).After-group_of-g).0)
+offset_bounds-w-at c = omega (arith, (inside (goal.at.offset_bounds-w-at c).After-meta_of-x).0)
 
 pub bounds-w-at : goal.bounds-w-at
-bounds-w-at c = (inside (goal.at.bounds-w-at c).After-group_of-g).0
+bounds-w-at c = (inside (goal.at.bounds-w-at c).After-meta_of-x).0
 
 pub offset_bounds-w-at-in-loop-i : goal.offset_bounds-w-at-in-loop-i
-offset_bounds-w-at-in-loop-i c = omega (arith, (inside (goal.at.offset_bounds-w-at-in-loop-i c).After-group_of-g).0)
+offset_bounds-w-at-in-loop-i c = omega (arith, (inside (goal.at.offset_bounds-w-at-in-loop-i c).After-meta_of-x).0)
 
 pub bounds-w-at-in-loop-i : goal.bounds-w-at-in-loop-i
-bounds-w-at-in-loop-i c = (inside (goal.at.bounds-w-at-in-loop-i c).After-group_of-g).0
+bounds-w-at-in-loop-i c = (inside (goal.at.bounds-w-at-in-loop-i c).After-meta_of-x).0
 
 pub shape_of-w : goal.shape_of-w
 shape_of-w c = c.loop-i.invariant.1.size

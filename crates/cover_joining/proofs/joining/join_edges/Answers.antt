@@ -10,12 +10,11 @@ use Rattle.cover_joining.proofs.joining.join_edges.Goals as goal
 pub loop-i-init : goal.loop-i-init
 loop-i-init c = let a = c.args in (omega arith, refl, refl, edges-start a.groups a.edges.now a.w.now a.p (nodes a.groups a.metas) c.requires.forest)
 
--- TODO fields ['forest', 'x_lt_n']
 pub join-requires : goal.join-requires
 join-requires c =
     let lp = c.loop-i in
     let inside = c.requires.n_bound.3 lp.i c.loop-i-test.true in
-    rw (c.u32_at-g.ensures, c.u32_at-m.ensures) (lp.invariant.3.forest, (omega (arith, inside), omega (arith, inside), omega arith))
+    rw (c.u32_at-g.ensures, c.u32_at-m.ensures) record { forest = lp.invariant.3.forest; x_lt_n = (omega (arith, inside), omega (arith, inside), omega arith) }
 
 pub loop-i-preserved : goal.loop-i-preserved
 loop-i-preserved c =
