@@ -5,11 +5,13 @@ use lib.ListN.{replicate}
 use Rattle.cover_edges.specs.Edges.{edges_to}
 use Rattle.cover_touched.proofs.mixing.renew.Goals as goal
 
--- TODO fields ['mixed', 'w_after']
 pub returns : goal.returns
 returns c =
     let a = c.args in
     let cleared = c.clear in
     let mixed = c.mix in
     let made = c.touch in
-    (mixed.ensures (edges_to a.old.now a.on) (edges_to a.new.now a.nn) made.ensures, cleared.ensures ∙ ap (λ (n : ℕ). replicate n 0) (mixed.auto.w ∙ made.auto.w))
+    record {
+      mixed = mixed.ensures (edges_to a.old.now a.on) (edges_to a.new.now a.nn) made.ensures;
+      w_after = cleared.ensures ∙ ap (λ (n : ℕ). replicate n 0) (mixed.auto.w ∙ made.auto.w);
+    }

@@ -15,11 +15,10 @@ loop-g-init c =
     let a = c.args in
     (omega arith, refl, c.requires.groups_linked, seeds-start (differing (edges_to a.old.now a.on) (edges_to a.new.now a.nn)) a.w.now a.metas (nodes a.groups a.metas) c.requires.forest)
 
--- TODO fields ['groups_linked', 'forest', 'g_lt_groups']
 pub join_if-requires : goal.join_if-requires
 join_if-requires c =
     let lp = c.loop-g in
-    (lp.invariant.2, (lp.invariant.3.forest, c.loop-g-test.true))
+    record { groups_linked = lp.invariant.2; forest = lp.invariant.3.forest; g_lt_groups = c.loop-g-test.true }
 
 pub loop-g-preserved : goal.loop-g-preserved
 loop-g-preserved c =

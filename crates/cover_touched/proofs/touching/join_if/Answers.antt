@@ -5,19 +5,21 @@ use Rattle.cover_edges.specs.Edges.{edges_to}
 use Rattle.cover_touched.specs.TouchingLaws.{seed_yes, seed_no}
 use Rattle.cover_touched.proofs.touching.join_if.Goals as goal
 
--- TODO fields ['forest', 'x_lt_n']
 pub join-requires : goal.join-requires
 join-requires c =
-    (rw c.differs_at.ensures.1 c.requires.forest, (omega arith, omega (arith, c.requires.g_lt_groups), omega (arith, c.requires.groups_linked.groups-max, c.requires.groups_linked.metas-max)))
+    record {
+      forest = rw c.differs_at.ensures.w_unchanged c.requires.forest;
+      x_lt_n = (omega arith, omega (arith, c.requires.g_lt_groups), omega (arith, c.requires.groups_linked.groups-max, c.requires.groups_linked.metas-max));
+    }
 
 pub returns-then-differs_at : goal.returns-then-differs_at
 returns-then-differs_at c =
     let a = c.args in
     let say = c.differs_at.ensures in
-    seed_yes c.differs_at.result (differing (edges_to a.old.now a.on) (edges_to a.new.now a.nn) a.g) a.g say.0 c.if-differs_at.true (rw say.1 at c.join.ensures)
+    seed_yes c.differs_at.result (differing (edges_to a.old.now a.on) (edges_to a.new.now a.nn) a.g) a.g say.value c.if-differs_at.true (rw say.w_unchanged at c.join.ensures)
 
 pub returns-else-differs_at : goal.returns-else-differs_at
 returns-else-differs_at c =
     let a = c.args in
     let say = c.differs_at.ensures in
-    rw say.1 (seed_no c.differs_at.result (differing (edges_to a.old.now a.on) (edges_to a.new.now a.nn) a.g) a.g say.0 c.if-differs_at.false c.requires.forest)
+    rw say.w_unchanged (seed_no c.differs_at.result (differing (edges_to a.old.now a.on) (edges_to a.new.now a.nn) a.g) a.g say.value c.if-differs_at.false c.requires.forest)
