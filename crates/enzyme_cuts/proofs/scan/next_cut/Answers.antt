@@ -1,11 +1,9 @@
 -- `next_cut` meets its contract: the letters before i do not cut. Assumes nothing.
 use native.Mathlib.Omega.{arith}
-use Prim.Native.Nat.{◌-◌}
 use mathlib.Core.Path.{◌≡◌, refl, sym, ◌∙◌}
 use mathlib.Core.Bool.{true, false}
-use lib.ListN.{length, drop}
+use lib.ListN.{drop}
 use Rattle.enzyme_cuts.specs.Cutting.{starts_in}
-use Rattle.enzyme_cuts.specs.Scan.{find_cut}
 use Rattle.enzyme_cuts.specs.ScanLaws.{asked, find_cut_stop, find_cut-on, find_cut_end}
 use Rattle.enzyme_cuts.proofs.scan.next_cut.Goals as goal
 

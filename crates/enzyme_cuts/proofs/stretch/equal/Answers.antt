@@ -1,10 +1,8 @@
 -- `equal` meets its contract: the places before i agree. Assumes nothing.
 use native.Mathlib.Omega.{arith}
-use Prim.Native.Nat.{◌-◌}
-use mathlib.Core.Path.{◌≡◌, sym, ◌∙◌}
-use lib.ListN.{length}
+use mathlib.Core.Path.{sym, ◌∙◌}
 use Rattle.lists.specs.SameLaws.{same_short}
-use Rattle.enzyme_cuts.specs.SameLaws.{same_stop, AgreeTo, agree_four, agree_all}
+use Rattle.enzyme_cuts.specs.SameLaws.{same_stop, agree_four, agree_all}
 use Rattle.enzyme_cuts.proofs.stretch.equal.Goals as goal
 
 pub returns-then-a-b : goal.returns-then-a-b

@@ -1,10 +1,8 @@
 -- `equal` meets its contract: the places before i agree. Assumes nothing.
-use native.Mathlib.Omega.{arith}
 use Prim.Native.Nat.{◌-◌}
-use mathlib.Core.Path.{◌≡◌, sym, ◌∙◌}
+use mathlib.Core.Path.{◌≡◌}
 use lib.ListN.{length}
-use Rattle.lists.specs.SameLaws.{same_short}
-use Rattle.enzyme_cuts.specs.SameLaws.{same_stop, AgreeTo, agree_four, agree_all}
+use Rattle.enzyme_cuts.specs.SameLaws.{AgreeTo}
 use Rattle.enzyme_cuts.proofs.stretch.equal.Given as goal
 
 abbrev pub invariant-loop-i : goal.invariant-loop-i
