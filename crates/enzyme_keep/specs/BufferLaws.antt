@@ -10,7 +10,7 @@ use Rattle.std.proofs.lemmas.List.Edits.{sets-eq}
 use Rattle.std.proofs.lemmas.List.{get_or_at, set_comm}
 use Rattle.lists.specs.Tests.{below?}
 use Rattle.records.specs.Le.{le, value, number_at}
-use Rattle.records.specs.LeLaws.{sets_append, value-le, length-le, Apart, get_or-sets_other, number_apart}
+use Rattle.records.specs.LeLaws.{sets_append, value-le, Apart, get_or-sets_other, number_apart}
 use Rattle.enzyme_cuts.specs.Cutting.{Range, range}
 use Rattle.enzyme_cuts.specs.Work.{RangesWithin}
 use Rattle.enzyme_keep.specs.Digests.{position_of, record_of}

@@ -16,7 +16,7 @@ use Rattle.enzyme_keep.specs.declared.offering.Terms.{Terms}
 use Rattle.enzyme_keep.specs.Digests.{record_of}
 use Rattle.enzyme_keep.specs.Buffer.{ranges_in}
 use Rattle.enzyme_keep.specs.BufferLaws.{ranges_more}
-use Rattle.enzyme_keep.specs.Steps.{digest_room, After, after, decided, offered, unless_full, offers, puts}
+use Rattle.enzyme_keep.specs.Steps.{digest_room, after, decided, offered, unless_full, offers, puts}
 
 -- ---- two lists of ranges, one after the other
 

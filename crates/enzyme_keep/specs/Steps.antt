@@ -1,6 +1,6 @@
 -- Ranges that are offered to the buffer one after the other: what a call asks, answers and leaves. The public statement
 -- does not cite this.
-use Rattle.std.specs.Prelude.{ℕ, ◌+◌, ◌-◌, ◌*◌, ◌≡◌, Bool, true, cond, List, [], ◌∷◌, length, ltb}
+use Rattle.std.specs.Prelude.{ℕ, ◌+◌, ◌*◌, ◌≡◌, Bool, true, cond, List, [], ◌∷◌, length, ltb}
 use Rattle.std.proofs.lemmas.List.Edits.{sets}
 use Rattle.records.specs.Room.{room_of}
 use Rattle.enzyme_cuts.specs.Cutting.{Range, wanted, part, having}

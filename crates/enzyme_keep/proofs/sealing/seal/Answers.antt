@@ -1,10 +1,7 @@
 -- `seal` meets its contract: the first k links are sealed. Assumes nothing.
 use native.Mathlib.Omega.{arith}
 use native.Mathlib.Numerals.{add-one}
-use Prim.Native.Nat.{◌≤◌, ◌-◌}
 use mathlib.Core.Path.{◌≡◌, refl, ◌∙◌}
-use lib.ListN.{length}
-use Rattle.enzyme_keep.specs.Buffer.{sealed}
 use Rattle.enzyme_keep.proofs.sealing.seal.Goals as goal
 
 pub loop-k-init : goal.loop-k-init

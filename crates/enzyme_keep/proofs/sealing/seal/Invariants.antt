@@ -1,8 +1,6 @@
 -- `seal` meets its contract: the first k links are sealed. Assumes nothing.
-use native.Mathlib.Omega.{arith}
-use native.Mathlib.Numerals.{add-one}
 use Prim.Native.Nat.{◌≤◌, ◌-◌}
-use mathlib.Core.Path.{◌≡◌, refl, ◌∙◌}
+use mathlib.Core.Path.{◌≡◌}
 use lib.ListN.{length}
 use Rattle.enzyme_keep.specs.Buffer.{sealed}
 use Rattle.enzyme_keep.proofs.sealing.seal.Given as goal
