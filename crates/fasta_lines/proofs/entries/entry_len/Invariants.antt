@@ -1,15 +1,9 @@
 -- `entry_len` meets its contract: what was looked at and the entry of the rest are the whole; the byte before i is the last that was. Assumes
 -- nothing.
-use Prim.Native.Nat.{ℕ, ◌+◌, ◌-◌, ◌≤◌, ◌<◌}
-use mathlib.Core.Path.{◌≡◌, sym, ◌∙◌}
-use mathlib.Core.Bool.{false, ◌&&◌, and-false}
-use mathlib.Core.List.{List}
-use native.Mathlib.Omega.{arith}
-use lib.ListN.{length, drop, get_or}
-use lib.Dec.{eqb}
-use borrow.Author.Tests.{ne_eqb}
+use Prim.Native.Nat.{◌+◌, ◌-◌, ◌≤◌}
+use mathlib.Core.Path.{◌≡◌}
+use lib.ListN.{length, drop}
 use Rattle.fasta_lines.specs.Lines.{entry_length}
-use Rattle.fasta_lines.specs.LineLaws.{entry-on, entry_found, entry_end}
 use Rattle.fasta_lines.proofs.entries.entry_len.Given as goal
 
 abbrev pub invariant-loop-i : goal.invariant-loop-i

@@ -1,10 +1,10 @@
 -- `run_len` meets its contract: what was passed and the run of the rest are the whole run. Assumes nothing.
-use Prim.Native.Nat.{◌+◌, ◌-◌, ◌≤◌}
+use Prim.Native.Nat.{◌+◌}
 use mathlib.Core.Path.{◌≡◌, sym, ◌∙◌}
 use mathlib.Core.Bool.{true, false}
 use native.Mathlib.Omega.{arith}
-use lib.ListN.{length, drop, get_or}
-use Rattle.fasta_lines.specs.Lines.{goes_on, run_of}
+use lib.ListN.{get_or}
+use Rattle.fasta_lines.specs.Lines.{goes_on}
 use Rattle.fasta_lines.specs.LineLaws.{run_on, run_stop, run_end}
 use Rattle.fasta_lines.proofs.runs.run_len.Goals as goal
 

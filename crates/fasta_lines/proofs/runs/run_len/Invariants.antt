@@ -1,11 +1,8 @@
 -- `run_len` meets its contract: what was passed and the run of the rest are the whole run. Assumes nothing.
 use Prim.Native.Nat.{◌+◌, ◌-◌, ◌≤◌}
-use mathlib.Core.Path.{◌≡◌, sym, ◌∙◌}
-use mathlib.Core.Bool.{true, false}
-use native.Mathlib.Omega.{arith}
-use lib.ListN.{length, drop, get_or}
-use Rattle.fasta_lines.specs.Lines.{goes_on, run_of}
-use Rattle.fasta_lines.specs.LineLaws.{run_on, run_stop, run_end}
+use mathlib.Core.Path.{◌≡◌}
+use lib.ListN.{length, drop}
+use Rattle.fasta_lines.specs.Lines.{run_of}
 use Rattle.fasta_lines.proofs.runs.run_len.Given as goal
 
 abbrev pub invariant-loop-i : goal.invariant-loop-i

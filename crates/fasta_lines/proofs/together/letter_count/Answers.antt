@@ -1,10 +1,10 @@
 -- `letter_count` meets its contract: what was counted and what the rest holds are all. Assumes nothing.
-use Prim.Native.Nat.{◌+◌, ◌-◌, ◌≤◌}
+use Prim.Native.Nat.{◌+◌}
 use mathlib.Core.Path.{◌≡◌, ap}
 use mathlib.Core.Bool.{true, false}
 use native.Mathlib.Omega.{arith}
-use lib.ListN.{length, drop, get_or}
-use Rattle.fasta_lines.specs.Lines.{line_end, together}
+use lib.ListN.{length, get_or}
+use Rattle.fasta_lines.specs.Lines.{line_end}
 use Rattle.fasta_lines.specs.LineLaws.{together_skip, together-take, together_end}
 use Rattle.fasta_lines.proofs.together.letter_count.Goals as goal
 

@@ -1,11 +1,8 @@
 -- `letter_count` meets its contract: what was counted and what the rest holds are all. Assumes nothing.
 use Prim.Native.Nat.{◌+◌, ◌-◌, ◌≤◌}
-use mathlib.Core.Path.{◌≡◌, ap}
-use mathlib.Core.Bool.{true, false}
-use native.Mathlib.Omega.{arith}
-use lib.ListN.{length, drop, get_or}
-use Rattle.fasta_lines.specs.Lines.{line_end, together}
-use Rattle.fasta_lines.specs.LineLaws.{together_skip, together-take, together_end}
+use mathlib.Core.Path.{◌≡◌}
+use lib.ListN.{length, drop}
+use Rattle.fasta_lines.specs.Lines.{together}
 use Rattle.fasta_lines.proofs.together.letter_count.Given as goal
 
 abbrev pub invariant-loop-i : goal.invariant-loop-i

@@ -1,13 +1,10 @@
 -- `put_letters` meets its contract: what is still to be stored from k on gives the whole. Assumes nothing.
-use Prim.Native.Nat.{ℕ, ◌+◌, ◌-◌, ◌%◌, ◌≤◌}
-use mathlib.Core.Path.{◌≡◌, refl, sym, ap, ◌∙◌}
-use mathlib.Core.List.{List}
-use native.Mathlib.Omega.{arith}
-use lib.ListN.{length, drop, get_or, set}
+use Prim.Native.Nat.{◌+◌, ◌-◌, ◌≤◌}
+use mathlib.Core.Path.{◌≡◌}
+use lib.ListN.{length, drop}
 use lib.Seq.{sets}
 use Rattle.letters.specs.Letters.{capitals}
 use Rattle.fasta_lines.specs.Lines.{together}
-use Rattle.fasta_lines.specs.LineLaws.{together_skip, together-take, together_end, high_taken, low_skipped, high_raised, letter_stored}
 use Rattle.fasta_lines.proofs.together.put_letters.Given as goal
 
 abbrev pub invariant-loop-i : goal.invariant-loop-i
