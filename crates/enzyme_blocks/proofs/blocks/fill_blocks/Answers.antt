@@ -2,10 +2,9 @@
 use native.Mathlib.Omega.{arith}
 use native.Mathlib.Nat.{mul-zero}
 use mathlib.Core.Path.{◌≡◌, refl, sym, ◌∙◌}
-use Prim.Native.Nat.{ℕ, ◌+◌, ◌-◌, ◌*◌, ◌<◌, min}
-use lib.ListN.{length, get_or, length-set}
+use Prim.Native.Nat.{◌+◌, ◌-◌, ◌<◌, min}
+use lib.ListN.{length, length-set}
 use lib.Seq.{get_or-set_other}
-use Rattle.enzyme_blocks.specs.Blocks.{Leasts}
 use Rattle.enzyme_blocks.specs.BlockLaws.{leasts_on, blocks_below}
 use Rattle.enzyme_blocks.proofs.blocks.fill_blocks.Goals.{After-least_of}
 use Rattle.enzyme_blocks.proofs.blocks.fill_blocks.Goals as goal

@@ -1,12 +1,8 @@
 -- `fill_blocks` meets its contract: the blocks so far have their least. Assumes nothing.
-use native.Mathlib.Omega.{arith}
-use native.Mathlib.Nat.{mul-zero}
-use mathlib.Core.Path.{◌≡◌, refl, sym, ◌∙◌}
-use Prim.Native.Nat.{ℕ, ◌+◌, ◌-◌, ◌*◌, ◌<◌, min}
-use lib.ListN.{length, get_or, length-set}
-use lib.Seq.{get_or-set_other}
+use mathlib.Core.Path.{◌≡◌}
+use Prim.Native.Nat.{ℕ, ◌-◌, ◌*◌, ◌<◌, min}
+use lib.ListN.{length, get_or}
 use Rattle.enzyme_blocks.specs.Blocks.{Leasts}
-use Rattle.enzyme_blocks.specs.BlockLaws.{leasts_on, blocks_below}
 use Rattle.enzyme_blocks.proofs.blocks.fill_blocks.Given as goal
 
 abbrev pub invariant-loop-a : goal.invariant-loop-a

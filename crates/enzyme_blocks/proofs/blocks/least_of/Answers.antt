@@ -1,7 +1,5 @@
 -- `least_of` meets its contract: none of the numbers so far is below the least. Assumes nothing.
 use native.Mathlib.Omega.{arith}
-use Prim.Native.Nat.{◌-◌}
-use Rattle.enzyme_blocks.specs.Blocks.{Above}
 use Rattle.enzyme_blocks.specs.BlockLaws.{above_on}
 use Rattle.enzyme_blocks.proofs.blocks.least_of.Goals as goal
 
