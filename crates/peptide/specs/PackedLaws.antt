@@ -21,7 +21,7 @@ use Rattle.modification_rules.specs.Rules.{good_rule, no_rule, no_limit, rule_at
 use Rattle.peptide_choices.specs.Choices.{by_size}
 use Rattle.peptide_slots.specs.Sites.{kind_at, letter_at, limit_at, slot_of, rule_of, if_hit, hit_from, places_of, slot_numbers, sites_from, all_sites}
 use Rattle.peptide_slots.specs.SiteLaws.{slot_back, rule_back}
-use Rattle.peptide_slots.specs.Filling.{apply}
+use Rattle.peptide_slots.specs.Filling.{fill_site, apply}
 use Rattle.peptide_forms.specs.Passing.{packed_passes}
 use Rattle.peptide_forms.specs.PassingLaws.{swap}
 use Rattle.peptide_forms.specs.Enumeration.{up_to_cap}
@@ -230,7 +230,7 @@ chosen-packed ps (k ∷ c) = ap₂ {C = List Site} (λ (x : Site) (xs : List Sit
 filled-packed : (rules form xs : List ℕ) → filled rules form (map unpack xs) ≡ apply rules form xs
 unfolding filled apply
 filled-packed rules form [] = refl
-filled-packed rules form (x ∷ xs) = filled-packed rules _ xs
+filled-packed rules form (x ∷ xs) = filled-packed rules (fill_site rules form x) xs
 
 choices-packed : (ps rules : List ℕ) (limit cap : ℕ) → choices (map unpack ps) rules limit cap ≡ packed_choices ps rules limit cap
 unfolding choices packed_choices

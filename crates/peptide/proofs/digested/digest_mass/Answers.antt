@@ -35,8 +35,8 @@ pub slice_bounds-base_mass-end : goal.slice_bounds-base_mass-end
 slice_bounds-base_mass-end c =
     let n : length c.of_digest-made.result.peptide.letters ≡ 64 = search rules in
     let a = c.args in
-    let p = digested-passes a.letters.now a.bytes.now a.masses.now (passed (goal.at.slice_bounds-base_mass-end c).In_default-1) in
-    let f : c.of_digest-made.result.peptide.len ≤ 64 = subst (λ (q : Peptide). q.len ≤ 64) (sym (is (goal.at.slice_bounds-base_mass-end c).In_default-1)) (passed-fits (digested a.letters.now a.bytes.now) p) in
+    let p = digested-passes a.letters.now a.bytes.now a.masses.now (passed (goal.at.slice_bounds-base_mass-end c).In_default) in
+    let f : c.of_digest-made.result.peptide.len ≤ 64 = subst (λ (q : Peptide). q.len ≤ 64) (sym (is (goal.at.slice_bounds-base_mass-end c).In_default)) (passed-fits (digested a.letters.now a.bytes.now) p) in
     omega arith
 
 pub returns : goal.returns
@@ -45,5 +45,5 @@ returns c =
     let p = c.of_digest-made.result.peptide in
     c.base_mass.ensures
     ∙ ap (λ (k : ℕ). weighed (take k p.letters) a.masses.now a.water) (sub-zero p.len)
-    ∙ ap (λ (q : Peptide). weighed (residues_of q) a.masses.now a.water) (is (goal.at.returns c).In_default-1)
-    ∙ digested-mass a.letters.now a.bytes.now a.masses.now (passed (goal.at.returns c).In_default-1) a.water
+    ∙ ap (λ (q : Peptide). weighed (residues_of q) a.masses.now a.water) (is (goal.at.returns c).In_default)
+    ∙ digested-mass a.letters.now a.bytes.now a.masses.now (passed (goal.at.returns c).In_default) a.water
