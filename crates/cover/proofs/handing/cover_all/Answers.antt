@@ -8,9 +8,11 @@ use Rattle.cover_spec.specs.ListedLaws.{length-cover}
 use Rattle.cover.specs.HandingLaws.{put_front}
 use Rattle.cover.proofs.handing.cover_all.Goals as goal
 
--- TODO fields ['marks_after', 'work_after']
 pub returns : goal.returns
 returns c =
     let a = c.args in
     let made = c.cover_into in
-    (put_front a.groups a.marks.now made.new.marks (ap length made.ensures.0 ∙ length-cover a.groups _) c.requires.groups_in_bounds ∙ ap (λ (l : List ℕ). sets a.marks.now 0 l) made.ensures.0, made.ensures.1)
+    record {
+      marks_after = put_front a.groups a.marks.now made.new.marks (ap length made.ensures.marks_after ∙ length-cover a.groups _) c.requires.groups_in_bounds ∙ ap (λ (l : List ℕ). sets a.marks.now 0 l) made.ensures.marks_after;
+      work_after = made.ensures.work_after;
+    }

@@ -8,10 +8,9 @@ use Rattle.cover_spec.specs.ListedLaws.{length-cover}
 use Rattle.cover.specs.HandingLaws.{mid_front}
 use Rattle.cover.proofs.handing.cover_in.Goals as goal
 
--- TODO fields ['marks_after', 'work_after']
 pub returns : goal.returns
 returns c =
     let a = c.args in
     let made = c.cover_into in
-    let m = mid_front a.groups a.all.now made.new.marks (ap length made.ensures.0 ∙ length-cover a.groups _) in
-    (c.put_bytes.ensures ∙ ap (λ (l : List ℕ). sets a.marks.now 0 l) (m ∙ made.ensures.0), made.ensures.1)
+    let m = mid_front a.groups a.all.now made.new.marks (ap length made.ensures.marks_after ∙ length-cover a.groups _) in
+    record { marks_after = c.put_bytes.ensures ∙ ap (λ (l : List ℕ). sets a.marks.now 0 l) (m ∙ made.ensures.marks_after); work_after = made.ensures.work_after }

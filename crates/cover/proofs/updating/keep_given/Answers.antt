@@ -11,12 +11,13 @@ use Rattle.cover.proofs.updating.keep_given.Goals as goal
 positive : (c : Else-k-eq0) → 1 ≤ c.args.groups
 positive c = ⊎_elim (λ (h : 0 < c.least-k.result). omega (arith, c.least-k.ensures)) (λ (h : c.least-k.result ≤ 0). absurd (c.if-k-eq0.false (omega arith))) (below? 0 c.least-k.result)
 
--- TODO fields ['update_sized', 'k_le_groups']
 pub renew-requires : goal.renew-requires
 renew-requires c =
     let k = c.least-k.ensures in
-    (update_sized c.requires (positive (goal.at.renew-requires c).Else-k-eq0), (omega (arith, k), omega (arith, k, c.requires.as_many), omega (arith, k)))
+    record {
+      update_sized = update_sized c.requires (positive (goal.at.renew-requires c).Else-k-eq0);
+      k_le_groups = (omega (arith, k), omega (arith, k, c.requires.as_many), omega (arith, k));
+    }
 
--- TODO fields ['mixed', 'work_after']
 pub returns : goal.returns
-returns c = (rw c.least-k.ensures at c.renew.ensures.0, c.renew.ensures.1)
+returns c = record { mixed = rw c.least-k.ensures at c.renew.ensures.mixed; work_after = c.renew.ensures.w_after }

@@ -16,4 +16,4 @@ returns c =
     let a = c.args in
     let made = c.cover_passed-answer in
     let kept = c.keep_given in
-    renewed a.old.now a.new.now a.groups a.metas a.given.now (length a.work.now) c.requires a.work.now a.marks.now made.new.work made.new.marks kept.new.work kept.new.marks made.result made.ensures kept.ensures.1 made.auto.work made.auto.marks kept.auto.marks kept.ensures.0
+    renewed a.old.now a.new.now a.groups a.metas a.given.now (length a.work.now) c.requires a.work.now a.marks.now made.new.work made.new.marks kept.new.work kept.new.marks made.result made.ensures kept.ensures.work_after made.auto.work made.auto.marks kept.auto.marks kept.ensures.mixed

@@ -10,10 +10,10 @@ use Rattle.cover_walk.specs.RunLaws.{table_room, nothing_marked}
 use Rattle.cover_walk.proofs.covering.cover_into.Goals as goal
 
 pub returns-then-n-eq0 : goal.returns-then-n-eq0
-returns-then-n-eq0 c = (
-  c.clear_marks.ensures ∙ ap (λ (n : ℕ). replicate n 0) c.requires.marks_len ∙ sym (nothing_marked c.args.edges.now c.args.n c.args.groups c.if-n-eq0.true),
-  c.clear.ensures,
-)
+returns-then-n-eq0 c = record {
+  marks_after = c.clear_marks.ensures ∙ ap (λ (n : ℕ). replicate n 0) c.requires.marks_len ∙ sym (nothing_marked c.args.edges.now c.args.n c.args.groups c.if-n-eq0.true);
+  work_after = c.clear.ensures;
+}
 
 pub run-requires : goal.run-requires
 run-requires c =
@@ -21,10 +21,9 @@ run-requires c =
     let r = table_room c.requires p in
     (c.requires.inside, p, c.requires.few, r.fits, r.narrow)
 
--- TODO fields ['marks_after', 'work_after']
 pub returns : goal.returns
 unfolding cover_list
-returns c = (
-  c.write_marks.ensures ∙ rw c.requires.marks_len (listed_ext c.args.groups _ _ (λ g h. ap bit (c.run.ensures g h))),
-  c.clear-2.ensures ∙ ap (λ (n : ℕ). replicate n 0) c.run.auto.w,
-)
+returns c = record {
+  marks_after = c.write_marks.ensures ∙ rw c.requires.marks_len (listed_ext c.args.groups _ _ (λ g h. ap bit (c.run.ensures g h)));
+  work_after = c.clear-2.ensures ∙ ap (λ (n : ℕ). replicate n 0) c.run.auto.w;
+}
