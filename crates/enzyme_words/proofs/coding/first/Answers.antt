@@ -1,9 +1,7 @@
 -- `first` meets its contract. Assumes nothing.
-use Prim.Native.Nat.{◌-◌, ◌≤◌, ◌+◌}
+use Prim.Native.Nat.{◌-◌, ◌+◌}
 use mathlib.Core.Path.{◌≡◌, refl}
 use native.Mathlib.Omega.{arith}
-use native.Mathlib.Numerals.{add-one}
-use Rattle.enzyme_words.specs.Words.{word_at}
 use Rattle.enzyme_words.specs.WordLaws.{number_small, word-number-on}
 use Rattle.enzyme_words.proofs.coding.first.Goals as goal
 

@@ -1,10 +1,6 @@
 -- `power` meets its contract. Assumes nothing.
 use Prim.Native.Nat.{◌-◌, ◌≤◌, ◌^◌}
 use mathlib.Core.Path.{◌≡◌}
-use native.Mathlib.Omega.{arith}
-use native.Mathlib.Numerals.{add-one}
-use native.Mathlib.Nat.{pow-zero, pow-succ'}
-use Rattle.enzyme_words.specs.WordLaws.{power_small}
 use Rattle.enzyme_words.proofs.coding.power.Given as goal
 
 abbrev pub invariant-loop-i : goal.invariant-loop-i

@@ -1,5 +1,5 @@
 -- `end_at` meets its contract. Assumes nothing.
-use mathlib.Core.Path.{◌≡◌, refl}
+use mathlib.Core.Path.{refl}
 use mathlib.Core.Logic.{inl, inr}
 use native.Mathlib.Omega.{arith}
 use Rattle.enzyme_words.proofs.filling.end_at.Goals as goal

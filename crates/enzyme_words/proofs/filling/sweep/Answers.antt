@@ -1,9 +1,8 @@
 -- `sweep` meets its contract. Assumes nothing.
 use native.Mathlib.Omega.{arith}
-use mathlib.Core.Path.{◌≡◌, refl, ◌∙◌}
+use mathlib.Core.Path.{refl, ◌∙◌}
 use Prim.Native.Nat.{◌+◌, ◌-◌, ◌≤◌, ◌<◌}
 use lib.ListN.{length, length-set}
-use Rattle.enzyme_words.specs.Words.{StartsSwept}
 use Rattle.enzyme_words.specs.WordLaws.{code-small, swept_start, on_reach, swept_on, swept_end}
 use Rattle.enzyme_words.proofs.filling.sweep.Goals.{After-end_at-r}
 use Rattle.enzyme_words.proofs.filling.sweep.Goals as goal

@@ -1,10 +1,8 @@
 -- `sweep` meets its contract. Assumes nothing.
-use native.Mathlib.Omega.{arith}
-use mathlib.Core.Path.{◌≡◌, refl, ◌∙◌}
-use Prim.Native.Nat.{◌+◌, ◌-◌, ◌≤◌, ◌<◌}
-use lib.ListN.{length, length-set}
+use mathlib.Core.Path.{◌≡◌}
+use Prim.Native.Nat.{◌≤◌}
+use lib.ListN.{length}
 use Rattle.enzyme_words.specs.Words.{StartsSwept}
-use Rattle.enzyme_words.specs.WordLaws.{code-small, swept_start, on_reach, swept_on, swept_end}
 use Rattle.enzyme_words.proofs.filling.sweep.Given as goal
 
 abbrev pub invariant-loop-i : goal.invariant-loop-i

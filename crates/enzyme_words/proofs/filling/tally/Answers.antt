@@ -2,10 +2,10 @@
 use native.Mathlib.Omega.{arith}
 use mathlib.Core.Path.{◌≡◌, refl, ◌∙◌}
 use Prim.Native.Nat.{◌+◌, ◌-◌, ◌*◌, ◌≤◌, ◌<◌}
-use lib.ListN.{length, length-set}
-use Rattle.enzyme_words.specs.Words.{word_at, word_code, WordsTallied}
+use lib.ListN.{length-set}
+use Rattle.enzyme_words.specs.Words.{word_at, word_code}
 use Rattle.enzyme_words.specs.WordLaws.{number_small, word-number-on, number_off, code-number, code-small, words_tallied_none, words_tallied_one, words_tallied_coded, words_tallied_twice}
-use Rattle.enzyme_words.proofs.filling.tally.Goals.{After-digit, After-digit-in-loop-e, After-place-at, In-loop-e}
+use Rattle.enzyme_words.proofs.filling.tally.Goals.{After-digit-in-loop-e, After-place-at, In-loop-e}
 use Rattle.enzyme_words.proofs.filling.tally.Goals as goal
 
 pub returns-then-n-q : goal.returns-then-n-q
@@ -25,17 +25,12 @@ pub overflow_add-word : goal.overflow_add-word
 overflow_add-word c = omega (arith, small (goal.at.overflow_add-word c).In-loop-e)
 
 -- the word's place
-whole : (c : After-digit) → 26 * c.loop-e.rest + c.digit.result ≡ word_at c.args.letters.now c.loop-e.i c.args.q
-whole c =
-    let a = c.args in
-    let l = c.loop-e in
-    word-number-on a.letters.now l.i a.q c.requires.0 l.e l.rest c.digit.result l.invariant.0 l.invariant.3 c.digit.ensures
-
 coded : (c : After-place-at) → (c.place-at.result ≡ word_code c.args.letters.now c.loop-e.i c.args.q c.args.m) × (c.place-at.result < c.args.m)
 coded c =
     let a = c.args in
     let l = c.loop-e in
-    let e = code-number a.letters.now l.i a.q a.m (26 * l.rest + c.digit.result) c.place-at.result (whole TODO-c.After-digit) c.place-at.ensures in
+    let w = word-number-on a.letters.now l.i a.q c.requires.0 l.e l.rest c.digit.result l.invariant.0 l.invariant.3 c.digit.ensures in
+    let e = code-number a.letters.now l.i a.q a.m (26 * l.rest + c.digit.result) c.place-at.result w c.place-at.ensures in
     (e, rw e (code-small a.letters.now l.i a.q a.m c.requires.3))
 
 pub overflow_cast-code : goal.overflow_cast-code
@@ -52,7 +47,8 @@ off : (c : After-digit-in-loop-e) → (c.power-top.result * c.digit-in-loop-e.re
 off c =
     let a = c.args in
     let l = c.loop-e in
-    number_off a.letters.now l.i a.q c.requires.0 (26 * l.rest + c.digit.result) c.power-top.result c.digit-in-loop-e.result (whole TODO-c.After-digit) c.power-top.ensures c.digit-in-loop-e.ensures
+    let w = word-number-on a.letters.now l.i a.q c.requires.0 l.e l.rest c.digit.result l.invariant.0 l.invariant.3 c.digit.ensures in
+    number_off a.letters.now l.i a.q c.requires.0 (26 * l.rest + c.digit.result) c.power-top.result c.digit-in-loop-e.result w c.power-top.ensures c.digit-in-loop-e.ensures
 
 pub overflow_mul-rest : goal.overflow_mul-rest
 overflow_mul-rest c = omega (arith, (off (goal.at.overflow_mul-rest c).After-digit-in-loop-e).0, small (goal.at.overflow_mul-rest c).In-loop-e)

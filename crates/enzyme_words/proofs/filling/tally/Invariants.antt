@@ -1,10 +1,8 @@
 -- `tally` meets its contract. Assumes nothing.
-use native.Mathlib.Omega.{arith}
-use mathlib.Core.Path.{◌≡◌, refl, ◌∙◌}
-use Prim.Native.Nat.{◌+◌, ◌-◌, ◌*◌, ◌≤◌, ◌<◌}
-use lib.ListN.{length, length-set}
-use Rattle.enzyme_words.specs.Words.{word_at, word_code, WordsTallied}
-use Rattle.enzyme_words.specs.WordLaws.{number_small, word-number-on, number_off, code-number, code-small, words_tallied_none, words_tallied_one, words_tallied_coded, words_tallied_twice}
+use mathlib.Core.Path.{◌≡◌}
+use Prim.Native.Nat.{◌+◌, ◌-◌}
+use lib.ListN.{length}
+use Rattle.enzyme_words.specs.Words.{word_at, WordsTallied}
 use Rattle.enzyme_words.proofs.filling.tally.Given as goal
 
 abbrev pub invariant-loop-e : goal.invariant-loop-e

@@ -1,5 +1,4 @@
 -- `enough` meets its contract. Assumes nothing.
-use Prim.Native.Nat.{◌-◌, ◌≤◌, ◌<◌}
 use native.Mathlib.Omega.{arith}
 use Rattle.enzyme_words.proofs.width.enough.Goals as goal
 

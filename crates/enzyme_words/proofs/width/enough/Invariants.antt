@@ -1,6 +1,5 @@
 -- `enough` meets its contract. Assumes nothing.
-use Prim.Native.Nat.{◌-◌, ◌≤◌, ◌<◌}
-use native.Mathlib.Omega.{arith}
+use Prim.Native.Nat.{◌-◌, ◌≤◌}
 use Rattle.enzyme_words.proofs.width.enough.Given as goal
 
 abbrev pub invariant-loop-q : goal.invariant-loop-q

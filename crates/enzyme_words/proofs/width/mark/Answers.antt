@@ -1,8 +1,5 @@
 -- `mark` meets its contract. Assumes nothing.
-use Prim.Native.Nat.{◌-◌, ◌≤◌, ◌<◌}
-use mathlib.Core.Path.{◌≡◌}
 use native.Mathlib.Omega.{arith}
-use lib.ListN.{length}
 use Rattle.enzyme_words.proofs.width.mark.Goals as goal
 
 pub loop-i-init : goal.loop-i-init

@@ -1,12 +1,10 @@
 -- `marked` meets its contract. Assumes nothing.
-use Prim.Native.Nat.{◌-◌, ◌≤◌, ◌<◌}
-use mathlib.Core.Path.{◌≡◌}
-use mathlib.Core.Logic.{⊎_elim}
 use native.Mathlib.Omega.{arith}
+use Rattle.enzyme_words.proofs.width.marked.Goals.{then-seen-i-eq1, else-seen-i-eq1}
 use Rattle.enzyme_words.proofs.width.marked.Goals as goal
 
 pub loop-i-preserved : goal.loop-i-preserved
-loop-i-preserved c = ⊎_elim (λ w. omega arith) (λ w. omega arith) c.if-seen-i-eq1.branch
+loop-i-preserved c = elim c.if-seen-i-eq1.branch [ then-seen-i-eq1 w ↦ omega arith | else-seen-i-eq1 w ↦ omega arith ]
 
 pub loop-i-init : goal.loop-i-init
 loop-i-init c = omega arith

@@ -1,8 +1,5 @@
 -- `marked` meets its contract. Assumes nothing.
-use Prim.Native.Nat.{◌-◌, ◌≤◌, ◌<◌}
-use mathlib.Core.Path.{◌≡◌}
-use mathlib.Core.Logic.{⊎_elim}
-use native.Mathlib.Omega.{arith}
+use Prim.Native.Nat.{◌-◌, ◌≤◌}
 use Rattle.enzyme_words.proofs.width.marked.Given as goal
 
 abbrev pub invariant-loop-i : goal.invariant-loop-i
