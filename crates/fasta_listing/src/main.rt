@@ -15,54 +15,78 @@ mod listing;
 
 use fasta_listing_names::say;
 use letters::LetterSet;
-use libc::STDIN_FILENO;
 use records::Tested;
+use std::env::FillError;
+use std::rt::{Env, Files};
 use text_digests::Request;
 
-// Lists the file that an argument names.
-fn list_argument(i: usize, request: Request) {
-    let mut path = io::buffer();
-    let n = os::arg(i, &mut path);
-    if os::errno() != 0 {
-        os::fail(b"argument");
-        return;
+// Lists the file that an argument names. A path that is no text cannot be opened.
+fn list_path<R: Files + Print + Eprint>(
+    rt: &R,
+    path: &[u8],
+    request: Request,
+) -> std::io::Result<()> {
+    match std::str::from_utf8(path) {
+        Ok(path) => listing::list_file(rt, path, request),
+        Err(why) => eprintln!(rt; "argument: {why}"),
     }
-    listing::list_file(&path[..n], request);
 }
 
-fn list_arguments(request: Request) {
-    let count = os::arg_count();
-    if count < 2 {
-        say(b"the arguments are: FILE..");
+// Lists the file that an argument names: whether there is such an argument.
+fn list_argument<R: Env + Files + Print + Eprint>(
+    rt: &R,
+    i: usize,
+    request: Request,
+) -> std::io::Result<bool> {
+    let mut path = io::buffer();
+    match rt.arg(i, &mut path) {
+        Ok(n) => list_path(rt, &path[..n], request)?,
+        Err(FillError::TooLong) => eprintln!(rt; "argument: File name too long")?,
+        Err(FillError::NotPresent) => return Ok(false),
     }
-    let mut i = 1;
-    while i < count {
-        list_argument(i, request);
-        i += 1;
+    Ok(true)
+}
+
+fn list_arguments<R: Env + Files + Print + Eprint>(
+    rt: &R,
+    request: Request,
+) -> std::io::Result<()> {
+    if !list_argument(rt, 1, request)? {
+        return say(rt, "the arguments are: FILE..");
     }
+    for i in 2..usize::MAX {
+        if !list_argument(rt, i, request)? {
+            break;
+        }
+    }
+    Ok(())
 }
 
 // Tests the settings before a file is read.
-fn run(line: &[u8]) {
+fn run<R: Env + Files + Print + Eprint>(rt: &R, line: &[u8]) -> std::io::Result<()> {
     if text_fields::field(line, 6) == line.len() {
-        say(b"the first line is: CLEAVE SKIP SIDE SEMI MISSED MINIMUM MAXIMUM");
-        return;
+        return say(
+            rt,
+            "the first line is: CLEAVE SKIP SIDE SEMI MISSED MINIMUM MAXIMUM",
+        );
     }
     let request = text_digests::read_request(line);
     let none = [0u8; 0];
     match enzyme::tested(&none, LetterSet::ALL, request.enzyme, request.settings) {
-        Tested::Passed => list_arguments(request),
-        Tested::Refused(why) => text_digests::refusal(why),
+        Tested::Passed => list_arguments(rt, request),
+        Tested::Refused(why) => text_digests::refusal(rt, why),
     }
 }
 
-fn main() {
+fn main(rt: HostRuntime) -> std::io::Result<()> {
     let mut input = io::buffer();
-    let n = io::read_full(STDIN_FILENO, &mut input);
+    let n = text_lines::read_full(&mut rt.reader(), &mut input)?;
     let end = text_lines::up_to(text_lines::line_end(&input[..n], 0), &input);
     if end == 4096 {
-        say(b"the first line is larger than the 4095 bytes that this program holds");
-        return;
+        return say(
+            &rt,
+            "the first line is larger than the 4095 bytes that this program holds",
+        );
     }
-    run(&input[..end]);
+    run(&rt, &input[..end])
 }

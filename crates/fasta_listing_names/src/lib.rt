@@ -7,6 +7,6 @@ mod steps;
 mod tables;
 
 pub use reading::{Reading, read_names};
-pub use saying::{name, say, text, too_large};
+pub use saying::{name, say, too_large};
 pub use steps::Step;
 pub use tables::{is_named, name_table};

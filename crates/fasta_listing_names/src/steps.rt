@@ -1,4 +1,5 @@
 // The steps of a reading.
+use std::io;
 use text_lines::more;
 
 // What a piece of a file comes to.
@@ -11,7 +12,7 @@ pub enum Step {
     // Why was said.
     Refused,
     // A call on the file failed.
-    Failed,
+    Failed(io::Error),
 }
 
 impl Step {

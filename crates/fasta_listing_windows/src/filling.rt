@@ -1,11 +1,15 @@
 // How a buffer is filled.
 ghost use Rattle.std.specs.Prelude.{◌≤◌, length};
 
-// How far a buffer is filled, and whether a read failed before it was full.
+use std::io;
+use std::io::Read;
+use text_lines::read_full;
+
+// How far a buffer is filled, and why a read failed before it was full, if one did.
 #[derive(Drop)]
 pub(crate) struct Filled {
     pub(crate) to: usize,
-    pub(crate) failed: bool,
+    pub(crate) failed: Option<io::Error>,
 }
 
 // Moves the bytes between two places to the front.
@@ -22,24 +26,18 @@ pub(crate) fn move_to_front(bytes: &mut [u8], from: usize, to: usize)
 }
 
 // Reads behind the first bytes until the buffer is full, the file ends or a read fails.
-pub(crate) fn fill(file: i32, bytes: &mut [u8], first: usize) -> Filled
+pub(crate) fn fill<F: Read>(file: &mut F, bytes: &mut [u8], first: usize) -> Filled
     requires { first ≤ length bytes.old }
     ensures { result.to ≤ length bytes.new }
 {
-    let mut n = first;
-    while n < bytes.len() {
-        let got = libc::read(file, &mut bytes[n..]);
-        let more = io::count(got, &bytes[n..]);
-        if more == 0 {
-            return Filled {
-                to: n,
-                failed: got < 0,
-            };
-        }
-        n += more;
-    }
-    Filled {
-        to: n,
-        failed: false,
+    match read_full(file, &mut bytes[first..]) {
+        Ok(more) => Filled {
+            to: first + more,
+            failed: None,
+        },
+        Err(why) => Filled {
+            to: first,
+            failed: Some(why),
+        },
     }
 }

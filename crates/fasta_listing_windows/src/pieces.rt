@@ -5,6 +5,8 @@ ghost use Rattle.std.specs.Prelude.{◌≡◌, ◌≤◌, length};
 use crate::filling::{fill, move_to_front};
 use fasta_lines::{Run, entry_len, run_len};
 use records::byte_at;
+use std::io;
+use std::io::Read;
 
 // What is found in a file.
 #[derive(Clone, Copy)]
@@ -15,7 +17,7 @@ pub enum Found {
     // The front of an entry that is larger than the buffer.
     Front,
     // A read failed.
-    Failure,
+    Failure(io::Error),
 }
 
 // What stands in the buffer.
@@ -122,15 +124,15 @@ fn of_last(filled: usize, before: usize) -> Window
 }
 
 // The piece that begins at the buffer's front, of which the first bytes are there.
-fn first_piece(file: i32, bytes: &mut [u8], first: usize, before: usize) -> Window
+fn first_piece<F: Read>(file: &mut F, bytes: &mut [u8], first: usize, before: usize) -> Window
     requires { first ≤ length bytes.old }
     ensures { (result.from ≤ result.to) × (result.to ≤ result.filled) × (result.filled ≤ length bytes.new) }
 {
     let read = fill(file, bytes, first);
     let filled = read.to;
-    if read.failed {
+    if let Some(why) = read.failed {
         return Window {
-            found: Found::Failure,
+            found: Found::Failure(why),
             from: 0,
             to: 0,
             filled,
@@ -154,7 +156,7 @@ fn first_piece(file: i32, bytes: &mut [u8], first: usize, before: usize) -> Wind
 }
 
 // The piece behind the last one.
-pub fn next_piece(file: i32, bytes: &mut [u8], last: Window) -> Window
+pub fn next_piece<F: Read>(file: &mut F, bytes: &mut [u8], last: Window) -> Window
     requires { (last.to ≤ last.filled) × (last.filled ≤ length bytes.old) }
     ensures { (result.from ≤ result.to) × (result.to ≤ result.filled) × (result.filled ≤ length bytes.new) }
 {

@@ -15,8 +15,8 @@ mod text;
 ghost use Rattle.std.specs.Prelude.{◌≡◌, length};
 
 use letters::LetterSet;
-use libc::{STDIN_FILENO, STDOUT_FILENO};
 use records::{Counted, Refusal};
+use std::io;
 
 fn input() -> [u8; 131072]
     ensures { 131072 ≡ length result }
@@ -30,20 +30,22 @@ fn output() -> [u8; 2621440]
     [0; 2621440]
 }
 
-fn say(line: &[u8]) {
-    io::write_all(STDOUT_FILENO, line);
-    io::write_all(STDOUT_FILENO, b"\n");
+fn say(rt: &impl Print, line: &str) -> io::Result<()> {
+    println!(rt; "{line}")
 }
 
-fn refuse(why: Refusal) {
+fn refuse(rt: &impl Print, why: Refusal) -> io::Result<()> {
     match why {
-        Refusal::Room => say(b"there are more digests than the 131072 that this program holds"),
-        _ => text_digests::refusal(why),
+        Refusal::Room => say(
+            rt,
+            "there are more digests than the 131072 that this program holds",
+        ),
+        _ => text_digests::refusal(rt, why),
     }
 }
 
 // Lists the digests of some letters.
-fn list(letters: &[u8], line: &[u8], out: &mut [u8]) {
+fn list(rt: &impl Print, letters: &[u8], line: &[u8], out: &mut [u8]) -> io::Result<()> {
     let asked = text_digests::read_request(line);
     let enzyme = asked.enzyme;
     let settings = asked.settings;
@@ -56,31 +58,35 @@ fn list(letters: &[u8], line: &[u8], out: &mut [u8]) {
         out,
     );
     match answer {
-        Counted::Count(count) => text_digests::print_all(out, count),
-        Counted::Refused(why) => refuse(why),
+        Counted::Count(count) => text_digests::print_all(rt, out, count),
+        Counted::Refused(why) => refuse(rt, why),
     }
 }
 
 // The request on the first line, the letters behind it.
-fn run(input: &[u8], letters: &mut [u8], out: &mut [u8]) {
+fn run(rt: &impl Print, input: &[u8], letters: &mut [u8], out: &mut [u8]) -> io::Result<()> {
     let end = text_lines::line_end(input, 0);
     let line = &input[..end];
     if text_fields::field(line, 7) == end {
-        say(b"the first line is: CLEAVE SKIP SIDE SEMI MISSED MINIMUM MAXIMUM PROTEIN");
-        return;
+        return say(
+            rt,
+            "the first line is: CLEAVE SKIP SIDE SEMI MISSED MINIMUM MAXIMUM PROTEIN",
+        );
     }
     let n = text::squeeze(&input[end..], letters);
-    list(&letters[..n], line, out);
+    list(rt, &letters[..n], line, out)
 }
 
-fn main() {
+fn main(rt: HostRuntime) -> io::Result<()> {
     let mut bytes = input();
-    let n = io::read_full(STDIN_FILENO, &mut bytes);
+    let n = text_lines::read_full(&mut rt.reader(), &mut bytes)?;
     if n == 131072 {
-        say(b"the input is larger than the 131071 bytes that this program holds");
-        return;
+        return say(
+            &rt,
+            "the input is larger than the 131071 bytes that this program holds",
+        );
     }
     let mut letters = input();
     let mut out = output();
-    run(&bytes[..n], &mut letters, &mut out);
+    run(&rt, &bytes[..n], &mut letters, &mut out)
 }

@@ -1,5 +1,6 @@
 // The lines of a file, each with an answer of the Rust.
 use crate::tally::Tally;
+use std::io;
 use text_fields::Verdict;
 use text_lines::line_end;
 
@@ -39,13 +40,18 @@ fn replay_line(kind: Kind, line: &[u8], memory: &mut [u8]) -> Verdict {
 }
 
 // Replays the lines of a text, one after the other.
-pub(crate) fn replay(kind: Kind, s: &[u8], memory: &mut [u8]) -> Tally {
+pub(crate) fn replay(
+    rt: &impl Print,
+    kind: Kind,
+    s: &[u8],
+    memory: &mut [u8],
+) -> io::Result<Tally> {
     let mut tally = Tally::none();
     let mut at = 0;
     while at < s.len() {
         let end = line_end(s, at);
-        tally = tally.with(replay_line(kind, &s[at..end], memory));
+        tally = tally.with(rt, replay_line(kind, &s[at..end], memory))?;
         at = end + 1;
     }
-    tally
+    Ok(tally)
 }

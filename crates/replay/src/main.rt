@@ -8,86 +8,106 @@ mod lines;
 mod masking;
 mod tally;
 
+ghost use Rattle.std.specs.Prelude.{IfOk};
 ghost use Rattle.io.specs.Counts.{IsPrefixLen};
 
-use libc::STDOUT_FILENO;
 use lines::Kind;
+use std::fs;
+use std::rt::Files;
+use text_lines::read_full;
 
 // The bytes of a file at the front of a buffer: how many there are. Says so where they leave no byte free, as some may be lacking.
-fn load(path: &[u8], buffer: &mut [u8]) -> usize
-    ensures { IsPrefixLen result buffer.new }
+fn load<R: Files + Print + Eprint>(rt: &R, path: &str, buffer: &mut [u8]) -> std::io::Result<usize>
+    ensures { IfOk result (λ n. IsPrefixLen n buffer.new) }
 {
-    let file = os::open_read(path);
-    if file < 0 {
-        os::fail(path);
-        return 0;
+    match fs::open(rt, path) {
+        Ok(mut file) => {
+            let n = read_full(&mut file, buffer)?;
+            if n == buffer.len() {
+                println!(rt; "{path} may be larger than its buffer")?;
+            }
+            Ok(n)
+        }
+        Err(why) => {
+            eprintln!(rt; "{path}: {why}")?;
+            Ok(0)
+        }
     }
-    let n = io::read_full(file, buffer);
-    libc::close(file);
-    if n == buffer.len() {
-        io::write_all(STDOUT_FILENO, path);
-        io::write_all(STDOUT_FILENO, b" may be larger than its buffer\n");
-    }
-    n
 }
 
-fn replay_file(kind: Kind, path: &[u8], what: &[u8]) {
+fn replay_file<R: Files + Print + Eprint>(
+    rt: &R,
+    kind: Kind,
+    path: &str,
+    what: &str,
+) -> std::io::Result<()> {
     let mut text = io::large_buffer();
     let mut memory = io::large_buffer();
-    let n = load(path, &mut text);
-    let tally = lines::replay(kind, &text[..n], &mut memory);
-    tally.report(what);
+    let n = load(rt, path, &mut text)?;
+    let tally = lines::replay(rt, kind, &text[..n], &mut memory)?;
+    tally.report(rt, what)
 }
 
 // The same with small letters in a column.
-fn replay_masked(kind: Kind, path: &[u8], column: u32, what: &[u8]) {
+fn replay_masked<R: Files + Print + Eprint>(
+    rt: &R,
+    kind: Kind,
+    path: &str,
+    column: u32,
+    what: &str,
+) -> std::io::Result<()> {
     let mut text = io::large_buffer();
     let mut memory = io::large_buffer();
-    let n = load(path, &mut text);
+    let n = load(rt, path, &mut text)?;
     masking::mask(&mut text, column);
-    let tally = lines::replay(kind, &text[..n], &mut memory);
-    tally.report(what);
+    let tally = lines::replay(rt, kind, &text[..n], &mut memory)?;
+    tally.report(rt, what)
 }
 
-fn main() {
-    replay_file(Kind::Entries, b"fasta.txt", b"sequence files: ");
-    replay_file(Kind::Rules, b"rules.txt", b"rule texts: ");
-    replay_file(Kind::Insertions, b"table.txt", b"table: ");
-    replay_file(Kind::Digests, b"digest.txt", b"digests: ");
-    replay_file(Kind::Forms, b"forms.txt", b"forms: ");
-    replay_file(Kind::Masses, b"masses.txt", b"base masses: ");
-    replay_file(Kind::DigestGroups, b"groups.txt", b"groups: ");
-    replay_file(Kind::Covers, b"cover.txt", b"covers: ");
-    replay_file(Kind::Updates, b"update.txt", b"updates: ");
+fn main(rt: HostRuntime) -> std::io::Result<()> {
+    replay_file(&rt, Kind::Entries, "fasta.txt", "sequence files")?;
+    replay_file(&rt, Kind::Rules, "rules.txt", "rule texts")?;
+    replay_file(&rt, Kind::Insertions, "table.txt", "table")?;
+    replay_file(&rt, Kind::Digests, "digest.txt", "digests")?;
+    replay_file(&rt, Kind::Forms, "forms.txt", "forms")?;
+    replay_file(&rt, Kind::Masses, "masses.txt", "base masses")?;
+    replay_file(&rt, Kind::DigestGroups, "groups.txt", "groups")?;
+    replay_file(&rt, Kind::Covers, "cover.txt", "covers")?;
+    replay_file(&rt, Kind::Updates, "update.txt", "updates")?;
     replay_file(
+        &rt,
         Kind::ProteinGroups,
-        b"proteins.txt",
-        b"groups of proteins: ",
-    );
-    replay_file(Kind::ReportLines, b"lines.txt", b"report lines: ");
-    replay_file(Kind::Passes, b"passes.txt", b"passes: ");
+        "proteins.txt",
+        "groups of proteins",
+    )?;
+    replay_file(&rt, Kind::ReportLines, "lines.txt", "report lines")?;
+    replay_file(&rt, Kind::Passes, "passes.txt", "passes")?;
     replay_masked(
+        &rt,
         Kind::Digests,
-        b"digest.txt",
+        "digest.txt",
         0,
-        b"digests, every second letter small: ",
-    );
+        "digests, every second letter small",
+    )?;
     replay_masked(
+        &rt,
         Kind::Forms,
-        b"forms.txt",
+        "forms.txt",
         0,
-        b"forms, every second letter small: ",
-    );
+        "forms, every second letter small",
+    )?;
     replay_masked(
+        &rt,
         Kind::Masses,
-        b"masses.txt",
+        "masses.txt",
         0,
-        b"base masses, every second letter small: ",
-    );
+        "base masses, every second letter small",
+    )?;
     replay_masked(
+        &rt,
         Kind::DigestGroups,
-        b"groups.txt",
+        "groups.txt",
         2,
-        b"groups, every second letter small: ",
-    );
+        "groups, every second letter small",
+    )
 }

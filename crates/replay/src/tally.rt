@@ -1,5 +1,5 @@
 // What replayed lines come to.
-use libc::STDOUT_FILENO;
+use std::io;
 use text_fields::Verdict;
 use text_lines::more;
 
@@ -21,41 +21,35 @@ impl Tally {
     }
 
     // One line more.
-    pub(crate) fn with(self, verdict: Verdict) -> Tally {
+    pub(crate) fn with(self, rt: &impl Print, verdict: Verdict) -> io::Result<Tally> {
         match verdict {
-            Verdict::Agrees => Tally {
+            Verdict::Agrees => Ok(Tally {
                 lines: more(self.lines),
                 answers: more(self.answers),
                 differ: self.differ,
-            },
-            Verdict::NoAnswer => Tally {
+            }),
+            Verdict::NoAnswer => Ok(Tally {
                 lines: more(self.lines),
                 answers: self.answers,
                 differ: self.differ,
-            },
-            Verdict::Differs => self.failed(b" differs\n"),
-            Verdict::TooLarge => self.failed(b" is larger than this program's buffers\n"),
+            }),
+            Verdict::Differs => self.failed(rt, "differs"),
+            Verdict::TooLarge => self.failed(rt, "is larger than this program's buffers"),
         }
     }
 
     // One line more, of which it is said why it fails.
-    fn failed(self, why: &[u8]) -> Tally {
+    fn failed(self, rt: &impl Print, why: &str) -> io::Result<Tally> {
         let lines = more(self.lines);
-        io::write_all(STDOUT_FILENO, b"line ");
-        io::print_decimal(STDOUT_FILENO, lines as u64);
-        io::write_all(STDOUT_FILENO, why);
-        Tally {
+        println!(rt; "line {lines} {why}")?;
+        Ok(Tally {
             lines,
             answers: more(self.answers),
             differ: more(self.differ),
-        }
+        })
     }
 
-    pub(crate) fn report(self, what: &[u8]) {
-        io::write_all(STDOUT_FILENO, what);
-        io::print_decimal(STDOUT_FILENO, self.answers as u64);
-        io::write_all(STDOUT_FILENO, b" compared, ");
-        io::print_decimal(STDOUT_FILENO, self.differ as u64);
-        io::write_all(STDOUT_FILENO, b" differ\n");
+    pub(crate) fn report(self, rt: &impl Print, what: &str) -> io::Result<()> {
+        println!(rt; "{what}: {} compared, {} differ", self.answers, self.differ)
     }
 }

@@ -14,47 +14,55 @@
 
 mod telling;
 
-use libc::STDIN_FILENO;
+use std::env::FillError;
+use std::fs;
+use std::io::Read;
+use std::rt::{Env, Files};
 
-// Tells of what can be read from a descriptor.
-fn tell_all(file: i32) {
+// Tells of what can be read.
+fn tell_all<F: Read>(rt: &impl Print, file: &mut F) -> std::io::Result<()> {
     let mut text = io::large_buffer();
-    let n = io::read_full(file, &mut text);
+    let n = text_lines::read_full(file, &mut text)?;
     if n == 65536 {
-        report_rows_print::too_large(b"65535 bytes");
-        return;
+        return report_rows_print::too_large(rt, "65535 bytes");
     }
-    telling::tell(&text[..n]);
+    telling::tell(rt, &text[..n])
 }
 
-fn tell_file(path: &[u8]) {
-    let file = os::open_read(path);
-    if file < 0 {
-        os::fail(path);
-        return;
+fn tell_file<R: Files + Print + Eprint>(rt: &R, path: &str) -> std::io::Result<()> {
+    match fs::open(rt, path) {
+        Ok(mut file) => tell_all(rt, &mut file),
+        Err(why) => eprintln!(rt; "{path}: {why}"),
     }
-    tell_all(file);
-    libc::close(file);
 }
 
-fn tell_argument(i: usize) {
+// Tells of the file that an argument names. A path that is no text cannot be opened.
+fn tell_path<R: Files + Print + Eprint>(rt: &R, path: &[u8]) -> std::io::Result<()> {
+    match std::str::from_utf8(path) {
+        Ok(path) => tell_file(rt, path),
+        Err(why) => eprintln!(rt; "argument: {why}"),
+    }
+}
+
+// Tells of the file that an argument names: whether there is such an argument.
+fn tell_argument<R: Env + Files + Print + Eprint>(rt: &R, i: usize) -> std::io::Result<bool> {
     let mut path = io::buffer();
-    let n = os::arg(i, &mut path);
-    if os::errno() != 0 {
-        os::fail(b"argument");
-        return;
+    match rt.arg(i, &mut path) {
+        Ok(n) => tell_path(rt, &path[..n])?,
+        Err(FillError::TooLong) => eprintln!(rt; "argument: File name too long")?,
+        Err(FillError::NotPresent) => return Ok(false),
     }
-    tell_file(&path[..n]);
+    Ok(true)
 }
 
-fn main() {
-    let count = os::arg_count();
-    if count < 2 {
-        tell_all(STDIN_FILENO);
+fn main(rt: HostRuntime) -> std::io::Result<()> {
+    if !tell_argument(&rt, 1)? {
+        return tell_all(&rt, &mut rt.reader());
     }
-    let mut i = 1;
-    while i < count {
-        tell_argument(i);
-        i += 1;
+    for i in 2..usize::MAX {
+        if !tell_argument(&rt, i)? {
+            break;
+        }
     }
+    Ok(())
 }

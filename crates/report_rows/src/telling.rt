@@ -4,6 +4,7 @@ ghost use Rattle.std.specs.Prelude.{◌≡◌, length};
 use protein_groups::{Grouped, Sizes};
 use records::{Counted, Tested};
 use report_rows_read::Sought;
+use std::io;
 use text_lines::{line_end, narrow, up_to};
 
 // 16,384 columns.
@@ -50,6 +51,7 @@ fn work_memory() -> [u32; 147456]
 
 // Marks the groups of the cover.
 fn cover_groups(
+    rt: &impl Print,
     tag: &[u8],
     s: &[u8],
     pairs: &[u8],
@@ -58,19 +60,26 @@ fn cover_groups(
     members: &[u8],
     sizes: Sizes,
     work: &mut [u32],
-) {
+) -> io::Result<()> {
     let mut marks = [0u8; 8192];
     match cover::cover(edges, sizes.groups, sizes.metas, work, &mut marks) {
-        Counted::Refused(why) => report_rows_print::refusal(why),
+        Counted::Refused(why) => report_rows_print::refusal(rt, why),
         Counted::Count(count) => {
             let n = up_to(count as usize, &marks);
-            report_rows_print::report(tag, s, pairs, names, members, &marks[..n]);
+            report_rows_print::report(rt, tag, s, pairs, names, members, &marks[..n])
         }
     }
 }
 
 // Groups the proteins.
-fn group_names(tag: &[u8], s: &[u8], flags: &[u8], pairs: &[u8], names: &[u8]) {
+fn group_names(
+    rt: &impl Print,
+    tag: &[u8],
+    s: &[u8],
+    flags: &[u8],
+    pairs: &[u8],
+    names: &[u8],
+) -> io::Result<()> {
     let mut work = work_memory();
     let mut edges = pair_table();
     let mut members = member_table();
@@ -86,11 +95,12 @@ fn group_names(tag: &[u8], s: &[u8], flags: &[u8], pairs: &[u8], names: &[u8]) {
         &mut members,
     );
     match answer {
-        Grouped::Refused(why) => report_rows_print::refused_flag(s, why),
+        Grouped::Refused(why) => report_rows_print::refused_flag(rt, s, why),
         Grouped::Made(sizes) => {
             let e = up_to(8 * sizes.edges as usize, &edges);
             let m = up_to(12 * sizes.members as usize, &members);
             cover_groups(
+                rt,
                 tag,
                 s,
                 pairs,
@@ -99,63 +109,81 @@ fn group_names(tag: &[u8], s: &[u8], flags: &[u8], pairs: &[u8], names: &[u8]) {
                 &members[..m],
                 sizes,
                 &mut work,
-            );
+            )
         }
     }
 }
 
 // Tests the names.
-fn tell_names(tag: &[u8], s: &[u8], flags: &[u8], pairs: &[u8], known: &[u8], count: u32) {
+fn tell_names(
+    rt: &impl Print,
+    tag: &[u8],
+    s: &[u8],
+    flags: &[u8],
+    pairs: &[u8],
+    known: &[u8],
+    count: u32,
+) -> io::Result<()> {
     let mut names = name_table();
     report_rows_read::put_names(s, known, count, &mut names);
     let n = up_to(64 * count as usize, &names);
     match catalogue::names_tested(&names[..n]) {
-        Tested::Refused(why) => report_rows_print::refused_name(s, known, why),
-        Tested::Passed => group_names(tag, s, flags, pairs, &names[..n]),
+        Tested::Refused(why) => report_rows_print::refused_name(rt, s, known, why),
+        Tested::Passed => group_names(rt, tag, s, flags, pairs, &names[..n]),
     }
 }
 
 // Numbers the names.
-fn tell_columns(tag: &[u8], s: &[u8], flags: &[u8], columns: &[u8], count: u32) {
+fn tell_columns(
+    rt: &impl Print,
+    tag: &[u8],
+    s: &[u8],
+    flags: &[u8],
+    columns: &[u8],
+    count: u32,
+) -> io::Result<()> {
     let mut known = known_table();
     let mut pairs = pair_table();
     let found = report_rows_read::number_names(s, columns, count, &mut known, &mut pairs);
     if 4096 < found {
-        report_rows_print::too_large(b"4096 names");
-        return;
+        return report_rows_print::too_large(rt, "4096 names");
     }
     let n = up_to(8 * count as usize, &pairs);
-    tell_names(tag, s, flags, &pairs[..n], &known, found);
+    tell_names(rt, tag, s, flags, &pairs[..n], &known, found)
 }
 
 // Reads the rows.
-fn tell_rows(tag: &[u8], s: &[u8]) {
+fn tell_rows(rt: &impl Print, tag: &[u8], s: &[u8]) -> io::Result<()> {
     let mut flags = [0u8; 4096];
     let mut columns = column_table();
     let rows = report_rows_read::read_flags(s, &mut flags);
     let count = report_rows_read::read_columns(s, &mut columns);
     if 4096 < rows {
-        report_rows_print::too_large(b"4096 rows");
-        return;
+        return report_rows_print::too_large(rt, "4096 rows");
     }
     if 16384 < count {
-        report_rows_print::too_large(b"16384 pairs");
-        return;
+        return report_rows_print::too_large(rt, "16384 pairs");
     }
     let n = up_to(rows as usize, &flags);
-    tell_columns(tag, s, &flags[..n], &columns, count);
+    tell_columns(rt, tag, s, &flags[..n], &columns, count)
 }
 
 // The tag on the first line, the rows behind it.
-pub(crate) fn tell(text: &[u8]) {
+pub(crate) fn tell(rt: &impl Print, text: &[u8]) -> io::Result<()> {
     let end = line_end(text, 0);
     let tag = &text[0..end];
     let s = &text[end..];
-    if report_rows_print::refuses(s, Sought::BadPeptide, 2, b"a peptide that is not letters") {
-        return;
+    if report_rows_print::refuses(
+        rt,
+        s,
+        Sought::BadPeptide,
+        2,
+        "a peptide that is not letters",
+    )? {
+        return Ok(());
     }
-    if report_rows_print::refuses(s, Sought::LongName, 12, b"a name of more than 64 bytes") {
-        return;
+    if report_rows_print::refuses(rt, s, Sought::LongName, 12, "a name of more than 64 bytes")? {
+        return Ok(());
     }
-    tell_rows(tag, s);
+    tell_rows(rt, tag, s)
 }

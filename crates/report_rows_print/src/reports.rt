@@ -5,6 +5,7 @@ use crate::saying;
 use records::{byte_at, u32_at};
 use report_lines::{Reported, report_line};
 use report_rows_read::{flag_of, list_of, name_count};
+use std::io;
 use text_lines::{line_end, narrow};
 
 // Room for any line: names of 65,535 bytes from targets and from decoys, 4,096 tags, and what stands between 8,192 names.
@@ -40,35 +41,61 @@ fn is_first(members: &[u8], i: u32) -> bool {
 }
 
 // Prints the group of member i.
-fn print_group(names: &[u8], members: &[u8], marks: &[u8], tag: &[u8], i: u32, out: &mut [u8]) {
+fn print_group(
+    rt: &impl Print,
+    names: &[u8],
+    members: &[u8],
+    marks: &[u8],
+    tag: &[u8],
+    i: u32,
+    out: &mut [u8],
+) -> io::Result<()> {
     let at = 12 * i as usize;
     let list = [u32_at(members, at + 4)];
     let decoy = byte_at(members, at + 8) == 1;
     let generated = is_generated(tag);
     match report_line(names, members, marks, &list, decoy, tag, generated, out) {
-        Reported::Refused(why) => saying::refusal(why),
-        Reported::Line(report) => saying::group(group_of(members, i), report, out),
+        Reported::Refused(why) => saying::refusal(rt, why),
+        Reported::Line(report) => saying::group(rt, group_of(members, i), report, out),
     }
 }
 
 // Prints the marked group that begins with member i.
-fn print_first(names: &[u8], members: &[u8], marks: &[u8], tag: &[u8], i: u32, out: &mut [u8]) {
+fn print_first(
+    rt: &impl Print,
+    names: &[u8],
+    members: &[u8],
+    marks: &[u8],
+    tag: &[u8],
+    i: u32,
+    out: &mut [u8],
+) -> io::Result<()> {
     let mark = byte_at(marks, group_of(members, i) as usize);
     if is_first(members, i) & (mark == 1) {
-        print_group(names, members, marks, tag, i, out);
+        return print_group(rt, names, members, marks, tag, i, out);
     }
+    Ok(())
 }
 
-fn print_groups(names: &[u8], members: &[u8], marks: &[u8], tag: &[u8], out: &mut [u8]) {
+fn print_groups(
+    rt: &impl Print,
+    names: &[u8],
+    members: &[u8],
+    marks: &[u8],
+    tag: &[u8],
+    out: &mut [u8],
+) -> io::Result<()> {
     let count = narrow(members.len() / 12);
     let mut i: u32 = 0;
     while i < count {
-        print_first(names, members, marks, tag, i, out);
+        print_first(rt, names, members, marks, tag, i, out)?;
         i += 1;
     }
+    Ok(())
 }
 
 fn print_row(
+    rt: &impl Print,
     line: &[u8],
     list: &[u32],
     names: &[u8],
@@ -76,15 +103,15 @@ fn print_row(
     marks: &[u8],
     tag: &[u8],
     out: &mut [u8],
-) {
+) -> io::Result<()> {
     if line.len() == 0 {
-        return;
+        return Ok(());
     }
     let decoy = flag_of(line) == 1;
     let generated = is_generated(tag);
     match report_line(names, members, marks, list, decoy, tag, generated, out) {
-        Reported::Refused(why) => saying::refusal(why),
-        Reported::Line(report) => saying::row(line, report, out),
+        Reported::Refused(why) => saying::refusal(rt, why),
+        Reported::Line(report) => saying::row(rt, line, report, out),
     }
 }
 
@@ -102,6 +129,7 @@ fn names_end(list: &[u32], first: usize, count: u32) -> usize
 }
 
 fn print_rows(
+    rt: &impl Print,
     s: &[u8],
     list: &[u32],
     names: &[u8],
@@ -109,13 +137,14 @@ fn print_rows(
     marks: &[u8],
     tag: &[u8],
     out: &mut [u8],
-) {
+) -> io::Result<()> {
     let mut first = 0;
     let mut at = 0;
     while at < s.len() {
         let end = line_end(s, at);
         let next = names_end(list, first, name_count(&s[at..end]));
         print_row(
+            rt,
             &s[at..end],
             &list[first..next],
             names,
@@ -123,14 +152,16 @@ fn print_rows(
             marks,
             tag,
             out,
-        );
+        )?;
         first = next;
         at = end + 1;
     }
+    Ok(())
 }
 
 // Prints all lines.
 fn print_all(
+    rt: &impl Print,
     tag: &[u8],
     s: &[u8],
     pairs: &[u8],
@@ -138,22 +169,30 @@ fn print_all(
     members: &[u8],
     marks: &[u8],
     out: &mut [u8],
-) {
+) -> io::Result<()> {
     let mut list = list_buffer();
     let n = list_of(pairs, &mut list);
-    print_groups(names, members, marks, tag, out);
-    print_rows(s, &list[..n], names, members, marks, tag, out);
+    print_groups(rt, names, members, marks, tag, out)?;
+    print_rows(rt, s, &list[..n], names, members, marks, tag, out)
 }
 
 // The line of no protein tells whether the library takes the tag, before anything is printed.
-pub fn report(tag: &[u8], s: &[u8], pairs: &[u8], names: &[u8], members: &[u8], marks: &[u8]) {
+pub fn report(
+    rt: &impl Print,
+    tag: &[u8],
+    s: &[u8],
+    pairs: &[u8],
+    names: &[u8],
+    members: &[u8],
+    marks: &[u8],
+) -> io::Result<()> {
     let mut out = line_buffer();
     let none = [0u32; 0];
     let generated = is_generated(tag);
     match report_line(
         names, members, marks, &none, false, tag, generated, &mut out,
     ) {
-        Reported::Refused(why) => saying::refused_tag(tag, why),
-        Reported::Line(_) => print_all(tag, s, pairs, names, members, marks, &mut out),
+        Reported::Refused(why) => saying::refused_tag(rt, tag, why),
+        Reported::Line(_) => print_all(rt, tag, s, pairs, names, members, marks, &mut out),
     }
 }

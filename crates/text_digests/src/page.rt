@@ -2,7 +2,6 @@
 ghost use Rattle.std.specs.Prelude.{◌+◌, ◌≤◌};
 ghost use Rattle.io.specs.Counts.{IsPrefixLen};
 
-use libc::STDOUT_FILENO;
 use records::{Refusal, byte_at, put_byte, put_bytes, u32_at};
 use text_lines::up_to;
 
@@ -59,12 +58,12 @@ fn put_record(out: &[u8], at: usize, line: &mut [u8]) -> usize
 }
 
 // The line of the record at a place, in one write: a file of sequences has millions of them.
-fn print_record(out: &[u8], at: usize)
+fn print_record(rt: &impl Print, out: &[u8], at: usize) -> std::io::Result<()>
     requires { at ≤ 20971500 }
 {
     let mut line = [0u8; 168];
     let n = put_record(out, at, &mut line);
-    io::write_all(STDOUT_FILENO, &line[..n]);
+    rt.write_all(&line[..n])
 }
 
 // No list has more than 1,048,576 records.
@@ -79,25 +78,23 @@ fn capped(count: u32) -> usize
 }
 
 // The first count records.
-pub fn print_all(out: &[u8], count: u32) {
+pub fn print_all(rt: &impl Print, out: &[u8], count: u32) -> std::io::Result<()> {
     let n = capped(count);
     let mut k = 0;
     while k < n {
-        print_record(out, 20 * k);
+        print_record(rt, out, 20 * k)?;
         k += 1;
     }
+    Ok(())
 }
 
 // A refusal's number and place, with no line end: the caller may know more.
-pub fn refused(why: u32, place: usize) {
-    io::write_all(STDOUT_FILENO, b"refused: number ");
-    io::print_decimal(STDOUT_FILENO, why as u64);
-    io::write_all(STDOUT_FILENO, b", place ");
-    io::print_decimal(STDOUT_FILENO, place as u64);
+pub fn refused(rt: &impl Print, why: u32, place: usize) -> std::io::Result<()> {
+    print!(rt; "refused: number {why}, place {place}")
 }
 
 // The line of a refusal of which no more is known.
-pub fn refusal(why: Refusal) {
-    refused(why.number(), why.place());
-    io::write_all(STDOUT_FILENO, b"\n");
+pub fn refusal(rt: &impl Print, why: Refusal) -> std::io::Result<()> {
+    refused(rt, why.number(), why.place())?;
+    rt.write_all(b"\n")
 }

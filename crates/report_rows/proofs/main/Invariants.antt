@@ -1,9 +1,0 @@
--- `main` meets its contract. Assumes nothing.
-use Prim.Native.Nat.{◌-◌}
-use Rattle.report_rows.proofs.main.Given as goal
-
-abbrev pub invariant-loop-i : goal.invariant-loop-i
-invariant-loop-i l = Unit {0}
-
-abbrev pub decreases-loop-i : goal.decreases-loop-i
-decreases-loop-i l = l.count - l.i
