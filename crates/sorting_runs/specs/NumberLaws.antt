@@ -1,11 +1,11 @@
 -- Laws of the numbers of runs. Assumes nothing.
-use Rattle.std.specs.Prelude.{◌≡◌, refl, Bool, true, false, cond, ◌&&◌, List, [], ◌∷◌, ◌++◌, ℕ, suc, ◌+◌, ◌-◌, ◌≤◌, ◌<◌, leb, length, get_or, take, drop, set}
+use Rattle.std.specs.Prelude.{◌≡◌, refl, Bool, true, false, ◌&&◌, List, [], ◌∷◌, ◌++◌, ℕ, suc, ◌+◌, ◌-◌, ◌≤◌, ◌<◌, leb, length, get_or, take, drop, set}
 use Rattle.std.proofs.Common.{sym, ap, ◌∙◌, append-nil, zero-add, add-one, arith, leb-true, take-append-drop, length-append, length-set, get_or-set_other, drop-set-lt, take-take, take_at, drop_at, length-take-le}
 use Rattle.std.proofs.Math.Seq.{slice, slice-cons, slice_empty, append_snoc, length-slice}
 use Rattle.std.proofs.lemmas.List.{take-set-le, take-append-le}
 use Rattle.sorting_runs.specs.Numbering.{numberable, numbered, numbers_outcome}
 use Rattle.lists.specs.Tests.{both}
-use Rattle.sorting_spec.specs.Runs.{equals_after, runs_of, next, numbers_from, run_numbers}
+use Rattle.sorting_spec.specs.Runs.{runs_of, next, numbers_from, run_numbers}
 use Rattle.sorting_spec.specs.RunLaws.{count-on, count_from, next_le, length-numbers}
 use Rattle.records.specs.Outcome.{outcome, only}
 use Rattle.sorting_texts.specs.declared.text.By.{By}

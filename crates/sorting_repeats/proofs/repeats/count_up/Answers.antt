@@ -1,10 +1,8 @@
 -- `count_up` meets its contract. Assumes nothing.
-use Prim.Native.Nat.{◌≤◌, ◌-◌}
 use mathlib.Core.Path.{◌≡◌, refl, ◌∙◌}
 use native.Mathlib.Omega.{arith}
-use lib.ListN.{length, take, drop, length-set}
+use lib.ListN.{length-set}
 use lib.Seq.{drop-set-lt}
-use Rattle.lists.specs.Lists.{up_from}
 use Rattle.lists.specs.RowLaws.{counting}
 use Rattle.sorting_repeats.proofs.repeats.count_up.Goals as goal
 

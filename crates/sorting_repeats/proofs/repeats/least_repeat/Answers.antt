@@ -1,11 +1,10 @@
 -- `least_repeat` meets its contract. Assumes nothing.
-use Prim.Native.Nat.{◌≤◌, ◌<◌, ◌-◌}
 use mathlib.Core.Path.{◌≡◌, sym, ◌∙◌}
 use lib.ListN.{drop}
-use lib.Seq.{slice, slice_empty}
+use lib.Seq.{slice_empty}
 use Rattle.sorting_texts.specs.Text.{le_by}
 use Rattle.sorting_spec.specs.PartLaws.{rest_all}
-use Rattle.sorting_repeats.specs.LeastLaws.{least, least_from, least-turn, least_begin}
+use Rattle.sorting_repeats.specs.LeastLaws.{least-turn, least_begin}
 use native.Mathlib.Omega.{arith}
 use Rattle.sorting_repeats.proofs.repeats.least_repeat.Goals as goal
 

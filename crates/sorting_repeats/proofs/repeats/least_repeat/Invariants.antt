@@ -1,12 +1,10 @@
 -- `least_repeat` meets its contract. Assumes nothing.
 use Prim.Native.Nat.{◌≤◌, ◌<◌, ◌-◌}
-use mathlib.Core.Path.{◌≡◌, sym, ◌∙◌}
+use mathlib.Core.Path.{◌≡◌}
 use lib.ListN.{drop}
-use lib.Seq.{slice, slice_empty}
+use lib.Seq.{slice}
 use Rattle.sorting_texts.specs.Text.{le_by}
-use Rattle.sorting_spec.specs.PartLaws.{rest_all}
-use Rattle.sorting_repeats.specs.LeastLaws.{least, least_from, least-turn, least_begin}
-use native.Mathlib.Omega.{arith}
+use Rattle.sorting_repeats.specs.LeastLaws.{least, least_from}
 use Rattle.sorting_repeats.proofs.repeats.least_repeat.Given as goal
 
 abbrev pub invariant-loop-i : goal.invariant-loop-i

@@ -1,11 +1,7 @@
 -- `number_fitting` meets its contract. Assumes nothing.
 use Prim.Native.Nat.{◌-◌}
-use mathlib.Core.Path.{refl, ◌∙◌}
-use lib.ListN.{drop, length-set}
 use Rattle.sorting_texts.specs.Text.{le_by}
-use Rattle.sorting_spec.specs.PartLaws.{rest_all}
-use Rattle.sorting_runs.specs.NumberLaws.{NumberingTo, runs_none-numbered, numbering_start, numbering_turn, numbering_end}
-use native.Mathlib.Omega.{arith}
+use Rattle.sorting_runs.specs.NumberLaws.{NumberingTo}
 use Rattle.sorting_runs.proofs.runs.number_fitting.Given as goal
 
 abbrev pub invariant-loop-i : goal.invariant-loop-i

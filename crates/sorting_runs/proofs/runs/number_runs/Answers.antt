@@ -1,6 +1,5 @@
 -- `number_runs` meets its contract. Assumes nothing.
 use mathlib.Core.Path.{sym, ◌∙◌}
-use native.Mathlib.Omega.{arith}
 use lib.ListN.{length}
 use Rattle.sorting_runs.specs.NumberLaws.{numberable-order, number_fits, number-unfit}
 use Rattle.sorting_runs.proofs.runs.number_runs.Goals as goal

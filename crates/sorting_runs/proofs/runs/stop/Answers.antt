@@ -1,10 +1,7 @@
 -- `stop` meets its contract. Assumes nothing.
-use Prim.Native.Nat.{◌≤◌, ◌<◌, ◌-◌, ◌+◌}
 use mathlib.Core.Path.{◌≡◌, sym, ◌∙◌}
 use lib.ListN.{drop}
-use lib.Seq.{slice}
 use Rattle.sorting_texts.specs.Text.{le_by}
-use Rattle.sorting_spec.specs.Runs.{equals_after, run_length}
 use Rattle.sorting_spec.specs.RunLaws.{run_begin, run_on, run_off, run_none, run-empty}
 use Rattle.sorting_spec.specs.PartLaws.{rest_all}
 use native.Mathlib.Omega.{arith}

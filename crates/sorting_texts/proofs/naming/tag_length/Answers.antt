@@ -1,8 +1,5 @@
 -- `tag_length` meets its contract. Assumes nothing.
-use Prim.Native.Nat.{◌-◌, ◌≤◌}
 use mathlib.Core.Path.{sym, ◌∙◌}
-use lib.ListN.{length}
-use Rattle.sorting_texts.specs.Text.{tag_in}
 use Rattle.sorting_texts.specs.EntryLaws.{tag_short, tag-on, tag_end}
 use native.Mathlib.Omega.{arith}
 use Rattle.sorting_texts.proofs.naming.tag_length.Goals as goal

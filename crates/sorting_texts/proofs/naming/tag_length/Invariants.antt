@@ -1,10 +1,7 @@
 -- `tag_length` meets its contract. Assumes nothing.
 use Prim.Native.Nat.{◌-◌, ◌≤◌}
-use mathlib.Core.Path.{sym, ◌∙◌}
 use lib.ListN.{length}
 use Rattle.sorting_texts.specs.Text.{tag_in}
-use Rattle.sorting_texts.specs.EntryLaws.{tag_short, tag-on, tag_end}
-use native.Mathlib.Omega.{arith}
 use Rattle.sorting_texts.proofs.naming.tag_length.Given as goal
 
 abbrev pub invariant-loop-i : goal.invariant-loop-i
