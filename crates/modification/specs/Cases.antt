@@ -7,7 +7,6 @@ use Rattle.records.specs.CaseLaws.{joined}
 use Rattle.records.specs.Search.{seek}
 use Rattle.records.specs.Le.{number_at}
 use Rattle.records.specs.Refusals.{number_of, place_of}
-use Rattle.letters.specs.declared.letter_set.LetterSet.{LetterSet}
 use Rattle.letters.specs.Letters.{is_capital, capital, is_letter, bit_set, has}
 use Rattle.modification_rules.specs.declared.rule.Read.{Read}
 use Rattle.modification_kinds.specs.Specificities.{kind_of, letter_of}

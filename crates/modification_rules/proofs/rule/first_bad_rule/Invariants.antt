@@ -1,9 +1,6 @@
 -- `first_bad_rule` meets its contract. Assumes nothing.
 use Prim.Native.Nat.{◌-◌}
-use mathlib.Core.Path.{sym, ap, ◌∙◌}
-use mathlib.Core.Bool.{not}
-use native.Mathlib.Omega.{arith}
-use Rattle.records.specs.SeekingLaws.{Seeking, seeking_all, seeking_stop, seeking_on, seeking_end}
+use Rattle.records.specs.SeekingLaws.{Seeking}
 use Rattle.modification_rules.specs.Rules.{no_rule, first_bad_rule}
 use Rattle.modification_rules.proofs.rule.first_bad_rule.Given as goal
 

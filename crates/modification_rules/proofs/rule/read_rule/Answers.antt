@@ -1,7 +1,6 @@
 -- `read_rule` meets its contract. Assumes nothing.
 use mathlib.Core.Path.{sym, ◌∙◌}
 use Rattle.modification_rules.specs.RuleLaws.{read-refused, read_none, read_bad, read_good}
-use Rattle.std.proofs.Common.{rules}
 use Rattle.modification_rules.proofs.rule.read_rule.Goals as goal
 
 pub returns-in-Refused : goal.returns-in-Refused

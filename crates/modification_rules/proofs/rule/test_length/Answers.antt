@@ -1,6 +1,5 @@
 -- `test_length` meets its contract. Assumes nothing.
 use Rattle.modification_rules.specs.RuleLaws.{length-size, length_whole, length_part}
-use Rattle.std.proofs.Common.{rules}
 use Rattle.modification_rules.proofs.rule.test_length.Goals as goal
 
 pub returns-then-most_rules-rules : goal.returns-then-most_rules-rules

@@ -1,7 +1,6 @@
 -- `test_rules` meets its contract. Assumes nothing.
 use mathlib.Core.Path.{◌∙◌}
 use Rattle.modification_rules.specs.RuleLaws.{rules-tested-refused, rules-tested-on}
-use Rattle.std.proofs.Common.{rules}
 use Rattle.modification_rules.proofs.rule.test_rules.Goals as goal
 
 pub returns-in-Refused : goal.returns-in-Refused

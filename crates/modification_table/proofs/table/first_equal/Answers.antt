@@ -1,10 +1,9 @@
 -- `first_equal` meets its contract. Assumes nothing.
-use Prim.Native.Nat.{◌-◌}
 use mathlib.Core.Path.{◌≡◌, ◌∙◌}
 use mathlib.Core.Bool.{◌&&◌}
 use native.Mathlib.Omega.{arith}
 use lib.Dec.{eqb}
-use Rattle.records.specs.SeekingLaws.{Seeking, seeking_all, seeking_stop, seeking_on, seeking_end}
+use Rattle.records.specs.SeekingLaws.{seeking_all, seeking_stop, seeking_on, seeking_end}
 use Rattle.modification_table.specs.Tables.{equal_entry, first_equal}
 use Rattle.modification_table.proofs.table.first_equal.Goals.{After-u32_at-in-loop-i}
 use Rattle.modification_table.proofs.table.first_equal.Goals as goal

@@ -1,12 +1,10 @@
 -- `first_wide` meets its contract. Assumes nothing.
-use Prim.Native.Nat.{◌-◌}
 use mathlib.Core.Path.{ap}
 use mathlib.Core.Bool.{not}
 use native.Mathlib.Omega.{arith}
-use lib.ListN.{length}
 use borrow.Author.Tests.{lt-ltb, le-ltb}
-use Rattle.records.specs.SeekingLaws.{Seeking, seeking_all, seeking_stop, seeking_on, seeking_end}
-use Rattle.modification_texts.specs.Texts.{wide, first_wide}
+use Rattle.records.specs.SeekingLaws.{seeking_all, seeking_stop, seeking_on, seeking_end}
+use Rattle.modification_texts.specs.Texts.{first_wide}
 use Rattle.modification_texts.proofs.text.first_wide.Goals as goal
 
 pub loop-i-init : goal.loop-i-init
