@@ -1,6 +1,6 @@
 -- With one more record in its place the list still rises, and it has exactly that one more. Assumes nothing.
 use Rattle.std.specs.Prelude.{ℕ, suc, ◌-◌, ◌≤◌, ◌<◌, ◌≡◌, refl, Bool, true, false, cond, List, [], ◌∷◌, ◌++◌, length, get_or, set, eqb}
-use Rattle.std.proofs.Common.{sym, ap, ◌∙◌, arith, length-append, length-set, get_or-set_same, get_or-set_other, eq-eqb, ne_eqb}
+use Rattle.std.proofs.Common.{sym, subst, ap, ◌∙◌, arith, length-append, length-set, get_or-set_same, get_or-set_other, eq-eqb, ne_eqb}
 use Rattle.std.proofs.Math.ListN.{get_or-append}
 use Rattle.std.proofs.lemmas.List.{get_or_at}
 use Rattle.enzyme_cuts.specs.Cutting.{Range, site, part}
@@ -67,7 +67,10 @@ module _ (s : List ℕ) (ks : List Range) where
   linked_insert ls head p [] ys e l r =
       let z : eqb p 0 ≡ true = eq-eqb p 0 (sym e) in
       let n = length-append ls (head ∷ []) in
-      rw z (refl, omega arith, omega arith, rw (get_or_at ls head [] 0 (suc (length ls) - 1) (omega arith)) (linked_grown ls head head ys l))
+      let m : LinkedThrough (ls ++ (head ∷ [])) (get_or (ls ++ (head ∷ [])) (suc (length ls) - 1) 0) ys = rw (get_or_at ls head [] 0 (suc (length ls) - 1) (omega arith)) (linked_grown ls head head ys l) in
+      let k : links_with ls head p ≡ ls ++ (head ∷ []) = rw (z, links_with) in
+      let g : head_with ls head p ≡ suc (length ls) = rw z in
+      subst (λ (w : List ℕ). LinkedThrough w (head_with ls head p) (suc (length ls) ∷ ys)) (sym k) (rw g (refl, omega arith, omega arith, m))
   linked_insert ls head p (t ∷ ts) ys e l r =
       let k : 0 < last_record t ts = last-pos t ls (get_or ls (t - 1) 0) ts ys l.1 l.3 in
       let w : last_record t ts ≤ length ls = last-from ls (get_or ls (t - 1) 0) t ts ys l.2 l.3 in
@@ -77,8 +80,11 @@ module _ (s : List ℕ) (ks : List Range) where
       let g : get_or (ls ++ (get_or ls (p - 1) 0 ∷ [])) (p - 1) 0 ≡ get_or ls (p - 1) 0 = get_or-append ls (get_or ls (p - 1) 0 ∷ []) 0 (p - 1) (omega arith) in
       let m : LinkedThrough (set (ls ++ (get_or ls (p - 1) 0 ∷ [])) (last_record t ts - 1) (suc (length ls))) head (t ∷ (ts ++ (suc (length ls) ∷ ys))) =
       splice (ls ++ (get_or ls (p - 1) 0 ∷ [])) (suc (length ls)) t ts ys head (omega arith) (omega arith) (omega arith) (rw e (f ∙ sym g)) (linked_grown ls (get_or ls (p - 1) 0) head (t ∷ (ts ++ ys)) l) r in
-      let m' : LinkedThrough (set (ls ++ (get_or ls (p - 1) 0 ∷ [])) (p - 1) (suc (length ls))) head (t ∷ (ts ++ (suc (length ls) ∷ ys))) = rw e at m in
-      rw z m'
+      let m' : LinkedThrough (set (ls ++ (get_or ls (p - 1) 0 ∷ [])) (p - 1) (suc (length ls))) head (t ∷ (ts ++ (suc (length ls) ∷ ys))) =
+      subst (λ (x : ℕ). LinkedThrough (set (ls ++ (get_or ls (p - 1) 0 ∷ [])) (x - 1) (suc (length ls))) head (t ∷ (ts ++ (suc (length ls) ∷ ys)))) e m in
+      let k : links_with ls head p ≡ set (ls ++ (get_or ls (p - 1) 0 ∷ [])) (p - 1) (suc (length ls)) = rw (z, links_with) in
+      let g : head_with ls head p ≡ head = rw z in
+      subst (λ (w : List ℕ). LinkedThrough w (head_with ls head p) (t ∷ (ts ++ (suc (length ls) ∷ ys)))) (sym k) (subst (λ (x : ℕ). LinkedThrough (set (ls ++ (get_or ls (p - 1) 0 ∷ [])) (p - 1) (suc (length ls))) x (t ∷ (ts ++ (suc (length ls) ∷ ys)))) (sym g) m')
 
 -- ---- letters
 

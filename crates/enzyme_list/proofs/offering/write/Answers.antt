@@ -3,7 +3,6 @@ use native.Mathlib.Omega.{arith}
 use Prim.Native.Nat.{◌-◌}
 use mathlib.Core.Path.{◌≡◌, sym, ◌∙◌}
 use mathlib.Core.Bool.{true}
-use borrow.Author.Tests.{not-true, not-false}
 use Rattle.enzyme_cuts.specs.Cutting.{range, within}
 use Rattle.enzyme_list.specs.WriteLaws.{unlinked_other, unlinked_full, unlinked_kept}
 use Rattle.enzyme_list.proofs.offering.write.Goals.{Else-not-length_within}
@@ -11,11 +10,11 @@ use Rattle.enzyme_list.proofs.offering.write.Goals as goal
 
 -- the length fits
 fits : (c : Else-not-length_within) → within c.args.terms.minimum c.args.terms.maximum (c.args.e - c.args.a) ≡ true
-fits c = sym c.length_within.ensures ∙ not-false _ c.if-not-length_within.false
+fits c = sym c.length_within.ensures ∙ c.if-not-length_within.false
 
 pub returns-then-not-length_within : goal.returns-then-not-length_within
 returns-then-not-length_within c = let a = c.args in
-    unlinked_other a.letters.now a.terms (range a.a a.e a.missed a.semi) a.times a.count a.head a.full a.out.now c.requires.0 c.requires.4 (sym c.length_within.ensures ∙ not-true _ c.if-not-length_within.true)
+    unlinked_other a.letters.now a.terms (range a.a a.e a.missed a.semi) a.times a.count a.head a.full a.out.now c.requires.0 c.requires.4 (sym c.length_within.ensures ∙ c.if-not-length_within.true)
 
 pub returns-then-room_for-count : goal.returns-then-room_for-count
 returns-then-room_for-count c = let a = c.args in

@@ -1,16 +1,8 @@
 -- `walk` meets its contract: what the rest of the list comes to, the whole comes to. Assumes nothing.
-use native.Mathlib.Omega.{arith}
-use Prim.Native.Nat.{◌-◌, ◌<◌}
-use mathlib.Core.Path.{◌≡◌, sym, ◌∙◌}
-use lib.ListN.{get_or}
 use Rattle.enzyme_cuts.specs.Cutting.{site, part}
 use Rattle.enzyme_keep.specs.Buffer.{ranges_in, links_in}
-use Rattle.enzyme_keep.specs.BufferLaws.{length_links}
 use Rattle.enzyme_list.specs.declared.walk.Place.{Place}
-use Rattle.enzyme_list.specs.declared.walk.Place.TheVariants.{Same, Behind}
-use Rattle.enzyme_order.specs.OrderLaws.{order_else}
 use Rattle.enzyme_list.specs.Chain.{FoundFrom, EndsWithin, depth}
-use Rattle.enzyme_list.specs.ChainLaws.{next_link, ends_within, ends_on, ends_less, found_from-on, found_from-same, found_from_stop, found_from_end}
 use Rattle.enzyme_list.proofs.walk.walk.Given as goal
 
 abbrev pub invariant-loop-t : goal.invariant-loop-t
