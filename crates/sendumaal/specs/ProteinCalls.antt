@@ -24,12 +24,12 @@ pub record ProteinsArguments : Type 0 where
   pub groups : ℕ
   pub metas : ℕ
   pub edge_count : ℕ
-  pub member-count : ℕ
+  pub member_count : ℕ
 
 -- how many groups, meta-peptides, edges and members were made
 abbrev pub sizes_call : Grouped → ProteinsArguments → Outcome ℕ
 sizes_call (Made s) a = accepted ((s.groups ∷ []) ∷ (s.metas ∷ []) ∷ (s.edges ∷ []) ∷ (s.members ∷ []) ∷ [])
-sizes_call (No r) a = refused r ((a.groups ∷ []) ∷ (a.metas ∷ []) ∷ (a.edge_count ∷ []) ∷ (a.member-count ∷ []) ∷ [])
+sizes_call (No r) a = refused r ((a.groups ∷ []) ∷ (a.metas ∷ []) ∷ (a.edge_count ∷ []) ∷ (a.member_count ∷ []) ∷ [])
 
 abbrev pub proteins_call : ProteinsArguments → Outcome ℕ
 proteins_call a =

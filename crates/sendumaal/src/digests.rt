@@ -9,24 +9,21 @@ use enzyme::Settings;
 use letters::LetterSet;
 use sendumaal_calls::{counted, enzyme_numbered, is_enzyme, told, told_field};
 
-#[unsafe(no_mangle)]
-pub extern "C" fn sendumaal_letters_reverse(letters: &mut [u8], place: &mut usize) -> u32
+pub fn sendumaal_letters_reverse(letters: &mut [u8], place: &mut usize) -> u32
     ensures { outcome result ((place.new ∷ []) ∷ letters.new ∷ []) ≡ tested_call (reverse_outcome letters.old) }
 {
     let answer = enzyme::reverse_letters(letters);
     told(answer, place)
 }
 
-#[unsafe(no_mangle)]
-pub extern "C" fn sendumaal_digest_reverse(bytes: &mut [u8], place: &mut usize) -> u32
+pub fn sendumaal_digest_reverse(bytes: &mut [u8], place: &mut usize) -> u32
     ensures { outcome result ((place.new ∷ []) ∷ bytes.new ∷ []) ≡ tested_call (reverse_record_outcome bytes.old) }
 {
     let answer = enzyme::reverse_record(bytes);
     told(answer, place)
 }
 
-#[unsafe(no_mangle)]
-pub extern "C" fn sendumaal_digest_letters(
+pub fn sendumaal_digest_letters(
     letters: &[u8],
     bytes: &[u8],
     out: &mut [u8],
@@ -39,8 +36,7 @@ pub extern "C" fn sendumaal_digest_letters(
     counted(answer, count, place)
 }
 
-#[unsafe(no_mangle)]
-pub extern "C" fn sendumaal_digest(
+pub fn sendumaal_digest(
     letters: &[u8],
     alphabet: u32,
     kind: u32,

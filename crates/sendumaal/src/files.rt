@@ -5,8 +5,7 @@ ghost use Rattle.sendumaal_calls.specs.FileCalls.{entry_call};
 
 use sendumaal_calls::told_entry;
 
-#[unsafe(no_mangle)]
-pub extern "C" fn sendumaal_fasta_entry(
+pub fn sendumaal_fasta_entry(
     bytes: &[u8],
     at: usize,
     name: &mut [u8],

@@ -5,8 +5,7 @@ ghost use Rattle.sendumaal.specs.GroupCalls.{group_call, cover_call, update_call
 
 use sendumaal_calls::counted;
 
-#[unsafe(no_mangle)]
-pub extern "C" fn sendumaal_group_digests(
+pub fn sendumaal_group_digests(
     names: &[u8],
     bounds: &[u32],
     letters: &[u8],
@@ -25,8 +24,7 @@ pub extern "C" fn sendumaal_group_digests(
     counted(answer, count, place)
 }
 
-#[unsafe(no_mangle)]
-pub extern "C" fn sendumaal_cover(
+pub fn sendumaal_cover(
     edges: &[u8],
     groups: u32,
     metas: u32,
@@ -41,8 +39,7 @@ pub extern "C" fn sendumaal_cover(
     counted(answer, count, place)
 }
 
-#[unsafe(no_mangle)]
-pub extern "C" fn sendumaal_update(
+pub fn sendumaal_update(
     old: &[u8],
     new: &[u8],
     groups: u32,

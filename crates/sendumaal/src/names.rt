@@ -5,15 +5,13 @@ ghost use Rattle.sendumaal.specs.NameCalls.{names_call, letters_call};
 
 use sendumaal_calls::told;
 
-#[unsafe(no_mangle)]
-pub extern "C" fn sendumaal_names_test(names: &[u8], place: &mut usize) -> u32
+pub fn sendumaal_names_test(names: &[u8], place: &mut usize) -> u32
     ensures { outcome result ((place.new ∷ []) ∷ []) ≡ names_call names.now }
 {
     told(catalogue::names_tested(names), place)
 }
 
-#[unsafe(no_mangle)]
-pub extern "C" fn sendumaal_letters_test(letters: &[u8], place: &mut usize) -> u32
+pub fn sendumaal_letters_test(letters: &[u8], place: &mut usize) -> u32
     ensures { outcome result ((place.new ∷ []) ∷ []) ≡ letters_call letters.now }
 {
     told(catalogue::letters_tested(letters), place)

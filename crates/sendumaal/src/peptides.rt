@@ -9,8 +9,7 @@ use peptide::{Peptide, Weighed};
 use records::Tested;
 use sendumaal_calls::{counted, flipped, peptide_of, test_reverse, told, too_large, turn};
 
-#[unsafe(no_mangle)]
-pub extern "C" fn sendumaal_base_mass(
+pub fn sendumaal_base_mass(
     letters: &[u8],
     masses: &[f32],
     water: f32,
@@ -33,8 +32,7 @@ pub extern "C" fn sendumaal_base_mass(
     }
 }
 
-#[unsafe(no_mangle)]
-pub extern "C" fn sendumaal_digest_mass(
+pub fn sendumaal_digest_mass(
     letters: &[u8],
     bytes: &[u8],
     masses: &[f32],
@@ -60,8 +58,7 @@ pub extern "C" fn sendumaal_digest_mass(
     }
 }
 
-#[unsafe(no_mangle)]
-pub extern "C" fn sendumaal_peptide_test(
+pub fn sendumaal_peptide_test(
     letters: &[u8],
     masses: &[f32],
     position: u8,
@@ -74,8 +71,7 @@ pub extern "C" fn sendumaal_peptide_test(
     told(found, place)
 }
 
-#[unsafe(no_mangle)]
-pub extern "C" fn sendumaal_forms(
+pub fn sendumaal_forms(
     letters: &[u8],
     ids: &[u8],
     nterm: u8,
@@ -104,8 +100,7 @@ pub extern "C" fn sendumaal_forms(
     counted(answer, count, place)
 }
 
-#[unsafe(no_mangle)]
-pub extern "C" fn sendumaal_peptide_reverse(
+pub fn sendumaal_peptide_reverse(
     letters: &mut [u8],
     ids: &mut [u8],
     decoy: &mut u32,

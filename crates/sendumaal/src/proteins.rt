@@ -7,8 +7,7 @@ use protein_groups::Grouped;
 use report_lines::Reported;
 use sendumaal_calls::told_field;
 
-#[unsafe(no_mangle)]
-pub extern "C" fn sendumaal_group_proteins(
+pub fn sendumaal_group_proteins(
     pairs: &[u8],
     flags: &[u8],
     peptides: u32,
@@ -22,7 +21,7 @@ pub extern "C" fn sendumaal_group_proteins(
     member_count: &mut u32,
     place: &mut usize,
 ) -> u32
-    ensures { outcome result ((place.new ∷ []) ∷ (groups.new ∷ []) ∷ (metas.new ∷ []) ∷ (edge_count.new ∷ []) ∷ (member_count.new ∷ []) ∷ work.new ∷ edges.new ∷ members.new ∷ []) ≡ proteins_call (record { pairs = pairs.entry.now; flags = flags.now; peptides = peptides; proteins = proteins; work = work.old; edges = edges.old; members = members.old; groups = groups.old; metas = metas.old; edge-count = edge_count.old; member-count = member_count.old }) }
+    ensures { outcome result ((place.new ∷ []) ∷ (groups.new ∷ []) ∷ (metas.new ∷ []) ∷ (edge_count.new ∷ []) ∷ (member_count.new ∷ []) ∷ work.new ∷ edges.new ∷ members.new ∷ []) ≡ proteins_call (record { pairs = pairs.entry.now; flags = flags.now; peptides = peptides; proteins = proteins; work = work.old; edges = edges.old; members = members.old; groups = groups.old; metas = metas.old; edge_count = edge_count.old; member_count = member_count.old }) }
 {
     let answer = protein_groups::group_proteins(
         pairs, flags, peptides, proteins, work, edges, members,
@@ -68,8 +67,7 @@ fn reported(answer: Reported, bytes: &mut u32, groups: &mut u32, place: &mut usi
     }
 }
 
-#[unsafe(no_mangle)]
-pub extern "C" fn sendumaal_report_line(
+pub fn sendumaal_report_line(
     names: &[u8],
     members: &[u8],
     marks: &[u8],

@@ -9,8 +9,7 @@ use letters::LetterSet;
 use modification::{Parsed, Read, Rule};
 use sendumaal_calls::{counted, is_rule, told};
 
-#[unsafe(no_mangle)]
-pub extern "C" fn sendumaal_rule_parse(
+pub fn sendumaal_rule_parse(
     text: &[u8],
     alphabet: u32,
     kind: &mut u32,
@@ -35,22 +34,19 @@ pub extern "C" fn sendumaal_rule_parse(
     }
 }
 
-#[unsafe(no_mangle)]
-pub extern "C" fn sendumaal_variable_rules_test(rules: &[u8], place: &mut usize) -> u32
+pub fn sendumaal_variable_rules_test(rules: &[u8], place: &mut usize) -> u32
     ensures { outcome result ((place.new ∷ []) ∷ []) ≡ test_call (tested_rules false rules.now) }
 {
     told(modification::test_rules(rules, false), place)
 }
 
-#[unsafe(no_mangle)]
-pub extern "C" fn sendumaal_fixed_rules_test(rules: &[u8], place: &mut usize) -> u32
+pub fn sendumaal_fixed_rules_test(rules: &[u8], place: &mut usize) -> u32
     ensures { outcome result ((place.new ∷ []) ∷ []) ≡ test_call (tested_rules true rules.now) }
 {
     told(modification::test_rules(rules, true), place)
 }
 
-#[unsafe(no_mangle)]
-pub extern "C" fn sendumaal_rule_write(
+pub fn sendumaal_rule_write(
     kind: u32,
     letter: u32,
     out: &mut [u8],
@@ -68,8 +64,7 @@ pub extern "C" fn sendumaal_rule_write(
     9
 }
 
-#[unsafe(no_mangle)]
-pub extern "C" fn sendumaal_rule_read(
+pub fn sendumaal_rule_read(
     rules: &[u8],
     index: usize,
     kind: &mut u32,
@@ -98,8 +93,7 @@ pub extern "C" fn sendumaal_rule_read(
     }
 }
 
-#[unsafe(no_mangle)]
-pub extern "C" fn sendumaal_rule_record(
+pub fn sendumaal_rule_record(
     kind: u32,
     letter: u32,
     id: u32,

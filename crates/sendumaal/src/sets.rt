@@ -5,8 +5,7 @@ ghost use Rattle.sendumaal_calls.specs.Calls.{set_of};
 
 use letters::LetterSet;
 
-#[unsafe(no_mangle)]
-pub extern "C" fn sendumaal_set_insert(set: u32, letter: u8) -> u32
+pub fn sendumaal_set_insert(set: u32, letter: u8) -> u32
     ensures { result ≡ (inserted (set_of set) letter).mask }
 {
     let s = LetterSet { mask: set };
@@ -14,8 +13,7 @@ pub extern "C" fn sendumaal_set_insert(set: u32, letter: u8) -> u32
     t.mask
 }
 
-#[unsafe(no_mangle)]
-pub extern "C" fn sendumaal_set_contains(set: u32, letter: u8) -> u32
+pub fn sendumaal_set_contains(set: u32, letter: u8) -> u32
     ensures { result ≡ cond (has (set_of set) letter) 1 0 }
 {
     let s = LetterSet { mask: set };

@@ -6,8 +6,7 @@ ghost use Rattle.sendumaal_calls.specs.Calls.{insert_call};
 
 use modification::Entered;
 
-#[unsafe(no_mangle)]
-pub extern "C" fn sendumaal_modification_id(
+pub fn sendumaal_modification_id(
     table: &mut [u8],
     count: u32,
     mass: u32,

@@ -1,0 +1,18 @@
+// Sets of letters.
+ghost use Rattle.std.specs.Prelude.{◌≡◌, cond};
+ghost use Rattle.letters.specs.Letters.{has, inserted};
+ghost use Rattle.sendumaal_calls.specs.Calls.{set_of};
+
+#[unsafe(no_mangle)]
+pub extern "C" fn sendumaal_set_insert(set: u32, letter: u8) -> u32
+    ensures { result ≡ (inserted (set_of set) letter).mask }
+{
+    sendumaal::sendumaal_set_insert(set, letter)
+}
+
+#[unsafe(no_mangle)]
+pub extern "C" fn sendumaal_set_contains(set: u32, letter: u8) -> u32
+    ensures { result ≡ cond (has (set_of set) letter) 1 0 }
+{
+    sendumaal::sendumaal_set_contains(set, letter)
+}
