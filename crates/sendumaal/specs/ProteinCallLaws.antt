@@ -23,7 +23,7 @@ module _ (a : ProteinsArguments) (g : Grouped) (lent : List (List ℕ)) (e : out
   proteins-made s f = ap (λ (x : Grouped). with_lent (sizes_call x a) lent) (sym f) ∙ whole
 
   pub proteins_no : (r : Refusal) → g ≡ No r
-      → refused r ((a.groups ∷ []) ∷ (a.metas ∷ []) ∷ (a.edge_count ∷ []) ∷ (a.member-count ∷ []) ∷ lent) ≡ proteins_call a
+      → refused r ((a.groups ∷ []) ∷ (a.metas ∷ []) ∷ (a.edge_count ∷ []) ∷ (a.member_count ∷ []) ∷ lent) ≡ proteins_call a
   proteins_no r f = ap (λ (x : Grouped). with_lent (sizes_call x a) lent) (sym f) ∙ whole
 
 module _ (a : LineArguments) (n p : ℕ) where
