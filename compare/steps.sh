@@ -16,15 +16,15 @@ check_tools() {
     local machine
     machine=$(uname -m)
     [ "$machine" = x86_64 ] ||
-        die "rt staticlib writes for x86-64: SENDUMAAL_LIB has to name a folder with libsendumaal.a for $machine"
+        die "tools/archive writes for x86-64: SENDUMAAL_LIB has to name a folder with libsendumaal.a for $machine"
     need rt "it proves the library and writes its archive"
 }
 
 # build_archive: sets archive to the folder of libsendumaal.a
 build_archive() {
     if [ -z "${SENDUMAAL_LIB:-}" ]; then
-        (cd "$root" && rt staticlib sendumaal) >"$products/staticlib.log" 2>&1 ||
-            die "rt staticlib sendumaal fails ($products/staticlib.log says why)"
+        "$root/tools/archive" >"$products/staticlib.log" 2>&1 ||
+            die "tools/archive fails ($products/staticlib.log says why)"
     fi
     archive=$(realpath "${SENDUMAAL_LIB:-$root/target/staticlib}")
     [ -f "$archive/libsendumaal.a" ] || die "$archive holds no libsendumaal.a"
