@@ -58,7 +58,7 @@ module _ (pairs flags : List ℕ) (peptides proteins words : ℕ) (p : tested pa
 
   -- A member's fields are in range.
   pub members_below : (m : Member) → In m G.members → (m.group < G.groups) × (m.protein < proteins) × (m.decoy ≤ 1)
-  members_below m i = rw as_packed (laws.members-below flags peptides qs fit proteins (λ q j. (inside q j).1) m (rw as_packed at i))
+  members_below m i = rw as_packed (laws.members_below flags peptides qs fit proteins (λ q j. (inside q j).1) m (rw as_packed at i))
 
   -- An edge's fields are in range.
   pub edges-below : (e : Edge) → In e G.edges → (group e < G.groups) × (meta e < G.metas)
@@ -97,7 +97,7 @@ module _ (pairs flags : List ℕ) (peptides proteins words : ℕ) (p : tested pa
 
   -- None of the edge records is bad.
   pub edges_good : first_bad_edge (flatten (map edge_bytes G.edges)) G.groups G.metas ≡ length G.edges
-  edges_good = edges-accepted G.groups G.metas (omega (arith, groups_most, known.proteins-max)) (omega (arith, metas_most, known.peptides_max)) G.edges (rw as_packed (laws.edges-ranged flags peptides qs))
+  edges_good = edges-accepted G.groups G.metas (omega (arith, groups_most, known.proteins-max)) (omega (arith, metas_most, known.peptides_max)) G.edges (rw as_packed (laws.edges_ranged flags peptides qs))
 
   -- ---- nothing is empty
 
@@ -111,4 +111,4 @@ module _ (pairs flags : List ℕ) (peptides proteins words : ℕ) (p : tested pa
 
   -- The cover of the edges marks for each peptide that has a pair a group with one of its proteins, seen with its flag.
   pub each_peptide_reached : (q : Pair) → In q qs → Reached flags qs G q.peptide
-  each_peptide_reached q i = rw as_packed (laws.each-peptide-reached flags peptides qs fit q i)
+  each_peptide_reached q i = rw as_packed (laws.each_peptide_reached flags peptides qs fit q i)

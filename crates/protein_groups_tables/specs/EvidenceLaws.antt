@@ -9,7 +9,7 @@ use Rattle.sorting_spec.specs.SortLaws.{under_sorted}
 use Rattle.records.specs.Outcome.{Outcome, outcome}
 use Rattle.sorting_texts.specs.declared.text.By.TheVariants.{Itself}
 use Rattle.sorting_spec.specs.Sort.{sorted}
-use Rattle.sorting_spec.specs.PartLaws.{at-slice, slice-same, slice_mapped}
+use Rattle.sorting_spec.specs.PartLaws.{at_slice, slice-same, slice_mapped}
 use Rattle.sorting.specs.Each.{sorted_to, each_outcome}
 use Rattle.sorting.specs.EachLaws.{StretchesGiven, EachSorted, each-sorted}
 use Rattle.protein_groups_spec.specs.ProteinGroups.{up}

@@ -5,7 +5,7 @@ use Rattle.std.proofs.Math.Seq.{slice, length-slice}
 use Rattle.lists.specs.Lists.{up_from, keep}
 use Rattle.lists.specs.KeyLaws.{Under, under_at, under_keep}
 use Rattle.sorting_spec.specs.SortLaws.{under_sorted}
-use Rattle.sorting_spec.specs.PartLaws.{at-slice, slice-same}
+use Rattle.sorting_spec.specs.PartLaws.{at_slice, slice-same}
 use Rattle.sorting_spec.specs.Runs.{run_numbers}
 use Rattle.protein_groups_spec.specs.ProteinGroups.{Pair, taking, edges_from}
 use Rattle.protein_groups_spec.specs.PackedGroups.{packed_seen, packed_proteins, packed_metas, packed_evidence}

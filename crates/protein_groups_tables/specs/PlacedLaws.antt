@@ -13,7 +13,7 @@ use Rattle.lists.specs.RowLaws.{length_up}
 use Rattle.lists.specs.KeyLaws.{Under, under_at, under_up}
 use Rattle.sorting_spec.specs.Sort.{sorted}
 use Rattle.sorting_spec.specs.SortLaws.{length-sorted, under_sorted}
-use Rattle.sorting_spec.specs.PartLaws.{at-slice}
+use Rattle.sorting_spec.specs.PartLaws.{at_slice}
 use Rattle.sorting_spec.specs.Runs.{run_numbers}
 use Rattle.cover_spec.specs.Cover.{Edge}
 use Rattle.protein_groups_spec.specs.ProteinGroups.{Pair, Groups, list_from}

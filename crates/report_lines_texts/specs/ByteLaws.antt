@@ -5,7 +5,7 @@ use Rattle.lists.specs.Lists.{All}
 use Rattle.lists.specs.KeepLaws.{map-all}
 use Rattle.lists.specs.KeyLaws.{Under, under_of, under_both}
 use Rattle.sorting_spec.specs.Joined.{until_zero, name_of, join_after, join}
-use Rattle.sorting_spec.specs.PartLaws.{at-slice}
+use Rattle.sorting_spec.specs.PartLaws.{at_slice}
 use Rattle.sorting_texts.specs.Text.{tag_in, entry_text, up_to_last, joined_text}
 
 bytes_until : (xs : List ℕ) → Under 256 xs → Under 256 (until_zero xs)

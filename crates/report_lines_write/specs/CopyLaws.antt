@@ -4,7 +4,7 @@ use Rattle.std.proofs.Common.{sym, ◌∙◌, inl, inr, ⊎_elim, arith, length-
 use Rattle.std.proofs.Math.Seq.{slice, length-slice}
 use Rattle.lists.specs.Tests.{below?, same?}
 use Rattle.lists.specs.FrameLaws.{Framed, framed_none, framed_then, framed_within, framed_set}
-use Rattle.sorting_spec.specs.PartLaws.{at-slice}
+use Rattle.sorting_spec.specs.PartLaws.{at_slice}
 
 -- w is v with n numbers from `from` on copied to `to`
 pub record NumbersCopied (v : List ℕ) (from to n : ℕ) (w : List ℕ) : Type 0 where

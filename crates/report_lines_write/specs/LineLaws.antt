@@ -15,7 +15,7 @@ use Rattle.sorting_spec.specs.SortLaws.{length-sorted, sorted-map}
 use Rattle.sorting_spec.specs.Lex.{lex_le}
 use Rattle.sorting_spec.specs.Joined.{until_zero, name_of, join}
 use Rattle.sorting_texts.specs.Text.{entry_text}
-use Rattle.sorting_spec.specs.PartLaws.{at-slice}
+use Rattle.sorting_spec.specs.PartLaws.{at_slice}
 use Rattle.sorting_texts.specs.EntryLaws.{ZeroFree, until-padded}
 use Rattle.protein_groups_members.specs.Members.{Member}
 use Rattle.report_lines_spec.specs.Line.{tagged, in_group, group_text, holds, applies, applying, line_text, line_count}
@@ -143,7 +143,7 @@ module _ (names : List ℕ) (ms : List Member) (marks list : List ℕ) (decoy : 
   stretched_laid = record {
     long = s.long;
     few = few;
-    fit = s.groups-fit;
+    fit = s.groups_fit;
     first = first_is;
     rising = λ g h. omega (arith, adds g h);
     within = omega (arith, bound_is (length marks) (omega arith), s.entries_fit);

@@ -8,7 +8,7 @@ use Rattle.lists.specs.RowLaws.{up_in}
 use Rattle.lists.specs.InLaws.{map-alike, keep_in}
 use Rattle.sorting_spec.specs.Joined.{until_zero, name_of, join}
 use Rattle.sorting_texts.specs.Text.{entry_text, joined_text}
-use Rattle.sorting_spec.specs.PartLaws.{at_drop, at-slice, slice-same}
+use Rattle.sorting_spec.specs.PartLaws.{at_drop, at_slice, slice-same}
 use Rattle.report_lines_spec.specs.Stretches.{lasted}
 use Rattle.report_lines_write.specs.Laid.{bound_in, stretch_in, some_in, somes, some_starts, text_in, StretchesLaid}
 use Rattle.report_lines_write.specs.ListLaws.{length-lasted}
