@@ -42,7 +42,7 @@ module _ {A : Type 0} (f : ℕ → ℕ → A) where
           → f g p ∷ runs_tagged (cond t g (g + 1)) ((x ∷ take (equals_after le x xs) xs) ∷ runs_of le (drop (equals_after le x xs) xs))
           ≡ runs_tagged g (cond t ((p ∷ x ∷ take (equals_after le x xs) xs) ∷ runs_of le (drop (equals_after le x xs) xs)) ((p ∷ []) ∷ (x ∷ take (equals_after le x xs) xs) ∷ runs_of le (drop (equals_after le x xs) xs)))
       go true = refl
-      go false = rw (add-one g)
+      go false = ap (λ (n : ℕ). f g p ∷ runs_tagged n ((x ∷ take (equals_after le x xs) xs) ∷ runs_of le (drop (equals_after le x xs) xs))) (add-one g)
 
   pub walk_runs : (le : ℕ → ℕ → Bool) (s : List ℕ) → walk_by (run_numbers le s) s ≡ runs_tagged 0 (runs_of le s)
   walk_runs le [] = refl

@@ -37,14 +37,14 @@ place_is : (k : ℕ) (l : List ℕ) → place (unpack k) (map unpack l) ≡ firs
 place_is k [] = refl
 place_is k (x ∷ xs) = rw (alike_is x k, place_is k xs)
 
-firsts_are : (f l : List ℕ) → firsts (map unpack f) (map unpack l) ≡ map unpack (first.firstOnes f l)
+firsts_are : (f l : List ℕ) → firsts (map unpack f) (map unpack l) ≡ map unpack (first.first_ones f l)
 firsts_are f [] = refl
 firsts_are f (k ∷ ks) =
     ap (λ (t : Bool). firsts (cond t (map unpack f) (map unpack f ++ (unpack k ∷ []))) (map unpack ks)) (among_is k f)
     ∙ go (occurs k f) (λ g. firsts_are g ks)
   where
-    go : (t : Bool) → ((g : List ℕ) → firsts (map unpack g) (map unpack ks) ≡ map unpack (first.firstOnes g ks))
-        → firsts (cond t (map unpack f) (map unpack f ++ (unpack k ∷ []))) (map unpack ks) ≡ map unpack (first.firstOnes (cond t f (f ++ (k ∷ []))) ks)
+    go : (t : Bool) → ((g : List ℕ) → firsts (map unpack g) (map unpack ks) ≡ map unpack (first.first_ones g ks))
+        → firsts (cond t (map unpack f) (map unpack f ++ (unpack k ∷ []))) (map unpack ks) ≡ map unpack (first.first_ones (cond t f (f ++ (k ∷ []))) ks)
     go true r = r f
     go false r = ap (λ (g : List Seen). firsts g (map unpack ks)) (sym (map-append unpack f (k ∷ []))) ∙ r (f ++ (k ∷ []))
 

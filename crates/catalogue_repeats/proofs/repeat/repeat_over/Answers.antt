@@ -8,6 +8,6 @@ returns c =
     let a = c.args in
     let p = c.requires in
     let f = c.first_repeated-found in (
-      c.IsPlace-in.ensures ∙ repeat_placed a.names.now a.tab.now f.result _ p.0 p.1 f.ensures,
+      c.place_in.ensures ∙ repeat_placed a.names.now a.tab.now f.result _ p.0 p.1 f.ensures,
       table-left a.names.now a.tab.now f.result f.new.w p.0 p.1 f.ensures,
     )
