@@ -1,6 +1,6 @@
 -- That the other entries take the peptide that is made of a digest. Assumes nothing.
 use Prim.Native.Nat.{ℕ, suc, ◌+◌, ◌-◌, ◌≤◌, ◌<◌}
-use Rattle.std.specs.Prelude.{◌≡◌, Bool, true, not, ◌⊎◌, get_or, take, drop, replicate, Float}
+use Rattle.std.specs.Prelude.{◌≡◌, Bool, true, not, ◌⊎◌, get_or, drop, replicate, Float}
 use Rattle.std.proofs.Math.Path.{refl, sym, ap}
 use Rattle.std.proofs.Common.{◌∙◌, true≢false, inl, inr, ⊎_elim, arith, length-append, length-drop, get_or-take, get_or-drop, get_or-append-add, length-take-le}
 use Rattle.std.proofs.Math.Bool.{false}

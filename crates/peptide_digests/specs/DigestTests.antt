@@ -1,5 +1,5 @@
 -- What a protein's letters, a digest's record and the masses must be to make a peptide: 1, 8, 2, 9.
-use Rattle.std.specs.Prelude.{ℕ, ◌+◌, ◌-◌, Bool, cond, not, ◌&&◌, ◌||◌, List, length, get_or, leb, ltb, eqb, Float}
+use Rattle.std.specs.Prelude.{ℕ, ◌+◌, Bool, cond, not, ◌&&◌, ◌||◌, List, length, get_or, leb, ltb, eqb, Float}
 use Rattle.peptide_mass.specs.Masses.{no_mass}
 use Rattle.records.specs.declared.refusal.Refusal.TheVariants.{Size, Letter, Length, Field}
 use Rattle.records.specs.declared.refusal.Tested.{Tested}

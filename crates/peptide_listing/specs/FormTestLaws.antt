@@ -6,11 +6,10 @@ use borrow.Author.Tests.{ltb-false, eq-eqb, ne_eqb}
 use Rattle.peptide_mass.specs.Masses.{wrong_size}
 use Rattle.peptide_listing.specs.FormTests.{tested_form, too_large, tested_lists}
 use Rattle.peptide_mass.specs.MassLaws.{size_fits}
-use Rattle.lists.specs.Tests.{both, neither}
+use Rattle.lists.specs.Tests.{neither}
 use Rattle.records.specs.declared.refusal.Refusal.{Refusal}
 use Rattle.records.specs.declared.refusal.Refusal.TheVariants.{Size, Length}
 use Rattle.records.specs.declared.refusal.Tested.{Tested}
-use Rattle.records.specs.Room.{fits}
 use Rattle.modification_rules.specs.Rules.{first_bad_rule}
 use Rattle.records.specs.Tested.{field_tested}
 use Rattle.records.specs.TestedLaws.{first_refuses, first_passes, passed_first}

@@ -7,7 +7,7 @@ use Rattle.std.proofs.Math.Nat.{min-le_right}
 use Rattle.lists.specs.KeepLaws.{map-all}
 use Rattle.records.specs.declared.refusal.Refusal.TheVariants.{Room}
 use Rattle.records.specs.Outcome.{outcome}
-use Rattle.records.specs.Room.{room_of, fits, counted}
+use Rattle.records.specs.Room.{room_of, counted}
 use Rattle.records.specs.RoomLaws.{Sized, Standing, standing-none, standing-more, standing_full}
 use Rattle.peptide_choices.specs.Choices.{by_size}
 use Rattle.peptide_slots.specs.Filling.{apply}

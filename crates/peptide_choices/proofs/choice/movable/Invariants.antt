@@ -1,10 +1,5 @@
 -- `movable` meets its contract. The invariant: no place from i on can move. Assumes nothing.
 use Prim.Native.Nat.{ℕ, ◌+◌, ◌-◌, ◌≤◌, ◌<◌}
-use mathlib.Core.Path.{◌≡◌}
-use mathlib.Core.Logic.{⊎_elim}
-use mathlib.Core.List.{List}
-use native.Mathlib.Omega.{arith}
-use native.Mathlib.Decide.{dec_lt}
 use lib.ListN.{get_or}
 use Rattle.peptide_choices.proofs.choice.movable.Given as goal
 

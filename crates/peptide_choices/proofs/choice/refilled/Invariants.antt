@@ -1,12 +1,8 @@
 -- `refilled` meets its contract. The invariant: the places from i up to j follow one another. Assumes nothing.
-use Prim.Native.Nat.{ℕ, suc, ◌+◌, ◌-◌, ◌≤◌, ◌<◌}
-use mathlib.Core.Path.{◌≡◌, sym, ap, ◌∙◌}
-use mathlib.Core.List.{List, [], ◌∷◌, ◌++◌, append_assoc}
-use native.Mathlib.Omega.{arith}
-use lib.ListN.{length, get_or, take, drop, set, take-append-drop, length-append}
-use lib.Seq.{length-take-le, drop-cons, set_at, append_snoc}
-use native.Mathlib.Numerals.{add-one}
-use Rattle.lists.specs.RowLaws.{length_up, up-snoc}
+use Prim.Native.Nat.{suc, ◌+◌, ◌-◌, ◌≤◌}
+use mathlib.Core.Path.{◌≡◌}
+use mathlib.Core.List.{◌++◌}
+use lib.ListN.{get_or, take, drop}
 use Rattle.lists.specs.Lists.{up_from}
 use Rattle.peptide_choices.proofs.choice.refilled.Given as goal
 

@@ -1,9 +1,7 @@
 -- `first_unfit` meets its contract: the search of records, one letter a turn. Assumes nothing.
 use Prim.Native.Nat.{◌-◌}
-use mathlib.Core.Path.{sym, ◌∙◌}
-use native.Mathlib.Omega.{arith}
 use lib.ListN.{length}
-use Rattle.records.specs.SeekingLaws.{Seeking, seeking_all, seeking_stop, seeking_on, seeking_end}
+use Rattle.records.specs.SeekingLaws.{Seeking}
 use Rattle.peptide_digests.specs.DigestTests.{first_unfit}
 use Rattle.peptide_digests.specs.DigestTestLaws.{unfit_at}
 use Rattle.peptide_digests.proofs.digests.first_unfit.Given as goal

@@ -1,21 +1,19 @@
 -- `list_forms` meets its contract. `Outer` and `Here` carry it: what stands in the buffer and what is still to come are all
 -- forms. Assumes nothing.
-use Prim.Native.Nat.{ℕ, ◌+◌, ◌-◌, ◌*◌, ◌≤◌, ◌<◌}
-use mathlib.Core.Path.{◌≡◌, sym, ap, ◌∙◌, subst, subst₂}
+use Prim.Native.Nat.{ℕ, ◌*◌, ◌≤◌}
+use mathlib.Core.Path.{sym, ap, ◌∙◌, subst, subst₂}
 use mathlib.Core.List.{List}
-use mathlib.Core.Logic.{⊎_elim}
 use native.Mathlib.Omega.{arith}
 use lib.ListN.{length}
 use lib.Seq.{sets}
-use Rattle.peptide_choices.specs.LoopLaws.{count_left, left-wide, word_in}
+use Rattle.peptide_choices.specs.LoopLaws.{left-wide, word_in}
 use Rattle.peptide_choices.specs.Steps.{stepped}
 use Rattle.peptide_choices.specs.declared.choice.Stepped.{Stepped}
-use Rattle.peptide_forms.specs.LoopLaws.{Here, Outer, answer_cap, answer_end, answer_no_room, answer_none, here_first, less, outer_first, outer_next, skipped, took}
+use Rattle.peptide_forms.specs.LoopLaws.{Here, answer_cap, answer_end, answer_no_room, answer_none, here_first, less, outer_first, outer_next, skipped, took}
 use Rattle.peptide_forms.specs.Passing.{packed_passes}
 use Rattle.peptide_forms.specs.PassingLaws.{bad_append}
 use Rattle.peptide_forms.specs.RunLaws.{quick, cap_ahead, cap_reached_lem}
 use Rattle.peptide_forms.specs.TurnLaws.{reached-part, reached-sound, reached-whole}
-use Rattle.std.proofs.Common.{rules}
 use Rattle.peptide_forms.proofs.listing.list_forms.Goals.{then-kept-n+else-cap-count+else-room-count, else-kept-n}
 use Rattle.peptide_forms.proofs.listing.list_forms.Goals as goal
 
@@ -73,13 +71,14 @@ loop-s-preserved c =
     let H : List ℕ → ℕ → Stepped → Type 0 = Here (packed_passes a.sites.now a.rules.now) (quick a.bare.slots a.table.slots a.sites.now a.rules.now) (length a.sites.now) a.limit a.cap o.n a.room o.count o.out in
     subst (λ (t : Stepped). H c.if-kept-n.out c.if-kept-n.count t) (sym c.next_past-s.ensures)
     (elim c.if-kept-n.branch [
-      then-kept-n+else-cap-count+else-room-count w ↦ subst₂ (λ (z : List ℕ) (k : ℕ). H z k (stepped l.s.choice r.result)) (sym w.out-is) (sym w.count-is)
-    (took l.invariant e (reached-sound r.ensures) w.put_form.new.out (reached-whole r.ensures (w.if-kept-n.true ∙ sym (left-wide l.invariant.left e)))
-    (cap_ahead a.cap l.count w.if-cap-count.false) w.if-room-count.false w.put_form.auto.out
-    (w.put_form.ensures ∙ ap (sets l.out (66 * l.count)) w.made-next.ensures))
-    | else-kept-n w ↦ subst₂ (λ (z : List ℕ) (k : ℕ). H z k (stepped l.s.choice r.result)) (sym w.out-is) (sym w.count-is)
-    (skipped l.invariant e (reached-sound r.ensures)
-    (reached-part r.ensures (let i : r.result ≤ length (word_in l.s) = r.ensures.within in let wide = left-wide l.invariant.left e in omega (arith, w.if-kept-n.false)))) ])
+      | then-kept-n+else-cap-count+else-room-count w ↦ subst₂ (λ (z : List ℕ) (k : ℕ). H z k (stepped l.s.choice r.result)) (sym w.out-is) (sym w.count-is)
+          (took l.invariant e (reached-sound r.ensures) w.put_form.new.out (reached-whole r.ensures (w.if-kept-n.true ∙ sym (left-wide l.invariant.left e)))
+          (cap_ahead a.cap l.count w.if-cap-count.false) w.if-room-count.false w.put_form.auto.out
+          (w.put_form.ensures ∙ ap (sets l.out (66 * l.count)) w.made-next.ensures))
+      | else-kept-n w ↦ subst₂ (λ (z : List ℕ) (k : ℕ). H z k (stepped l.s.choice r.result)) (sym w.out-is) (sym w.count-is)
+          (skipped l.invariant e (reached-sound r.ensures)
+          (reached-part r.ensures (let i : r.result ≤ length (word_in l.s) = r.ensures.within in let wide = left-wide l.invariant.left e in omega (arith, w.if-kept-n.false))))
+    ])
 
 pub overflow_add-n : goal.overflow_add-n
 overflow_add-n c = omega (arith, c.loop-s.invariant.high)

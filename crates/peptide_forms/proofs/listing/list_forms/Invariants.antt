@@ -1,20 +1,10 @@
 -- `list_forms` meets its contract. `Outer` and `Here` carry it: what stands in the buffer and what is still to come are all
 -- forms. Assumes nothing.
-use Prim.Native.Nat.{ℕ, ◌+◌, ◌-◌, ◌*◌, ◌≤◌, ◌<◌}
-use mathlib.Core.Path.{◌≡◌, sym, ap, ◌∙◌, subst, subst₂}
-use mathlib.Core.List.{List}
-use mathlib.Core.Logic.{⊎_elim}
-use native.Mathlib.Omega.{arith}
-use lib.ListN.{length}
-use lib.Seq.{sets}
-use Rattle.peptide_choices.specs.LoopLaws.{count_left, left-wide, word_in}
-use Rattle.peptide_choices.specs.Steps.{stepped}
-use Rattle.peptide_choices.specs.declared.choice.Stepped.{Stepped}
-use Rattle.peptide_forms.specs.LoopLaws.{Here, Outer, answer_cap, answer_end, answer_no_room, answer_none, here_first, less, outer_first, outer_next, skipped, took}
+use Prim.Native.Nat.{◌+◌, ◌-◌}
+use Rattle.peptide_choices.specs.LoopLaws.{count_left}
+use Rattle.peptide_forms.specs.LoopLaws.{Here, Outer}
 use Rattle.peptide_forms.specs.Passing.{packed_passes}
-use Rattle.peptide_forms.specs.PassingLaws.{bad_append}
-use Rattle.peptide_forms.specs.RunLaws.{quick, cap_ahead, cap_reached_lem}
-use Rattle.peptide_forms.specs.TurnLaws.{reached-part, reached-sound, reached-whole}
+use Rattle.peptide_forms.specs.RunLaws.{quick}
 use Rattle.peptide_forms.proofs.listing.list_forms.Given as goal
 
 abbrev pub invariant-loop-s : goal.invariant-loop-s

@@ -1,11 +1,8 @@
 -- `with_choice` meets its contract. The invariant: what is left of the chosen sites gives the whole. Assumes nothing.
-use Prim.Native.Nat.{ℕ, ◌+◌, ◌-◌, ◌≤◌}
-use mathlib.Core.Path.{◌≡◌, refl, sym, ap, ◌∙◌}
-use mathlib.Core.List.{List}
-use native.Mathlib.Omega.{arith}
-use lib.ListN.{length, take, drop}
+use Prim.Native.Nat.{◌-◌, ◌≤◌}
+use mathlib.Core.Path.{◌≡◌}
+use lib.ListN.{take, drop}
 use Rattle.peptide_forms.specs.Packed.{packed_chosen}
-use Rattle.peptide_forms.specs.RunLaws.{chosen_end, chosen_on}
 use Rattle.peptide_slots.specs.Filling.{apply}
 use Rattle.peptide_forms.proofs.listing.with_choice.Given as goal
 

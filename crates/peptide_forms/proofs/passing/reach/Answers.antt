@@ -1,9 +1,8 @@
 -- `reach` meets its contract. The invariant: the first j places pass. Assumes nothing.
-use Prim.Native.Nat.{◌-◌, ◌≤◌}
 use mathlib.Core.Path.{◌≡◌, sym, ◌∙◌}
 use native.Mathlib.Omega.{arith}
-use lib.ListN.{length, take}
-use Rattle.peptide_forms.specs.TurnLaws.{PassesTo, passes-to_end, passes-to-more, passes-to-none, passes-to_stop}
+use lib.ListN.{length}
+use Rattle.peptide_forms.specs.TurnLaws.{passes-to_end, passes-to-more, passes-to-none, passes-to_stop}
 use Rattle.std.proofs.Common.{rules}
 use Rattle.peptide_forms.proofs.passing.reach.Goals as goal
 

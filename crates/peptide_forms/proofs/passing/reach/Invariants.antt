@@ -1,9 +1,7 @@
 -- `reach` meets its contract. The invariant: the first j places pass. Assumes nothing.
 use Prim.Native.Nat.{◌-◌, ◌≤◌}
-use mathlib.Core.Path.{◌≡◌, sym, ◌∙◌}
-use native.Mathlib.Omega.{arith}
-use lib.ListN.{length, take}
-use Rattle.peptide_forms.specs.TurnLaws.{PassesTo, passes-to_end, passes-to-more, passes-to-none, passes-to_stop}
+use lib.ListN.{take}
+use Rattle.peptide_forms.specs.TurnLaws.{PassesTo}
 use Rattle.peptide_forms.proofs.passing.reach.Given as goal
 
 abbrev pub invariant-loop-j : goal.invariant-loop-j

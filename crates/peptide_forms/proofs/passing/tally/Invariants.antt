@@ -1,9 +1,7 @@
 -- `tally` meets its contract. The invariant: what was seen and what is left give the whole. Assumes nothing.
-use Prim.Native.Nat.{ℕ, ◌-◌, ◌≤◌}
-use mathlib.Core.Path.{◌≡◌, subst}
-use native.Mathlib.Omega.{arith}
-use lib.ListN.{length, take}
-use Rattle.peptide_forms.specs.TurnLaws.{UsesTallied, uses_tallied_none, uses_tallied_turn}
+use Prim.Native.Nat.{◌-◌, ◌≤◌}
+use lib.ListN.{take}
+use Rattle.peptide_forms.specs.TurnLaws.{UsesTallied}
 use Rattle.peptide_forms.proofs.passing.tally.Given as goal
 
 abbrev pub invariant-loop-i : goal.invariant-loop-i

@@ -1,11 +1,8 @@
 -- `first_no_mass` meets its contract: the search of records, one letter a turn. Assumes nothing.
-use Prim.Native.Nat.{◌-◌}
 use mathlib.Core.Path.{sym, ◌∙◌}
 use native.Mathlib.Omega.{arith}
-use lib.ListN.{length}
-use Rattle.records.specs.SeekingLaws.{Seeking, seeking_all, seeking_stop, seeking_on, seeking_end}
+use Rattle.records.specs.SeekingLaws.{seeking_all, seeking_stop, seeking_on, seeking_end}
 use Rattle.peptide_mass.specs.Masses.{first_no_mass}
-use Rattle.peptide_mass.specs.MassLaws.{no_mass_at}
 use Rattle.peptide_mass.proofs.mass.first_no_mass.Goals as goal
 
 pub loop-i-init : goal.loop-i-init

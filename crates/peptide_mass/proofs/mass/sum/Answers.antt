@@ -1,10 +1,8 @@
 -- `sum` meets its contract. The invariant: what is left of the letters, added to the sum so far, gives the answer. Assumes
 -- nothing.
-use Prim.Native.Nat.{◌-◌, ◌≤◌}
-use mathlib.Core.Path.{◌≡◌, refl, sym, ◌∙◌}
+use Prim.Native.Nat.{◌≤◌}
+use mathlib.Core.Path.{refl, sym, ◌∙◌}
 use native.Mathlib.Omega.{arith}
-use lib.ListN.{length, drop}
-use Rattle.peptide_mass.specs.Masses.{add_all}
 use Rattle.peptide_mass.specs.MassLaws.{add-on, add_end}
 use Rattle.peptide_mass.proofs.mass.sum.Goals.{After-capital}
 use Rattle.peptide_mass.proofs.mass.sum.Goals as goal

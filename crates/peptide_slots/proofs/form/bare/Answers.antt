@@ -1,10 +1,9 @@
 -- `bare` meets its contract. The invariant: the ids below k stand behind the terminal ids. Assumes nothing.
-use Prim.Native.Nat.{◌+◌, ◌-◌, ◌≤◌}
 use mathlib.Core.Path.{◌≡◌, refl}
 use native.Mathlib.Omega.{arith}
-use lib.ListN.{length, take, length-set}
+use lib.ListN.{length, length-set}
 use Rattle.peptide_slots.specs.FillLaws.{bare_is}
-use Rattle.peptide_slots.specs.WroteLaws.{Wrote, copy_into-all, copy_into-more, copy_into-none}
+use Rattle.peptide_slots.specs.WroteLaws.{copy_into-all, copy_into-more, copy_into-none}
 use Rattle.std.proofs.Common.{rules}
 use Rattle.peptide_slots.proofs.form.bare.Goals as goal
 

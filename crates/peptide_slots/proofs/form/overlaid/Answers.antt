@@ -1,12 +1,9 @@
 -- `overlaid` meets its contract. The invariant: each slot below k is done. Assumes nothing.
-use Prim.Native.Nat.{ℕ, ◌-◌, ◌≤◌}
 use mathlib.Core.Path.{◌≡◌}
-use mathlib.Core.List.{List}
 use native.Mathlib.Omega.{arith}
-use lib.ListN.{length, get_or}
+use lib.ListN.{length}
 use Rattle.peptide_slots.specs.Overlays.{overlay}
-use Rattle.peptide_slots.specs.Hits.{fill}
-use Rattle.peptide_slots.specs.OverlayLaws.{Upto, map_at_ext, upto_more, upto_none}
+use Rattle.peptide_slots.specs.OverlayLaws.{map_at_ext, upto_more, upto_none}
 use Rattle.std.proofs.Common.{rules}
 use Rattle.peptide_slots.proofs.form.overlaid.Invariants.{merge}
 use Rattle.peptide_slots.proofs.form.overlaid.Goals as goal

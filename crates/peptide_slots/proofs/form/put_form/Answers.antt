@@ -1,9 +1,8 @@
 -- `put_form` meets its contract. The invariant: the slots below j are stored. Assumes nothing.
-use Prim.Native.Nat.{◌+◌, ◌-◌, ◌≤◌}
 use mathlib.Core.Path.{◌≡◌, refl}
 use native.Mathlib.Omega.{arith}
-use lib.ListN.{length, take, length-set}
-use Rattle.peptide_slots.specs.WroteLaws.{Wrote, copy_into-all, copy_into-more, copy_into-none}
+use lib.ListN.{length, length-set}
+use Rattle.peptide_slots.specs.WroteLaws.{copy_into-all, copy_into-more, copy_into-none}
 use Rattle.std.proofs.Common.{rules}
 use Rattle.peptide_slots.proofs.form.put_form.Goals as goal
 

@@ -1,9 +1,8 @@
 -- `put_form` meets its contract. The invariant: the slots below j are stored. Assumes nothing.
 use Prim.Native.Nat.{◌+◌, ◌-◌, ◌≤◌}
-use mathlib.Core.Path.{◌≡◌, refl}
-use native.Mathlib.Omega.{arith}
-use lib.ListN.{length, take, length-set}
-use Rattle.peptide_slots.specs.WroteLaws.{Wrote, copy_into-all, copy_into-more, copy_into-none}
+use mathlib.Core.Path.{◌≡◌}
+use lib.ListN.{length, take}
+use Rattle.peptide_slots.specs.WroteLaws.{Wrote}
 use Rattle.peptide_slots.proofs.form.put_form.Given as goal
 
 abbrev pub invariant-loop-j : goal.invariant-loop-j

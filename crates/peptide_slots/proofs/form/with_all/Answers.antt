@@ -1,12 +1,11 @@
 -- `with_all` meets its contract. The invariant: what is left of the sites gives the whole. Assumes nothing.
-use Prim.Native.Nat.{ℕ, ◌+◌, ◌-◌}
-use mathlib.Core.Path.{◌≡◌, refl, sym, ap, ◌∙◌}
+use Prim.Native.Nat.{ℕ, ◌+◌}
+use mathlib.Core.Path.{refl, sym, ap, ◌∙◌}
 use mathlib.Core.List.{List}
 use native.Mathlib.Omega.{arith}
-use lib.ListN.{length, drop}
+use lib.ListN.{drop}
 use Rattle.peptide_slots.specs.FillLaws.{apply_end, apply-on}
 use Rattle.peptide_slots.specs.Filling.{apply}
-use Rattle.std.proofs.Common.{rules}
 use Rattle.peptide_slots.proofs.form.with_all.Goals as goal
 
 pub loop-j-init : goal.loop-j-init

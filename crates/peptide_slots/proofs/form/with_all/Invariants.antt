@@ -1,10 +1,7 @@
 -- `with_all` meets its contract. The invariant: what is left of the sites gives the whole. Assumes nothing.
-use Prim.Native.Nat.{ℕ, ◌+◌, ◌-◌}
-use mathlib.Core.Path.{◌≡◌, refl, sym, ap, ◌∙◌}
-use mathlib.Core.List.{List}
-use native.Mathlib.Omega.{arith}
+use Prim.Native.Nat.{◌-◌}
+use mathlib.Core.Path.{◌≡◌}
 use lib.ListN.{length, drop}
-use Rattle.peptide_slots.specs.FillLaws.{apply_end, apply-on}
 use Rattle.peptide_slots.specs.Filling.{apply}
 use Rattle.peptide_slots.proofs.form.with_all.Given as goal
 

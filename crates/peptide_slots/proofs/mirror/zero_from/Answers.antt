@@ -1,10 +1,7 @@
 -- `zero_from` meets its contract. The invariant: what was seen and what is left give the whole. Assumes nothing.
-use Prim.Native.Nat.{◌-◌, ◌≤◌}
 use mathlib.Core.Path.{◌≡◌, refl, ◌∙◌}
-use mathlib.Core.Bool.{◌&&◌}
 use native.Mathlib.Omega.{arith}
-use lib.ListN.{length, drop}
-use Rattle.peptide_slots.specs.Mirror.{all_zero}
+use lib.ListN.{length}
 use Rattle.peptide_slots.specs.MirrorLaws.{zero-on, zero_end}
 use Rattle.std.proofs.Common.{rules}
 use Rattle.peptide_slots.proofs.mirror.zero_from.Goals as goal

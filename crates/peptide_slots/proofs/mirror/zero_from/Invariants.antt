@@ -1,11 +1,9 @@
 -- `zero_from` meets its contract. The invariant: what was seen and what is left give the whole. Assumes nothing.
 use Prim.Native.Nat.{◌-◌, ◌≤◌}
-use mathlib.Core.Path.{◌≡◌, refl, ◌∙◌}
+use mathlib.Core.Path.{◌≡◌}
 use mathlib.Core.Bool.{◌&&◌}
-use native.Mathlib.Omega.{arith}
-use lib.ListN.{length, drop}
+use lib.ListN.{drop}
 use Rattle.peptide_slots.specs.Mirror.{all_zero}
-use Rattle.peptide_slots.specs.MirrorLaws.{zero-on, zero_end}
 use Rattle.peptide_slots.proofs.mirror.zero_from.Given as goal
 
 abbrev pub invariant-loop-i : goal.invariant-loop-i

@@ -1,11 +1,10 @@
 -- `collect` meets its contract. The invariant: the sites of the rules below r are written, those of the others are left.
 -- Assumes nothing.
-use Prim.Native.Nat.{◌-◌, ◌/◌, ◌≤◌}
+use Prim.Native.Nat.{◌/◌}
 use mathlib.Core.Path.{refl}
 use native.Mathlib.Omega.{arith}
 use lib.ListN.{length}
-use Rattle.peptide_slots.specs.SiteLaws.{SitesWritten, sites-written-all, sites-written-more, sites-written-none}
-use Rattle.std.proofs.Common.{rules}
+use Rattle.peptide_slots.specs.SiteLaws.{sites-written-all, sites-written-more, sites-written-none}
 use Rattle.peptide_slots.proofs.sites.collect.Goals as goal
 
 pub loop-r-init : goal.loop-r-init

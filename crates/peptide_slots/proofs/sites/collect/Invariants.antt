@@ -1,10 +1,7 @@
 -- `collect` meets its contract. The invariant: the sites of the rules below r are written, those of the others are left.
 -- Assumes nothing.
-use Prim.Native.Nat.{◌-◌, ◌/◌, ◌≤◌}
-use mathlib.Core.Path.{refl}
-use native.Mathlib.Omega.{arith}
-use lib.ListN.{length}
-use Rattle.peptide_slots.specs.SiteLaws.{SitesWritten, sites-written-all, sites-written-more, sites-written-none}
+use Prim.Native.Nat.{◌-◌, ◌≤◌}
+use Rattle.peptide_slots.specs.SiteLaws.{SitesWritten}
 use Rattle.peptide_slots.proofs.sites.collect.Given as goal
 
 abbrev pub invariant-loop-r : goal.invariant-loop-r

@@ -6,7 +6,6 @@ use Rattle.peptide_slots.specs.Sites.{all_sites}
 use Rattle.peptide_slots.specs.SiteLaws.{all_few}
 use Rattle.peptide_slots.specs.UsedLaws.{used-first_taken}
 use Rattle.peptide_slots.specs.WroteLaws.{wrote_length}
-use Rattle.std.proofs.Common.{rules}
 use Rattle.peptide_slots.proofs.sites.collect_used.Goals as goal
 
 pub keep_used-requires : goal.keep_used-requires

@@ -1,13 +1,12 @@
 -- `keep_used` meets its contract. The invariant: of the first i sites those that may be used stand at the front. Assumes
 -- nothing.
-use Prim.Native.Nat.{ℕ, ◌-◌, ◌≤◌}
+use Prim.Native.Nat.{ℕ}
 use mathlib.Core.Path.{refl, ap}
 use mathlib.Core.Bool.{not}
 use native.Mathlib.Omega.{arith}
 use lib.Dec.{eqb}
 use lib.ListN.{get_or}
-use Rattle.peptide_slots.specs.UsedLaws.{UsedFirst, used-first-all, used-first-more, used-first-none}
-use Rattle.std.proofs.Common.{rules}
+use Rattle.peptide_slots.specs.UsedLaws.{used-first-all, used-first-more, used-first-none}
 use Rattle.peptide_slots.proofs.sites.keep_used.Goals as goal
 
 pub loop-i-init : goal.loop-i-init

@@ -1,12 +1,7 @@
 -- `keep_used` meets its contract. The invariant: of the first i sites those that may be used stand at the front. Assumes
 -- nothing.
-use Prim.Native.Nat.{ℕ, ◌-◌, ◌≤◌}
-use mathlib.Core.Path.{refl, ap}
-use mathlib.Core.Bool.{not}
-use native.Mathlib.Omega.{arith}
-use lib.Dec.{eqb}
-use lib.ListN.{get_or}
-use Rattle.peptide_slots.specs.UsedLaws.{UsedFirst, used-first-all, used-first-more, used-first-none}
+use Prim.Native.Nat.{◌-◌, ◌≤◌}
+use Rattle.peptide_slots.specs.UsedLaws.{UsedFirst}
 use Rattle.peptide_slots.proofs.sites.keep_used.Given as goal
 
 abbrev pub invariant-loop-i : goal.invariant-loop-i

@@ -1,11 +1,6 @@
 -- `push_places` meets its contract. The invariant: the places below k that are hit are written. Assumes nothing.
-use Prim.Native.Nat.{ℕ, ◌-◌, ◌≤◌}
-use mathlib.Core.Bool.{Bool}
-use mathlib.Core.List.{List}
 use native.Mathlib.Omega.{arith}
-use lib.ListN.{get_or}
-use Rattle.peptide_slots.specs.Hits.{hits_at}
-use Rattle.peptide_slots.specs.SiteLaws.{HitsWritten, hits-written-all, hits-written-more, hits-written-none}
+use Rattle.peptide_slots.specs.SiteLaws.{hits-written-all, hits-written-more, hits-written-none}
 use Rattle.peptide_slots.specs.Sites.{places_of}
 use Rattle.peptide_slots.proofs.sites.push_places.Invariants.{test}
 use Rattle.peptide_slots.proofs.sites.push_places.Goals as goal

@@ -2,11 +2,9 @@
 use Prim.Native.Nat.{ℕ, ◌-◌, ◌≤◌}
 use mathlib.Core.Bool.{Bool}
 use mathlib.Core.List.{List}
-use native.Mathlib.Omega.{arith}
 use lib.ListN.{get_or}
 use Rattle.peptide_slots.specs.Hits.{hits_at}
-use Rattle.peptide_slots.specs.SiteLaws.{HitsWritten, hits-written-all, hits-written-more, hits-written-none}
-use Rattle.peptide_slots.specs.Sites.{places_of}
+use Rattle.peptide_slots.specs.SiteLaws.{HitsWritten}
 use Rattle.peptide_slots.proofs.sites.push_places.Given as goal
 
 -- the test at a place

@@ -1,10 +1,9 @@
 -- `window` meets its contract. The invariant: the places below i are done. Assumes nothing.
-use Prim.Native.Nat.{ℕ, ◌+◌, ◌-◌, ◌≤◌}
+use Prim.Native.Nat.{ℕ}
 use mathlib.Core.Path.{◌∙◌}
 use native.Mathlib.Omega.{arith}
-use lib.ListN.{get_or, replicate, length-replicate}
-use mathlib.Core.List.{List}
-use Rattle.peptide_slots.specs.OverlayLaws.{Upto, upto_none, upto_more}
+use lib.ListN.{replicate, length-replicate}
+use Rattle.peptide_slots.specs.OverlayLaws.{upto_none, upto_more}
 use Rattle.peptide_slots.specs.WindowLaws.{window_is}
 use Rattle.peptide_slots.proofs.windows.window.Invariants.{byte_at}
 use Rattle.peptide_slots.proofs.windows.window.Goals as goal

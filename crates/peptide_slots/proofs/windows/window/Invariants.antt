@@ -1,11 +1,8 @@
 -- `window` meets its contract. The invariant: the places below i are done. Assumes nothing.
 use Prim.Native.Nat.{ℕ, ◌+◌, ◌-◌, ◌≤◌}
-use mathlib.Core.Path.{◌∙◌}
-use native.Mathlib.Omega.{arith}
-use lib.ListN.{get_or, replicate, length-replicate}
+use lib.ListN.{get_or}
 use mathlib.Core.List.{List}
-use Rattle.peptide_slots.specs.OverlayLaws.{Upto, upto_none, upto_more}
-use Rattle.peptide_slots.specs.WindowLaws.{window_is}
+use Rattle.peptide_slots.specs.OverlayLaws.{Upto}
 use Rattle.peptide_slots.proofs.windows.window.Given as goal
 
 -- what is stored at place k

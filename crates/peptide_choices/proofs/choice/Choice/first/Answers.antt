@@ -1,11 +1,10 @@
 -- `first` meets its contract. The invariant: the first i places are 0, 1, .. . Assumes nothing.
-use Prim.Native.Nat.{ℕ, ◌-◌, ◌≤◌, ◌<◌}
+use Prim.Native.Nat.{ℕ, ◌<◌}
 use mathlib.Core.Path.{◌≡◌, refl, ap, ◌∙◌}
-use mathlib.Core.List.{List, ◌++◌}
+use mathlib.Core.List.{List}
 use native.Mathlib.Omega.{arith}
 use borrow.Author.Tests.{lt-leb, le-leb}
-use lib.ListN.{length, drop, set, replicate}
-use Rattle.lists.specs.Lists.{up_from}
+use lib.ListN.{length, set, replicate}
 use Rattle.peptide_choices.specs.StepLaws.{up_more}
 use Rattle.peptide_choices.specs.Steps.{begun_choice, first_of, stepped_to}
 use Rattle.peptide_choices.proofs.choice.Choice.first.Goals as goal

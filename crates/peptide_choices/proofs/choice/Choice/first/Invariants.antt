@@ -1,13 +1,9 @@
 -- `first` meets its contract. The invariant: the first i places are 0, 1, .. . Assumes nothing.
-use Prim.Native.Nat.{ℕ, ◌-◌, ◌≤◌, ◌<◌}
-use mathlib.Core.Path.{◌≡◌, refl, ap, ◌∙◌}
-use mathlib.Core.List.{List, ◌++◌}
-use native.Mathlib.Omega.{arith}
-use borrow.Author.Tests.{lt-leb, le-leb}
-use lib.ListN.{length, drop, set, replicate}
+use Prim.Native.Nat.{◌-◌, ◌≤◌}
+use mathlib.Core.Path.{◌≡◌}
+use mathlib.Core.List.{◌++◌}
+use lib.ListN.{drop}
 use Rattle.lists.specs.Lists.{up_from}
-use Rattle.peptide_choices.specs.StepLaws.{up_more}
-use Rattle.peptide_choices.specs.Steps.{begun_choice, first_of, stepped_to}
 use Rattle.peptide_choices.proofs.choice.Choice.first.Given as goal
 
 abbrev pub invariant-loop-i : goal.invariant-loop-i

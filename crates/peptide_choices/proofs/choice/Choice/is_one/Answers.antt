@@ -1,5 +1,5 @@
 -- `is_one` meets its contract. The invariant: the places from i on ascend from low exactly if all ascend. Assumes nothing.
-use Prim.Native.Nat.{◌-◌, ◌≤◌, ◌<◌}
+use Prim.Native.Nat.{◌<◌}
 use mathlib.Core.Path.{◌≡◌, sym}
 use mathlib.Core.Bool.{true≢false}
 use native.Mathlib.Omega.{arith}
@@ -7,7 +7,7 @@ use lib.ListN.{length, get_or}
 use lib.Dec.{leb, ltb}
 use borrow.Author.Tests.{ltb-true}
 use Rattle.lists.specs.Tests.{both}
-use Rattle.peptide_choices.specs.SuccessorLaws.{Rest, one_ascends, one-fits, one_of, rest-whole, rest_end, rest-on, rest_stop}
+use Rattle.peptide_choices.specs.SuccessorLaws.{one_ascends, one-fits, one_of, rest-whole, rest_end, rest-on, rest_stop}
 use Rattle.std.proofs.Common.{rules}
 use Rattle.peptide_choices.proofs.choice.Choice.is_one.Goals as goal
 

@@ -1,13 +1,6 @@
 -- `is_one` meets its contract. The invariant: the places from i on ascend from low exactly if all ascend. Assumes nothing.
-use Prim.Native.Nat.{◌-◌, ◌≤◌, ◌<◌}
-use mathlib.Core.Path.{◌≡◌, sym}
-use mathlib.Core.Bool.{true≢false}
-use native.Mathlib.Omega.{arith}
-use lib.ListN.{length, get_or}
-use lib.Dec.{leb, ltb}
-use borrow.Author.Tests.{ltb-true}
-use Rattle.lists.specs.Tests.{both}
-use Rattle.peptide_choices.specs.SuccessorLaws.{Rest, one_ascends, one-fits, one_of, rest-whole, rest_end, rest-on, rest_stop}
+use Prim.Native.Nat.{◌-◌, ◌≤◌}
+use Rattle.peptide_choices.specs.SuccessorLaws.{Rest}
 use Rattle.peptide_choices.proofs.choice.Choice.is_one.Given as goal
 
 abbrev pub invariant-loop-i : goal.invariant-loop-i
