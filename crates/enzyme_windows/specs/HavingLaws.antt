@@ -1,11 +1,11 @@
 -- How many windows of pieces have the letters of one. Assumes nothing.
-use Rattle.std.specs.Prelude.{ℕ, zero, suc, ◌+◌, ◌-◌, ◌≤◌, ◌<◌, ◌≡◌, refl, Bool, true, false, cond, ◌⊎◌, List, [], ◌∷◌, ◌++◌, length, drop}
+use Rattle.std.specs.Prelude.{ℕ, zero, suc, ◌+◌, ◌-◌, ◌≤◌, ◌<◌, ◌≡◌, refl, Bool, true, false, cond, ◌⊎◌, List, length, drop}
 use Rattle.std.proofs.Common.{sym, ap, ◌∙◌, inl, inr, arith}
 use Rattle.lists.specs.Lists.{same}
 use Rattle.lists.specs.SameLaws.{same_refl, same-eq}
 use Rattle.lists.specs.Tests.{below?}
 use Rattle.enzyme_cuts.specs.declared.kinds.Knife.{Knife}
-use Rattle.enzyme_cuts.specs.Cutting.{Range, range, windows, windows_from, part, having}
+use Rattle.enzyme_cuts.specs.Cutting.{range, windows, windows_from, part, having}
 use Rattle.enzyme_cuts.specs.HavingLaws.{having_append}
 use Rattle.enzyme_windows.specs.Pieces.{pieces, end_to_end, places_from}
 use Rattle.enzyme_windows.specs.Shared.{SameWindow}
