@@ -1,9 +1,8 @@
 -- `sites` meets its contract. Assumes nothing.
-use Prim.Native.Nat.{◌+◌, ◌-◌, ◌≤◌, ◌<◌}
+use Prim.Native.Nat.{◌+◌, ◌≤◌, ◌<◌}
 use mathlib.Core.Path.{◌≡◌, refl, sym, ◌∙◌}
 use lib.ListN.{length, set, length-set}
 use native.Mathlib.Omega.{arith}
-use Rattle.enzyme_sites.specs.Scanning.{Scanned}
 use Rattle.enzyme_sites.specs.ScanningLaws.{scanned_none, scanned_on, scanned_cut, scanned_end, ends_last}
 use Rattle.enzyme_sites.proofs.scan.sites.Goals.{After-loop-j, Then-ends_at}
 use Rattle.enzyme_sites.proofs.scan.sites.Goals as goal
