@@ -1,8 +1,7 @@
 -- `order` meets its contract: the places before i agree. Assumes nothing.
 use native.Mathlib.Omega.{arith}
-use Prim.Native.Nat.{ℕ, ◌+◌, ◌-◌}
+use Prim.Native.Nat.{ℕ, ◌+◌}
 use mathlib.Core.Path.{◌≡◌, sym, ◌∙◌}
-use lib.ListN.{length}
 use Rattle.records.specs.Le.{number_at}
 use Rattle.enzyme_cuts.specs.SameLaws.{AgreeTo, agree_four}
 use Rattle.enzyme_order.specs.OrderLaws.{order_short, order_long, order_alike, order-all}

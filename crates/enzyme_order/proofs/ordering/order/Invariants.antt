@@ -1,11 +1,8 @@
 -- `order` meets its contract: the places before i agree. Assumes nothing.
-use native.Mathlib.Omega.{arith}
-use Prim.Native.Nat.{ℕ, ◌+◌, ◌-◌}
-use mathlib.Core.Path.{◌≡◌, sym, ◌∙◌}
+use Prim.Native.Nat.{◌-◌}
+use mathlib.Core.Path.{◌≡◌}
 use lib.ListN.{length}
-use Rattle.records.specs.Le.{number_at}
-use Rattle.enzyme_cuts.specs.SameLaws.{AgreeTo, agree_four}
-use Rattle.enzyme_order.specs.OrderLaws.{order_short, order_long, order_alike, order-all}
+use Rattle.enzyme_cuts.specs.SameLaws.{AgreeTo}
 use Rattle.enzyme_order.proofs.ordering.order.Given as goal
 
 abbrev pub invariant-loop-i : goal.invariant-loop-i

@@ -1,10 +1,7 @@
 -- `order_from` meets its contract: the letters before i agree. Assumes nothing.
 use native.Mathlib.Omega.{arith}
 use native.Mathlib.Numerals.{add-one}
-use Prim.Native.Nat.{◌-◌}
-use mathlib.Core.Path.{◌≡◌, refl, sym, ◌∙◌}
-use lib.ListN.{length, drop}
-use Rattle.enzyme_order.specs.Order.{letterwise}
+use mathlib.Core.Path.{refl, sym, ◌∙◌}
 use Rattle.enzyme_order.specs.OrderLaws.{letters-below, letters_above, letters-on, letters_end}
 use Rattle.enzyme_order.proofs.ordering.order_from.Goals as goal
 

@@ -1,11 +1,8 @@
 -- `order_from` meets its contract: the letters before i agree. Assumes nothing.
-use native.Mathlib.Omega.{arith}
-use native.Mathlib.Numerals.{add-one}
 use Prim.Native.Nat.{◌-◌}
-use mathlib.Core.Path.{◌≡◌, refl, sym, ◌∙◌}
+use mathlib.Core.Path.{◌≡◌}
 use lib.ListN.{length, drop}
 use Rattle.enzyme_order.specs.Order.{letterwise}
-use Rattle.enzyme_order.specs.OrderLaws.{letters-below, letters_above, letters-on, letters_end}
 use Rattle.enzyme_order.proofs.ordering.order_from.Given as goal
 
 abbrev pub invariant-loop-i : goal.invariant-loop-i
