@@ -1,6 +1,6 @@
 -- How many of the parts of windows have some letters: the sum of what each window's parts have, and these depend on its pieces alone.
 -- Assumes nothing.
-use Rattle.std.specs.Prelude.{ℕ, zero, suc, ◌+◌, ◌-◌, ◌≡◌, refl, Bool, true, false, cond, List, [], ◌∷◌, ◌++◌, map, take, drop}
+use Rattle.std.specs.Prelude.{ℕ, zero, suc, ◌+◌, ◌-◌, ◌≡◌, refl, cond, List, [], ◌∷◌, map, take, drop}
 use Rattle.std.proofs.Common.{ap, ap₂, ◌∙◌, arith}
 use Rattle.lists.specs.Lists.{same}
 use Rattle.enzyme_cuts.specs.Cutting.{Range, part, having}
