@@ -1,9 +1,7 @@
 -- `list_of` meets its contract. Assumes nothing.
 use Prim.Native.Nat.{◌-◌, ◌≤◌}
-use lib.ListN.{length, length-set}
-use lib.Seq.{length-take-le}
-use mathlib.Core.Path.{◌≡◌, sym}
-use native.Mathlib.Omega.{arith}
+use lib.ListN.{length}
+use mathlib.Core.Path.{◌≡◌}
 use Rattle.report_rows_read.proofs.names.list_of.Given as goal
 
 abbrev pub invariant-loop-i : goal.invariant-loop-i

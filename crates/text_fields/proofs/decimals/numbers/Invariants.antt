@@ -1,9 +1,7 @@
 -- `numbers` meets its contract. Assumes nothing.
-use lib.Seq.{length-take-le}
 use Prim.Native.Nat.{◌-◌, ◌≤◌}
-use lib.ListN.{length, length-set}
-use mathlib.Core.Path.{◌≡◌, sym}
-use native.Mathlib.Omega.{arith}
+use lib.ListN.{length}
+use mathlib.Core.Path.{◌≡◌}
 use Rattle.text_fields.proofs.decimals.numbers.Given as goal
 
 abbrev pub invariant-loop-n : goal.invariant-loop-n

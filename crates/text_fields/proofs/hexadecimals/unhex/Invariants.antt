@@ -1,9 +1,7 @@
 -- `unhex` meets its contract. Assumes nothing.
 use Prim.Native.Nat.{◌-◌, ◌≤◌}
-use lib.ListN.{length, length-set}
-use lib.Seq.{length-take-le}
-use mathlib.Core.Path.{◌≡◌, sym}
-use native.Mathlib.Omega.{arith}
+use lib.ListN.{length}
+use mathlib.Core.Path.{◌≡◌}
 use Rattle.text_fields.proofs.hexadecimals.unhex.Given as goal
 
 abbrev pub invariant-loop-n : goal.invariant-loop-n

@@ -1,8 +1,6 @@
 -- `put_all` meets its contract. Assumes nothing.
 use lib.Seq.{length-take-le}
-use Prim.Native.Nat.{◌-◌, ◌≤◌}
-use lib.ListN.{length}
-use mathlib.Core.Path.{◌≡◌, sym}
+use mathlib.Core.Path.{sym}
 use native.Mathlib.Omega.{arith}
 use Rattle.text_fields.proofs.marks.put_all.Goals as goal
 

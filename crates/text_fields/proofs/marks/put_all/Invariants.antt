@@ -1,9 +1,7 @@
 -- `put_all` meets its contract. Assumes nothing.
-use lib.Seq.{length-take-le}
 use Prim.Native.Nat.{◌-◌, ◌≤◌}
 use lib.ListN.{length}
-use mathlib.Core.Path.{◌≡◌, sym}
-use native.Mathlib.Omega.{arith}
+use mathlib.Core.Path.{◌≡◌}
 use Rattle.text_fields.proofs.marks.put_all.Given as goal
 
 abbrev pub invariant-loop-i : goal.invariant-loop-i

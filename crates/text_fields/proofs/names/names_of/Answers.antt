@@ -1,8 +1,6 @@
 -- `names_of` meets its contract. Assumes nothing.
 use lib.Seq.{length-take-le}
-use Prim.Native.Nat.{◌-◌, ◌≤◌}
-use lib.ListN.{length}
-use mathlib.Core.Path.{◌≡◌, sym}
+use mathlib.Core.Path.{sym}
 use native.Mathlib.Omega.{arith}
 use Rattle.text_fields.proofs.names.names_of.Goals as goal
 
