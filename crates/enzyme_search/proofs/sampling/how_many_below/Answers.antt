@@ -1,5 +1,4 @@
 -- `how_many_below` meets its contract. Assumes nothing.
-use Prim.Native.Nat.{◌-◌, ◌≤◌}
 use native.Mathlib.Omega.{arith}
 use Rattle.enzyme_search.proofs.sampling.how_many_below.Goals as goal
 

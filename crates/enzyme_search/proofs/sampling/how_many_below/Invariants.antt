@@ -1,6 +1,5 @@
 -- `how_many_below` meets its contract. Assumes nothing.
 use Prim.Native.Nat.{◌-◌, ◌≤◌}
-use native.Mathlib.Omega.{arith}
 use Rattle.enzyme_search.proofs.sampling.how_many_below.Given as goal
 
 abbrev pub invariant-loop-lo : goal.invariant-loop-lo
