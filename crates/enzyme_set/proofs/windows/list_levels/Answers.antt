@@ -10,10 +10,8 @@ use Rattle.enzyme_levels.specs.Levels.{LevelRanked}
 use Rattle.enzyme_picks.specs.Picks.{sizes_put}
 use Rattle.enzyme_picks.specs.PickLaws.{sizes-kept, sizes_full, sizes-last}
 use Rattle.enzyme_set.specs.ListLaws.{level_listed, level_ready}
+use Rattle.enzyme_set.proofs.windows.list_levels.Invariants.{weights}
 use Rattle.enzyme_set.proofs.windows.list_levels.Goals as goal
-
-abbrev weights : List (List ℕ) → ℕ → ℕ → ℕ
-weights ts y i = class_weight ts (suc y) i
 
 pub loop-over-init : goal.loop-over-init
 loop-over-init c = let z : suc c.args.missed - 0 ≡ suc c.args.missed = omega arith in (omega arith, refl, refl, refl, refl, refl, λ ts lr. (lr, rw z))

@@ -12,6 +12,9 @@ use Rattle.enzyme_picks.specs.PickLaws.{sizes-kept, sizes_full, sizes-last}
 use Rattle.enzyme_set.specs.ListLaws.{level_listed, level_ready}
 use Rattle.enzyme_set.proofs.windows.list_levels.Given as goal
 
+abbrev pub weights : List (List ℕ) → ℕ → ℕ → ℕ
+weights ts y i = class_weight ts (suc y) i
+
 abbrev pub invariant-loop-over : goal.invariant-loop-over
 invariant-loop-over l =
     (l.over ≤ l.missed) × (length l.order ≡ length l.initial.order) × (length l.other ≡ length l.initial.other) × (length l.rank ≡ length l.initial.rank) × (length l.share ≡ length l.initial.share) × (length l.out ≡ length l.initial.out)
