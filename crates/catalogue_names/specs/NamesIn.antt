@@ -1,5 +1,5 @@
 -- What `names_tested_in` makes of a lent table. The contract of that part cites this; no entry's does.
-use Rattle.std.specs.Prelude.{ℕ, ◌+◌, ◌-◌, ◌≡◌, cond, not, ◌&&◌, List, [], ◌∷◌, length, leb}
+use Rattle.std.specs.Prelude.{ℕ, ◌+◌, ◌≡◌, cond, not, ◌&&◌, List, [], ◌∷◌, length, leb}
 use Rattle.records.specs.declared.refusal.Tested.{Tested}
 use Rattle.records.specs.Outcome.{Outcome, outcome, only}
 use Rattle.catalogue_repeats.specs.Repeating.{cleared}

@@ -1,10 +1,8 @@
 -- `first_bad_bound` meets its contract. Assumes nothing.
-use Prim.Native.Nat.{◌-◌}
 use mathlib.Core.Path.{sym, ◌∙◌}
 use native.Mathlib.Omega.{arith}
-use lib.ListN.{length}
-use Rattle.catalogue_spec.specs.Book.{bad_bound, first_bad_bound}
-use Rattle.records.specs.SeekingLaws.{Seeking, seeking_all, seeking_stop, seeking_on, seeking_end}
+use Rattle.catalogue_spec.specs.Book.{first_bad_bound}
+use Rattle.records.specs.SeekingLaws.{seeking_all, seeking_stop, seeking_on, seeking_end}
 use Rattle.catalogue_book.proofs.book.first_bad_bound.Goals as goal
 
 pub loop-i-init : goal.loop-i-init

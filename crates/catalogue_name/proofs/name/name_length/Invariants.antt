@@ -1,11 +1,8 @@
 -- `name_length` meets its contract. Assumes nothing.
 use Prim.Native.Nat.{◌-◌}
-use mathlib.Core.Path.{sym, ap, ◌∙◌}
-use mathlib.Core.Bool.{not}
-use native.Mathlib.Omega.{arith}
 use lib.ListN.{length}
 use Rattle.catalogue_spec.specs.Names.{hidden, name_length}
-use Rattle.records.specs.SeekingLaws.{Seeking, seeking_all, seeking_stop, seeking_on, seeking_end}
+use Rattle.records.specs.SeekingLaws.{Seeking}
 use Rattle.catalogue_name.proofs.name.name_length.Given as goal
 
 abbrev pub invariant-loop-i : goal.invariant-loop-i

@@ -1,12 +1,8 @@
 -- `zeros_to` meets its contract. Assumes nothing.
 use Prim.Native.Nat.{◌-◌}
-use mathlib.Core.Path.{ap}
-use mathlib.Core.Bool.{not}
-use native.Mathlib.Omega.{arith}
 use lib.ListN.{length}
-use borrow.Author.Tests.{eq-eqb, ne_eqb}
 use Rattle.catalogue_spec.specs.Names.{non_zero, zeros_to}
-use Rattle.records.specs.SeekingLaws.{Seeking, seeking_from, seeking_stop, seeking_on, seeking_end}
+use Rattle.records.specs.SeekingLaws.{Seeking}
 use Rattle.catalogue_name.proofs.name.zeros_to.Given as goal
 
 abbrev pub invariant-loop-i : goal.invariant-loop-i

@@ -1,11 +1,8 @@
 -- `first_bad_name` meets its contract. Assumes nothing.
-use Prim.Native.Nat.{◌-◌}
 use mathlib.Core.Path.{sym, ap, ◌∙◌}
 use mathlib.Core.Bool.{not}
 use native.Mathlib.Omega.{arith}
-use Rattle.records.specs.Search.{seek}
-use Rattle.catalogue_spec.specs.Names.{name_count, bad_name}
-use Rattle.records.specs.SeekingLaws.{Seeking, seeking_all, seeking_stop, seeking_on, seeking_end}
+use Rattle.records.specs.SeekingLaws.{seeking_all, seeking_stop, seeking_on, seeking_end}
 use Rattle.catalogue_names.proofs.names.first_bad_name.Goals as goal
 
 pub loop-i-init : goal.loop-i-init

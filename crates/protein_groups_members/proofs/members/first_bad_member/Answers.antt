@@ -1,11 +1,9 @@
 -- `first_bad_member` meets its contract. Assumes nothing.
-use Prim.Native.Nat.{◌-◌, ◌/◌}
 use mathlib.Core.Path.{sym, ap, ◌∙◌}
 use mathlib.Core.Bool.{not}
 use native.Mathlib.Omega.{arith}
-use lib.ListN.{length}
-use Rattle.records.specs.SeekingLaws.{Seeking, seeking_all, seeking_stop, seeking_on, seeking_end}
-use Rattle.protein_groups_members.specs.Members.{bad_member, first_bad_member}
+use Rattle.records.specs.SeekingLaws.{seeking_all, seeking_stop, seeking_on, seeking_end}
+use Rattle.protein_groups_members.specs.Members.{first_bad_member}
 use Rattle.protein_groups_members.proofs.members.first_bad_member.Goals as goal
 
 pub loop-i-init : goal.loop-i-init

@@ -1,10 +1,7 @@
 -- `first_bad_member` meets its contract. Assumes nothing.
 use Prim.Native.Nat.{◌-◌, ◌/◌}
-use mathlib.Core.Path.{sym, ap, ◌∙◌}
-use mathlib.Core.Bool.{not}
-use native.Mathlib.Omega.{arith}
 use lib.ListN.{length}
-use Rattle.records.specs.SeekingLaws.{Seeking, seeking_all, seeking_stop, seeking_on, seeking_end}
+use Rattle.records.specs.SeekingLaws.{Seeking}
 use Rattle.protein_groups_members.specs.Members.{bad_member, first_bad_member}
 use Rattle.protein_groups_members.proofs.members.first_bad_member.Given as goal
 
