@@ -1,8 +1,6 @@
 -- `follow` meets its contract: each record that it comes to is of the list. Assumes nothing.
 use Prim.Native.Nat.{◌-◌}
-use native.Mathlib.Omega.{arith}
 use Rattle.enzyme_search.specs.Marks.{Has0}
-use Rattle.enzyme_search.specs.MarkLaws.{next-has, has_few}
 use Rattle.enzyme_marks.proofs.marking.follow.Given as goal
 
 abbrev pub invariant-loop-i : goal.invariant-loop-i

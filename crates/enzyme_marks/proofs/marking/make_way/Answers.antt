@@ -1,8 +1,6 @@
 -- `make_way` meets its contract. Assumes nothing.
-use Prim.Native.Nat.{◌≤◌}
 use mathlib.Core.Path.{◌≡◌}
 use native.Mathlib.Omega.{arith}
-use Rattle.enzyme_search.specs.Marks.{MovedUp}
 use Rattle.enzyme_search.specs.MarkLaws.{moved_none, moved_on}
 use Rattle.enzyme_marks.proofs.marking.make_way.Goals as goal
 

@@ -1,8 +1,7 @@
 -- `thin` meets its contract. Assumes nothing.
-use Prim.Native.Nat.{◌+◌, ◌-◌, ◌*◌, ◌≤◌}
+use Prim.Native.Nat.{◌+◌, ◌*◌}
 use native.Mathlib.Omega.{arith}
 use lib.ListN.{get_or, length-set}
-use Rattle.enzyme_search.specs.Marks.{Thinning}
 use Rattle.enzyme_search.specs.MarkLaws.{thinning_none, thinning_on}
 use Rattle.enzyme_marks.proofs.marking.thin.Goals as goal
 

@@ -1,9 +1,6 @@
 -- `thin` meets its contract. Assumes nothing.
-use Prim.Native.Nat.{◌+◌, ◌-◌, ◌*◌, ◌≤◌}
-use native.Mathlib.Omega.{arith}
-use lib.ListN.{get_or, length-set}
+use Prim.Native.Nat.{◌-◌, ◌≤◌}
 use Rattle.enzyme_search.specs.Marks.{Thinning}
-use Rattle.enzyme_search.specs.MarkLaws.{thinning_none, thinning_on}
 use Rattle.enzyme_marks.proofs.marking.thin.Given as goal
 
 abbrev pub invariant-loop-i : goal.invariant-loop-i
