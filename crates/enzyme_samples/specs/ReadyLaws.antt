@@ -110,11 +110,11 @@ ready_start s f ws out marks h far i d = record {
 }
 
 pub tallied_start : (s : List ℕ) (t : Terms) (out : List ℕ) → Tallied s t run_started out (λ x. 0)
-tallied_start s t out = tally.tally-start s t out
+tallied_start s t out = tally.tally_start s t out
 
 -- the same numbers, said in another way
 pub tally_alike : {s : List ℕ} {t : Terms} {count : ℕ} {full : Bool} {out : List ℕ} (T U : List ℕ → ℕ) → ((x : List ℕ) → T x ≡ U x) → Tally s t count full out T → Tally s t count full out U
-tally_alike T U e h = tally.tally-alike T U e h
+tally_alike T U e h = tally.tally_alike T U e h
 
 -- the first of them may be offered
 pub ready_first : {s f : List ℕ} {run : Run} {out marks : List ℕ} (xs ys : List Weighted) → RangesReady s f (xs ++ ys) run out marks → RangesReady s f xs run out marks
