@@ -31,8 +31,7 @@ loop-a-preserved c = let a = c.args in
     let l = c.loop-a in
     let b = c.block_end-end in
     let x = c.list_block in
-    let y = c.x-1.given in
-    (omega arith, omega arith, omega arith, x.ensures.1, walk_kept a.letters.now a.protein a.len 64 l.a b.result a.to l.k l.out x.new.out b.ensures (omega arith) y.0.0 (rw y.1 at x.ensures.0) ∙ l.invariant.4)
+    (omega arith, omega arith, omega arith, x.ensures.1, walk_kept a.letters.now a.protein a.len 64 l.a b.result a.to l.k l.out x.new.out b.ensures (omega arith) c.in-Kept.x (rw c.in-Kept.is at x.ensures.0) ∙ l.invariant.4)
 
 pub returns : goal.returns
 returns c = let a = c.args in

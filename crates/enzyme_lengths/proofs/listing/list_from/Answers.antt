@@ -30,7 +30,6 @@ pub returns : goal.returns
 returns c = let a = c.args in
     let m = c.later-second in
     let x = c.list_starts in
-    let k = c.k-1.given in
     let y = c.list_later.ensures in
     let w = within (goal.at.returns c).After-position-position in
-    (y.0 ∙ part-kept a.letters.now a.protein a.len a.from m.result a.to a.count a.out.now x.new.out w.1 w.0 k.0.0 (rw k.1 at x.ensures.0), y.1)
+    (y.0 ∙ part-kept a.letters.now a.protein a.len a.from m.result a.to a.count a.out.now x.new.out w.1 w.0 c.in-Kept.k (rw c.in-Kept.is at x.ensures.0), y.1)

@@ -29,8 +29,7 @@ loop-a-preserved c = let a = c.args in
     let l = c.loop-a in
     let b = c.block_end-to in
     let x = c.list_great in
-    let y = c.x-1.given in
-    (omega arith, omega arith, omega arith, x.ensures.1, walk_kept a.letters.now a.protein a.len 4096 l.a b.result (length a.letters.now + 1 - a.len) l.k l.out x.new.out b.ensures (omega arith) y.0.0 (rw y.1 at x.ensures.0) ∙ l.invariant.4)
+    (omega arith, omega arith, omega arith, x.ensures.1, walk_kept a.letters.now a.protein a.len 4096 l.a b.result (length a.letters.now + 1 - a.len) l.k l.out x.new.out b.ensures (omega arith) c.in-Kept.x (rw c.in-Kept.is at x.ensures.0) ∙ l.invariant.4)
 
 pub returns : goal.returns
 returns c = let a = c.args in

@@ -15,10 +15,10 @@ use Rattle.enzyme_lengths.proofs.listing.list_lengths.Goals as goal
 
 -- the ranges of this length, and those of the lengths behind it
 abbrev these : After-wide → List Range
-these c = of_length (length c.before.before.before.before.before.before.before.before.before.before.before.before.before.args.letters.now) c.wide.result
+these c = of_length (length c.args.letters.now) c.wide.result
 
 abbrev rest : After-wide → List Range
-rest c = of_lengths (length c.before.before.before.before.before.before.before.before.before.before.before.before.before.args.letters.now) (c.before.before.before.loop.len + 1) (suc c.before.before.before.before.before.before.before.before.before.before.before.before.before.args.terms.maximum - (c.before.before.before.loop.len + 1))
+rest c = of_lengths (length c.args.letters.now) (c.loop-len.len + 1) (suc c.args.terms.maximum - (c.loop-len.len + 1))
 
 ahead : (c : After-wide) → chosen_of c.args.letters.now c.args.terms.protein (these c ++ rest c) c.loop-len.k c.loop-len.out ≡ chosen_of c.args.letters.now c.args.terms.protein (none_sites (length c.args.letters.now) c.args.terms.minimum c.args.terms.maximum) 0 c.args.out.now
 ahead c = let l = c.loop-len in
@@ -47,9 +47,8 @@ loop-len-preserved c = let a = c.args in
     let l = c.loop-len in
     let w = c.wide in
     let x = c.list_length in
-    let y = c.x-1.given in
     let told = told_later w.result (l.len + 1) a.letters.now a.longest.now a.next.now a.size.now x.new.head (omega (arith, w.ensures.0)) x.ensures.1 in
-    (omega arith, omega arith, omega arith, l.invariant.3, told, sym (chosen-kept a.letters.now a.terms.protein (these (goal.at.loop-len-preserved c).After-wide) (rest (goal.at.loop-len-preserved c).After-wide) l.k l.out x.new.out y.0.0 (rw y.1 at x.ensures.0)) ∙ ahead (goal.at.loop-len-preserved c).After-wide)
+    (omega arith, omega arith, omega arith, l.invariant.3, told, sym (chosen-kept a.letters.now a.terms.protein (these (goal.at.loop-len-preserved c).After-wide) (rest (goal.at.loop-len-preserved c).After-wide) l.k l.out x.new.out c.in-Kept.x (rw c.in-Kept.is at x.ensures.0)) ∙ ahead (goal.at.loop-len-preserved c).After-wide)
 
 pub returns : goal.returns
 returns c = let a = c.args in

@@ -15,7 +15,7 @@ use Rattle.enzyme_lengths.proofs.listing.list_starts.Goals as goal
 
 -- the ranges behind the first
 abbrev rest : In-loop-a → List Range
-rest c = starting c.before.before.before.before.before.before.before.before.args.len (c.before.loop.a + 1) (c.before.before.before.before.before.before.before.before.args.to - (c.before.loop.a + 1))
+rest c = starting c.args.len (c.loop-a.a + 1) (c.args.to - (c.loop-a.a + 1))
 
 ahead : (c : In-loop-a) → chosen_of c.args.letters.now c.args.protein (site c.loop-a.a (c.loop-a.a + c.args.len) ∷ rest c) c.loop-a.k c.loop-a.out ≡ chosen_of c.args.letters.now c.args.protein (starting c.args.len c.args.from (c.args.to - c.args.from)) c.args.count c.args.out.now
 ahead c = rw (starts-on c.args.len c.loop-a.a c.args.to (omega arith)) at c.loop-a.invariant.3
@@ -42,13 +42,12 @@ pub loop-a-preserved : goal.loop-a-preserved
 loop-a-preserved c = let l = c.loop-a in
     let w = c.place in
     let t = c.times_where-times in
-    let x = c.write_placed in
-    let y = c.x-1.given in (
+    let x = c.write_placed in (
       omega arith,
       omega arith,
       t.ensures.0,
       sym (chosen-one-kept c.args.letters.now c.args.protein c.args.len l.a (l.a + c.args.len) w.result (rest (goal.at.loop-a-preserved c).In-loop-a) l.k l.out x.new.out refl (omega (arith, c.loop-a-test.true, c.requires.2)) (λ h. w.ensures ∙ c.requires.1.each l.a h) t.result t.ensures.1
-          y.0.0 (rw (y.1, placed_as (length c.args.letters.now) c.args.position c.args.protein (site l.a (l.a + c.args.len)) t.result (c.requires.5 l.a l.invariant.4 (omega (arith, c.loop-a-test.true)))) at x.ensures)) ∙ ahead (goal.at.loop-a-preserved c).In-loop-a,
+          c.in-Kept.x (rw (c.in-Kept.is, placed_as (length c.args.letters.now) c.args.position c.args.protein (site l.a (l.a + c.args.len)) t.result (c.requires.5 l.a l.invariant.4 (omega (arith, c.loop-a-test.true)))) at x.ensures)) ∙ ahead (goal.at.loop-a-preserved c).In-loop-a,
       omega (arith, l.invariant.4),
     )
 
