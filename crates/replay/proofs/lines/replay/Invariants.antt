@@ -5,7 +5,7 @@ use mathlib.Core.Path.{◌≡◌}
 use Rattle.replay.proofs.lines.replay.Given as goal
 
 abbrev pub invariant-loop-at : goal.invariant-loop-at
-invariant-loop-at l = (l.at ≤ length l.s + 1) × (length l.memory ≡ length l.initial.memory)
+invariant-loop-at g l = (l.at ≤ length l.s + 1) × (length l.memory ≡ length l.initial.memory)
 
 abbrev pub decreases-loop-at : goal.decreases-loop-at
-decreases-loop-at l = (length l.s + 1) - l.at
+decreases-loop-at g l = (length l.s + 1) - l.at
