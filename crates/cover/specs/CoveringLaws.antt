@@ -8,7 +8,7 @@ use Rattle.records.specs.Outcome.{outcome}
 use Rattle.cover_spec.specs.Cover.{cover_list, listed}
 use Rattle.cover_spec.specs.ListedLaws.{length-cover}
 use Rattle.cover_spec.specs.Marks.{handed}
-use Rattle.cover_spec.specs.MarkLaws.{handed-all, handed_short}
+use Rattle.cover_spec.proofs.MarkLaws.{handed-all, handed_short}
 use Rattle.cover_edges.specs.Edges.{edges_of}
 use Rattle.cover_walk.specs.Tables.{RunFits}
 use Rattle.cover_tests.specs.ReadyLaws.{CoverReady}

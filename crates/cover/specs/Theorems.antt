@@ -11,13 +11,13 @@ use Rattle.records.specs.declared.refusal.Tested.TheVariants.{Passed}
 use Rattle.cover_spec.specs.Cover.{Edge, group, meta, of_meta, cover, cover_list, same_edge}
 use Rattle.cover_spec.specs.Update.{touched}
 use Rattle.cover_spec.specs.CountLaws.{all-at, count_determined, find}
-use Rattle.cover_spec.specs.ConnectedLaws.{◌∈◌}
-use Rattle.cover_spec.specs.ChoiceLaws.{GroupsUnder}
+use Rattle.cover_spec.proofs.ConnectedLaws.{◌∈◌}
+use Rattle.cover_spec.proofs.ChoiceLaws.{GroupsUnder}
 use Rattle.cover_spec.specs.ListedLaws.{get_or_listed, bit_is, length-cover}
-use Rattle.cover_spec.specs.LocalityLaws.{cover_local}
-use Rattle.cover_spec.specs.UpdateLaws.{update_list_lem}
-use Rattle.cover_spec.specs.TouchedLaws.{Touched, touched-to, touched_of}
-use Rattle.cover_spec.specs.CoverLaws.{neighbour, Marking, cover_marking}
+use Rattle.cover_spec.proofs.LocalityLaws.{cover_local}
+use Rattle.cover_spec.proofs.UpdateLaws.{update_list_lem}
+use Rattle.cover_spec.proofs.TouchedLaws.{Touched, touched-to, touched_of}
+use Rattle.cover_spec.proofs.CoverLaws.{neighbour, Marking, cover_marking}
 use Rattle.cover_edges.specs.Edges.{edges_of}
 use Rattle.cover_edges.specs.EdgeLaws.{edges_under}
 use Rattle.cover.specs.Covering.{cover_marks}

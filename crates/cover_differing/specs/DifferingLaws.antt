@@ -12,7 +12,7 @@ use Rattle.lists.specs.FrameLaws.{Framed, framed_then, framed_within}
 use Rattle.lists.specs.KeepLaws.{all_map, count_append, none, all_both}
 use Rattle.cover_spec.specs.Cover.{Edge, group, meta, same_edge}
 use Rattle.cover_spec.specs.Update.{differs}
-use Rattle.cover_spec.specs.ConnectedLaws.{member-some}
+use Rattle.cover_spec.proofs.ConnectedLaws.{member-some}
 use Rattle.cover_edges.specs.ChainLaws.{chains_same}
 use Rattle.cover_edges.specs.Edges.{edges_to}
 use Rattle.cover_edges.specs.EdgeLaws.{edges-all}

@@ -3,7 +3,7 @@ use Rattle.std.specs.Prelude.{ℕ, zero, suc, ◌<◌, ◌≡◌, refl, List, []
 use Rattle.std.proofs.Common.{arith, ◌∙◌, length-append}
 use Rattle.lists.specs.Lists.{All}
 use Rattle.lists.specs.KeepLaws.{all_map}
-use Rattle.cover_spec.specs.ChoiceLaws.{GroupsUnder}
+use Rattle.cover_spec.proofs.ChoiceLaws.{GroupsUnder}
 use Rattle.cover_spec.specs.Cover.{Edge, group, meta}
 use Rattle.cover_edges.specs.Edges.{edge_at, edges_to}
 use Rattle.cover_edges.specs.RangeLaws.{InRange}

@@ -14,7 +14,7 @@ use Rattle.sorting_spec.specs.PartLaws.{slice-same}
 use Rattle.sorting_counting.specs.declared.places.Places.{Places}
 use Rattle.sorting_counting.specs.KeySorting.{Sortable, KeySorted}
 use Rattle.cover_spec.specs.Cover.{Edge, group, meta, of_group, of_meta, same_edge}
-use Rattle.cover_spec.specs.LevelLaws.{degree}
+use Rattle.cover_spec.proofs.LevelLaws.{degree}
 use Rattle.cover_edges.specs.Edges.{edges_to}
 use Rattle.cover_edges.specs.RangeLaws.{InRange}
 use Rattle.cover_edges.specs.EdgeLaws.{edges-all, length-edges}
@@ -23,7 +23,7 @@ use Rattle.cover_tables.specs.declared.areas.Areas.{Areas}
 use Rattle.cover_tables.specs.TableLaws.{Lists}
 use Rattle.cover_tables.specs.StepLaws.{WalkTables}
 use Rattle.cover_first.specs.FirstLaws.{group_at, meta_at}
-use Rattle.cover_levels.specs.KeyedLaws.{row_is, field_row, KeyLists, key-lists, key-lists-kept, lists_of, pairs_group, pairs_meta, group-order}
+use Rattle.cover_levels.specs.KeyedLaws.{row_is, field_row, KeyLists, key-lists, key-lists-kept, lists_of, pairs_group, pairs_meta}
 
 -- ---- where everything stands
 
@@ -183,10 +183,10 @@ pub record DegreeAt (p : ℕ) (v : List ℕ) (k d : ℕ) : Type 0 where
   pub is : get_or v (p + 1) 0 - get_or v p 0 ≡ d
 
 module _ {a : Areas} {bs : List ℕ} {k : ℕ} {w : List ℕ} (r : Layout a k w) (l : ListsMade a bs k w) where
-  group-lists : Lists (a.groups + a.metas + a.groups) a.go a.groups (λ x. of_group x (edges_to bs k)) (λ x y. count (same_edge (x, y)) (edges_to bs k)) w
+  pub group-lists : Lists (a.groups + a.metas + a.groups) a.go a.groups (λ x. of_group x (edges_to bs k)) (λ x y. count (same_edge (x, y)) (edges_to bs k)) w
   group-lists = lists_of group meta (edges_to bs k) (omega arith) (omega arith) (omega arith) (pairs_group (edges_to bs k)) l.by_group
 
-  meta-lists : Lists (a.groups + a.metas + a.groups) a.mo a.metas (λ x. of_meta x (edges_to bs k)) (λ x y. count (same_edge (y, x)) (edges_to bs k)) w
+  pub meta-lists : Lists (a.groups + a.metas + a.groups) a.mo a.metas (λ x. of_meta x (edges_to bs k)) (λ x y. count (same_edge (y, x)) (edges_to bs k)) w
   meta-lists = lists_of meta group (edges_to bs k) (omega arith) (omega arith) (omega arith) (pairs_meta (edges_to bs k)) l.by_meta
 
   -- while keys are put, the lists still say how many edges a group has
@@ -231,38 +231,3 @@ module _ {a : Areas} {bs : List ℕ} {k : ℕ} {w v : List ℕ} (r : Layout a k 
     under = λ i b. omega (arith, h.keys i b);
     zeros = λ x b. h.zeros x (omega arith);
   }
-
-  module _ {u z : List ℕ} (inp : InRange bs k a.groups a.metas) (l : ListsMade a bs k w) (x : KeySorted (rank_places a k) 0 v u) (len : length u ≡ length v)
-      (c : Puts (λ i. 0) 0 (a.groups + a.metas + a.groups) u z) where
-    abbrev es : List Edge
-    es = edges_to bs k
-
-    rank : ℕ → ℕ
-    rank g = k - of_group g es
-
-    down : ℕ → ℕ
-    down i = a.groups - 1 - i
-
-    long : length z ≡ length w
-    long = c.size ∙ len ∙ h.size
-
-    listed : ListsMade a bs k z
-    listed = lists-kept r long (λ y p q. c.rest y (inr (omega arith)) ∙ x.rest y (inr (omega arith)) (inl q) ∙ h.rest y (inr p)) l
-
-    sorted : slice a.od (a.od + a.groups) u ≡ slice a.od (a.od + a.groups) z
-    sorted = slice-same a.od (a.od + a.groups) u z (omega (arith, len, h.size)) (omega (arith, long)) (λ i p q. sym (c.rest i (inr (omega arith))))
-
-    pub ordered_tables : WalkTables a es z
-    unfolding rank down
-    ordered_tables = record {
-      bounds = edges-all bs k a.groups a.metas inp;
-      by_group = group-lists (layout_kept w z long r) listed;
-      by_meta = meta-lists (layout_kept w z long r) listed;
-      order = group-order a.groups k (degree a.groups es) (λ g. omega (arith, count-le (λ e. eqb (group e) g) es, length-edges bs k)) a.od z (omega (arith, long))
-          (sym sorted ∙ x.values ∙ rw (row_is (λ i. rank (down i)) 0 a.groups v (omega (arith, h.size)) h.keys ∙ sym (map-map rank down (up_from 0 a.groups)), row_is down (a.groups + a.metas) a.groups v (omega (arith, h.size)) h.numbers));
-      order_above = omega arith;
-      order-fits = omega (arith, long);
-    }
-
-    pub ordered_zeros : (y : ℕ) → y < a.groups + a.metas + a.groups → get_or z y 0 ≡ 0
-    ordered_zeros y b = ap (λ (t : ℕ). get_or z t 0) (sym (zero-add y)) ∙ c.put y (omega arith)

@@ -15,9 +15,10 @@ use Rattle.lists.specs.KeepLaws.{all_map, count_ext, count-keep, keep_ext, every
 use Rattle.lists.specs.Tests.{eqb-sym}
 use Rattle.cover_spec.specs.Cover.{Edge, group, meta, of_group, State, cover, same_edge}
 use Rattle.cover_spec.specs.CountLaws.{all-at}
-use Rattle.cover_spec.specs.TakeLaws.{taken_by, takes}
-use Rattle.cover_spec.specs.RunLaws.{after_turns}
-use Rattle.cover_spec.specs.LevelLaws.{GroupOrder, degree, remaining, At, after_lean, found_choice, passed-by, down, at-start, at_end}
+use Rattle.cover_spec.proofs.TakeLaws.{taken_by, takes}
+use Rattle.cover_spec.proofs.RunLaws.{after_turns}
+use Rattle.cover_spec.specs.Order.{GroupOrder}
+use Rattle.cover_spec.proofs.LevelLaws.{degree, remaining, At, after_lean, found_choice, passed-by, down, at-start, at_end}
 use Rattle.cover_tables.specs.declared.areas.Areas.{Areas}
 
 -- ---- counting

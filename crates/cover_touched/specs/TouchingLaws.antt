@@ -18,8 +18,8 @@ use Rattle.lists.specs.KeepLaws.{all_map, all-has, all_append, all_two, all_both
 use Rattle.cover_spec.specs.Cover.{Edge, group, meta, same_edge}
 use Rattle.cover_spec.specs.Update.{differs, touched}
 use Rattle.cover_spec.specs.CountLaws.{find}
-use Rattle.cover_spec.specs.ConnectedLaws.{here}
-use Rattle.cover_spec.specs.TouchedLaws.{Touched, touched_meta, touched-to, touched_of, touched_linked, flags_touched}
+use Rattle.cover_spec.proofs.ConnectedLaws.{here}
+use Rattle.cover_spec.proofs.TouchedLaws.{Touched, touched_meta, touched-to, touched_of, touched_linked, flags_touched}
 use Rattle.lists.specs.FrameLaws.{Framed, framed_within}
 use Rattle.cover_edges.specs.Edges.{edge_at, edges_to}
 use Rattle.cover_edges.specs.RangeLaws.{InRange}

@@ -13,8 +13,8 @@ use Rattle.lists.specs.KeepLaws.{all_map}
 use Rattle.lists.specs.InLaws.{count_in, none-count, is_in}
 use Rattle.sorting_spec.specs.Distinct.{distinct}
 use Rattle.cover_spec.specs.Cover.{Edge, group, meta, of_group, of_meta, cover}
-use Rattle.cover_spec.specs.ChoiceLaws.{GroupsUnder}
-use Rattle.cover_spec.specs.CoverLaws.{neighbour}
+use Rattle.cover_spec.proofs.ChoiceLaws.{GroupsUnder}
+use Rattle.cover_spec.proofs.CoverLaws.{neighbour}
 use Rattle.protein_groups_members.specs.Members.{Member}
 use Rattle.protein_groups_spec.specs.ProteinGroups.{Pair, Groups, edges_from}
 use Rattle.protein_groups_spec.specs.PackedGroups.{packed_proteins, packed_metas, lists, packed_member, packed_members, packed_groups, packed_grouping}

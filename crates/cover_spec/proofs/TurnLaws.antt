@@ -11,7 +11,7 @@ use Rattle.lists.specs.Tests.{neither}
 use Rattle.lists.specs.KeepLaws.{all_map, all_keep, keep_all, count_none}
 use Rattle.cover_spec.specs.Cover.{Edge, group, of_group, State, forced, mark_forced, stays, pass, trim_passes, trim, choice, mark, no_edges, choose, turn, turns}
 use Rattle.cover_spec.specs.TrimLaws.{iter, iter_fix, iter_still, stay_unmarked, pass_le, passes-iter, trim-iter, trim-trim, trim-le}
-use Rattle.cover_spec.specs.ChoiceLaws.{GroupsUnder, choice-has}
+use Rattle.cover_spec.proofs.ChoiceLaws.{GroupsUnder, choice-has}
 
 pub under_pass : (n : ℕ) (s : State) → GroupsUnder n s.edges → GroupsUnder n (pass s).edges
 unfolding pass

@@ -10,7 +10,7 @@ use Rattle.lists.specs.KeepLaws.{all_map}
 use Rattle.cover_spec.specs.Cover.{Edge, group, meta}
 use Rattle.cover_spec.specs.Update.{part_of, differs, touched}
 use Rattle.cover_spec.specs.CountLaws.{all-at, find}
-use Rattle.cover_spec.specs.ConnectedLaws.{◌∈◌, Connected, here, across, chain, edges_in, member-some, part_linked, part-has}
+use Rattle.cover_spec.proofs.ConnectedLaws.{◌∈◌, Connected, here, across, chain, edges_in, member-some, part_linked, part-has}
 
 -- the connected part of g is touched: some edge of it stands a different number of times in the two lists
 abbrev pub Touched : List Edge → List Edge → ℕ → Type 0

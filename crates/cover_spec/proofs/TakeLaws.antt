@@ -12,9 +12,9 @@ use Rattle.lists.specs.Lists.{count, some, keep, All}
 use Rattle.lists.specs.KeepLaws.{all_map, count_ext, keep_all, all-has, all_two, keep_ext, every}
 use Rattle.cover_spec.specs.Cover.{Edge, group, meta, State, forced, mark_forced, cover_marked, stays, pass, trim, choice, mark, no_edges, choose, turn}
 use Rattle.cover_spec.specs.TrimLaws.{iter, stay_unmarked, still_forced, trim_settled, trim-trim}
-use Rattle.cover_spec.specs.TurnLaws.{turn-empty, turn-choose}
-use Rattle.cover_spec.specs.CoverLaws.{Visited, visited_trim, visited_turn, chosen}
-use Rattle.cover_spec.specs.OneTrimLaws.{trim-once}
+use Rattle.cover_spec.proofs.TurnLaws.{turn-empty, turn-choose}
+use Rattle.cover_spec.proofs.CoverLaws.{Visited, visited_trim, visited_turn, chosen}
+use Rattle.cover_spec.proofs.OneTrimLaws.{trim-once}
 
 -- the group c takes all its meta-peptides
 unfoldable pub takes : List Edge → ℕ → ℕ → Bool

@@ -11,7 +11,7 @@ use Rattle.lists.specs.Lists.{count, some, keep, All}
 use Rattle.lists.specs.KeepLaws.{all_map, all_keep, count_ext, count-keep, length-count, length-keep, keep_same, none, all-has, all-kept, all_two, keep-keep, keep_ext}
 use Rattle.cover_spec.specs.Cover.{Edge, group, meta, of_meta, State, forced, mark_forced, cover_marked, stays, pass, trim, mark, choose}
 use Rattle.cover_spec.specs.TrimLaws.{iter, iter_fix, pass_still, trim-iter}
-use Rattle.cover_spec.specs.CoverLaws.{Visited, sound-run, begin, passed, chosen}
+use Rattle.cover_spec.proofs.CoverLaws.{Visited, sound-run, begin, passed, chosen}
 
 -- ---- the remaining edges are those of the uncovered meta-peptides
 

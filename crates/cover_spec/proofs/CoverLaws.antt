@@ -15,8 +15,8 @@ use Rattle.lists.specs.KeepLaws.{all_map, count_ext, count-keep, count-le, count
 use Rattle.cover_spec.specs.Cover.{Edge, group, meta, of_meta, State, forced, mark_forced, cover_marked, stays, pass, trim, choice, mark, choose, turn, turns, start, cover, same_edge}
 use Rattle.cover_spec.specs.CountLaws.{all-at, find, same-edge}
 use Rattle.cover_spec.specs.TrimLaws.{iter, passes-iter, trim_settled, trim-le}
-use Rattle.cover_spec.specs.ChoiceLaws.{GroupsUnder, choice-has}
-use Rattle.cover_spec.specs.TurnLaws.{under_pass, turn-empty, turn-choose, turns-iter, turns_end}
+use Rattle.cover_spec.proofs.ChoiceLaws.{GroupsUnder, choice-has}
+use Rattle.cover_spec.proofs.TurnLaws.{under_pass, turn-empty, turn-choose, turns-iter, turns_end}
 
 -- the states of a run
 module _ (n : ℕ) (all : List Edge) where

@@ -11,10 +11,10 @@ use Rattle.lists.specs.Lists.{count, All}
 use Rattle.lists.specs.Tests.{and_within}
 use Rattle.lists.specs.KeepLaws.{count_ext, length-count, count-le, count_none}
 use Rattle.cover_spec.specs.Cover.{Edge, group, of_group, State, pass, trim, choice, mark, choose, turn, start, cover}
-use Rattle.cover_spec.specs.PartLaws.{Closed, Part, part-pass}
+use Rattle.cover_spec.proofs.PartLaws.{Closed, Part, part-pass}
 use Rattle.cover_spec.specs.TrimLaws.{iter, trim-iter, trim-le}
-use Rattle.cover_spec.specs.ChoiceLaws.{Lex, lex_anti, lex_cast, greatest_lt, greatest-max, GroupsUnder, choice-has}
-use Rattle.cover_spec.specs.TurnLaws.{under_trim, turn-empty, turn-choose, turn-trim, turns-iter, under_turn, turns_end, same_end}
+use Rattle.cover_spec.proofs.ChoiceLaws.{Lex, lex_anti, lex_cast, greatest_lt, greatest-max, GroupsUnder, choice-has}
+use Rattle.cover_spec.proofs.TurnLaws.{under_trim, turn-empty, turn-choose, turn-trim, turns-iter, under_turn, turns_end, same_end}
 
 abbrev remaining : List Edge → ℕ → ℕ
 remaining l g = of_group g l

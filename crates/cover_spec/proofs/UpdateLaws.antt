@@ -11,12 +11,12 @@ use Rattle.lists.specs.KeepLaws.{all_map, all_keep, count_ext, count-keep, count
 use Rattle.cover_spec.specs.Cover.{Edge, group, meta, cover, cover_list, same_edge}
 use Rattle.cover_spec.specs.Update.{touched, update, update_list}
 use Rattle.cover_spec.specs.CountLaws.{count_determined, same-edge}
-use Rattle.cover_spec.specs.PartLaws.{Closed}
-use Rattle.cover_spec.specs.ChoiceLaws.{GroupsUnder}
-use Rattle.cover_spec.specs.LocalityLaws.{cover_local}
+use Rattle.cover_spec.proofs.PartLaws.{Closed}
+use Rattle.cover_spec.proofs.ChoiceLaws.{GroupsUnder}
+use Rattle.cover_spec.proofs.LocalityLaws.{cover_local}
 use Rattle.cover_spec.specs.ListedLaws.{get_or_listed, listed_ext, bit_is}
-use Rattle.cover_spec.specs.ConnectedLaws.{here}
-use Rattle.cover_spec.specs.TouchedLaws.{touched_meta, touched_of, touched_linked}
+use Rattle.cover_spec.proofs.ConnectedLaws.{here}
+use Rattle.cover_spec.proofs.TouchedLaws.{touched_meta, touched_of, touched_linked}
 
 module _ (n : ℕ) (old new : List Edge) where
   abbrev J : List Edge

@@ -9,11 +9,11 @@ use Rattle.std.proofs.Common.{◌∙◌, arith}
 use borrow.Author.Tests.{leb-true, leb-false, eq-eqb, ne_eqb}
 use Rattle.cover_spec.specs.Cover.{Edge, State, pass, trim, choice, turn, turns, start, cover}
 use Rattle.cover_spec.specs.TrimLaws.{iter, iter-after, iter_still, trim-le}
-use Rattle.cover_spec.specs.ChoiceLaws.{GroupsUnder}
-use Rattle.cover_spec.specs.TurnLaws.{trim-done, turns-iter, turns_end}
-use Rattle.cover_spec.specs.CoverLaws.{begin}
-use Rattle.cover_spec.specs.OneTrimLaws.{trim-once}
-use Rattle.cover_spec.specs.TakeLaws.{taken_by, take_turn, trim-turns}
+use Rattle.cover_spec.proofs.ChoiceLaws.{GroupsUnder}
+use Rattle.cover_spec.proofs.TurnLaws.{trim-done, turns-iter, turns_end}
+use Rattle.cover_spec.proofs.CoverLaws.{begin}
+use Rattle.cover_spec.proofs.OneTrimLaws.{trim-once}
+use Rattle.cover_spec.proofs.TakeLaws.{taken_by, take_turn, trim-turns}
 
 module _ (n : ℕ) (all : List Edge) where
   -- after the first pass and t choices

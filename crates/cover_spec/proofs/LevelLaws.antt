@@ -11,17 +11,13 @@ use Rattle.lists.specs.Tests.{both}
 use Rattle.lists.specs.Lists.{bit, count, keep}
 use Rattle.lists.specs.KeepLaws.{all_map, all_keep, count-keep, count-le, count_none, count_mono, all-has}
 use Rattle.cover_spec.specs.Cover.{Edge, group, meta, of_group, State, turn, greatest, choice, start, cover}
+use Rattle.cover_spec.specs.Order.{GroupOrder}
 use Rattle.cover_spec.specs.TrimLaws.{iter}
-use Rattle.cover_spec.specs.ChoiceLaws.{Lex, lex_anti, greatest-max, greatest_lt, GroupsUnder}
-use Rattle.cover_spec.specs.CoverLaws.{Visited, begin, visited_trim, visited_turn, sound-run}
-use Rattle.cover_spec.specs.OneTrimLaws.{lean}
-use Rattle.cover_spec.specs.TakeLaws.{taken_by, takes}
-use Rattle.cover_spec.specs.RunLaws.{after_turns, after-trim, after_more, after_last}
-
-pub record GroupOrder (n : ℕ) (o ord : ℕ → ℕ) : Type 0 where
-  pub below : (i : ℕ) → i < n → ord i < n
-  pub holds : (g : ℕ) → g < n → (i : ℕ) × (i < n) × (ord i ≡ g)
-  pub falls : (i j : ℕ) → i ≤ j → j < n → (o (ord j) ≤ o (ord i)) × (o (ord j) ≡ o (ord i) → ord j ≤ ord i)
+use Rattle.cover_spec.proofs.ChoiceLaws.{Lex, lex_anti, greatest-max, greatest_lt, GroupsUnder}
+use Rattle.cover_spec.proofs.CoverLaws.{Visited, begin, visited_trim, visited_turn, sound-run}
+use Rattle.cover_spec.proofs.OneTrimLaws.{lean}
+use Rattle.cover_spec.proofs.TakeLaws.{taken_by, takes}
+use Rattle.cover_spec.proofs.RunLaws.{after_turns, after-trim, after_more, after_last}
 
 -- Level top, place i: no group has more than top remaining edges, and those before place i have fewer.
 module _ (n : ℕ) (o ord : ℕ → ℕ) where
