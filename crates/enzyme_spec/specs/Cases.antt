@@ -7,7 +7,7 @@ use Rattle.records.specs.declared.refusal.Tested.{Tested}
 use Rattle.records.specs.declared.refusal.Tested.TheVariants.{Passed, Refused as RefusedBy}
 use Rattle.records.specs.Le.{le, number_at}
 use Rattle.records.specs.Outcome.{Outcome}
-use Rattle.records.specs.Cases.{Case, Hold, answered, refused_as, numbers, told}
+use Rattle.records.specs.Cases.{Case, Hold, answered, refused_as, told}
 use Rattle.records.specs.Room.{written}
 use Rattle.records.specs.Search.{seek}
 use Rattle.letters.specs.declared.letter_set.LetterSet.{LetterSet}

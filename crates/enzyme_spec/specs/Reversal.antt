@@ -1,6 +1,6 @@
 -- Document 01: `Digest::reverse` reverses the inner letters, on a record sets decoy to 1, and leaves decoys unchanged; a
 -- digest record with decoy 1 has its range's letters, all but first and last reversed.
-use Rattle.std.specs.Prelude.{ℕ, ◌-◌, ◌≡◌, cond, ◌&&◌, ◌||◌, List, [], ◌∷◌, length, take, drop, get_or, set, ltb, leb, eqb}
+use Rattle.std.specs.Prelude.{ℕ, ◌-◌, ◌≡◌, cond, ◌&&◌, ◌||◌, List, [], ◌∷◌, length, take, drop, set, ltb, leb, eqb}
 use Rattle.records.specs.declared.refusal.Refusal.TheVariants.{Size, Letter, Length, Field}
 use Rattle.records.specs.declared.refusal.Tested.{Tested}
 use Rattle.records.specs.declared.refusal.Tested.TheVariants.{Passed, Refused}
