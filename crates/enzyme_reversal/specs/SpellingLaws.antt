@@ -1,5 +1,5 @@
 -- Laws of the letters of a digest record. Assumes nothing.
-use Rattle.std.specs.Prelude.{ℕ, suc, ◌+◌, ◌-◌, ◌≤◌, ◌<◌, ◌≡◌, refl, Bool, true, false, cond, ◌&&◌, List, [], ◌∷◌, length, drop, get_or, set, ltb, leb, eqb}
+use Rattle.std.specs.Prelude.{ℕ, suc, ◌+◌, ◌≤◌, ◌<◌, ◌≡◌, refl, Bool, true, false, cond, ◌&&◌, List, [], ◌∷◌, length, drop, get_or, set, ltb, leb, eqb}
 use Rattle.std.proofs.Common.{ap, arith, one-mul, add-one, drop_of_length-le, drop-cons, ltb-true, ltb-false, leb-true}
 use Rattle.lists.specs.Tests.{both}
 use Rattle.records.specs.declared.refusal.Refusal.TheVariants.{Size, Letter, Length, Field, Room}

@@ -1,7 +1,7 @@
 -- `flip` meets its contract: the places outside i..j hold the reversed letters. Assumes nothing.
 use native.Mathlib.Omega.{arith}
 use lib.ListN.{length-set}
-use Rattle.enzyme_reversal.specs.ReversalLaws.{Flipped, flipped_start, flipped_turn, flipped_end}
+use Rattle.enzyme_reversal.specs.ReversalLaws.{flipped_start, flipped_turn, flipped_end}
 use Rattle.enzyme_reversal.proofs.reversal.flip.Goals as goal
 
 pub loop-i-init : goal.loop-i-init

@@ -1,7 +1,5 @@
 -- `flip` meets its contract: the places outside i..j hold the reversed letters. Assumes nothing.
-use native.Mathlib.Omega.{arith}
-use lib.ListN.{length-set}
-use Rattle.enzyme_reversal.specs.ReversalLaws.{Flipped, flipped_start, flipped_turn, flipped_end}
+use Rattle.enzyme_reversal.specs.ReversalLaws.{Flipped}
 use Rattle.enzyme_reversal.proofs.reversal.flip.Given as goal
 
 abbrev pub invariant-loop-i : goal.invariant-loop-i

@@ -1,13 +1,12 @@
 -- `spell` meets its contract: the first i letters stand. Assumes nothing.
 use native.Mathlib.Omega.{arith}
-use Prim.Native.Nat.{◌-◌, ◌/◌}
+use Prim.Native.Nat.{◌/◌}
 use native.Mathlib.Nat.{min-le_left}
-use mathlib.Core.Path.{◌≡◌, refl, ◌∙◌}
+use mathlib.Core.Path.{refl, ◌∙◌}
 use lib.ListN.{length, length-set}
-use Rattle.records.specs.Room.{room_of}
 use Rattle.letters.specs.Reversal.{letters_of}
 use Rattle.letters.specs.ReversalLaws.{length-letters}
-use Rattle.enzyme_reversal.specs.SpellingLaws.{Spelling, spelling_start, spelling_turn, spelling_full, spelling_done}
+use Rattle.enzyme_reversal.specs.SpellingLaws.{spelling_start, spelling_turn, spelling_full, spelling_done}
 use Rattle.enzyme_reversal.proofs.spelling.spell.Goals as goal
 
 pub loop-i-init : goal.loop-i-init

@@ -1,13 +1,10 @@
 -- `spell` meets its contract: the first i letters stand. Assumes nothing.
-use native.Mathlib.Omega.{arith}
-use Prim.Native.Nat.{◌-◌, ◌/◌}
-use native.Mathlib.Nat.{min-le_left}
-use mathlib.Core.Path.{◌≡◌, refl, ◌∙◌}
-use lib.ListN.{length, length-set}
+use Prim.Native.Nat.{◌-◌}
+use mathlib.Core.Path.{◌≡◌}
+use lib.ListN.{length}
 use Rattle.records.specs.Room.{room_of}
 use Rattle.letters.specs.Reversal.{letters_of}
-use Rattle.letters.specs.ReversalLaws.{length-letters}
-use Rattle.enzyme_reversal.specs.SpellingLaws.{Spelling, spelling_start, spelling_turn, spelling_full, spelling_done}
+use Rattle.enzyme_reversal.specs.SpellingLaws.{Spelling}
 use Rattle.enzyme_reversal.proofs.spelling.spell.Given as goal
 
 abbrev pub invariant-loop-i : goal.invariant-loop-i
