@@ -1,5 +1,5 @@
 // Reads sequence files (FASTA) one entry after the other: a reader keeps the lent bytes and its place. The work is done by
-// `fasta::read_entry`; each function over a reader is proved by hand, by a walk of its MIR.
+// `fasta::read_entry`.
 #![tactic(auto)]
 
 mod places;
