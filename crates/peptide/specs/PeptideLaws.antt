@@ -68,8 +68,8 @@ module _ (letters form : List ℕ) where
 
 -- what the tests found is told of what was made
 pub tested_of : (t : Tested) (new other : Peptide) → (made_or t new other).tested ≡ t
-tested_of Tested.Passed new other = refl
-tested_of (Tested.Refused why) new other = refl
+tested_of Tested.Passed p other = refl
+tested_of (Tested.Refused why) p other = refl
 
 -- where tests refuse, no peptide is made
 pub made-refused : (t : Tested) (why : Refusal) (p : Peptide) → t ≡ Tested.Refused why → made_or (Tested.Refused why) no_peptide no_peptide ≡ made_or t p no_peptide
