@@ -9,7 +9,7 @@ use Rattle.std.proofs.Common.{◌∙◌, arith}
 use borrow.Author.Tests.{eqb-true, eqb-false, eq-eqb, lt-ltb, not-true}
 use Rattle.lists.specs.Tests.{both, neither}
 use Rattle.lists.specs.Lists.{count, some, keep, All}
-use Rattle.lists.specs.KeepLaws.{all_map, count_ext, keep_all, all-has, all_two, keep_ext, every}
+use Rattle.lists.specs.KeepLaws.{all_map, count_ext, keep_all, all-has, all_two, keep_ext}
 use Rattle.cover_spec.specs.Cover.{Edge, group, meta, State, forced, mark_forced, cover_marked, stays, pass, trim, choice, mark, no_edges, choose, turn}
 use Rattle.cover_spec.specs.TrimLaws.{iter, stay_unmarked, still_forced, trim_settled, trim-trim}
 use Rattle.cover_spec.proofs.TurnLaws.{turn-empty, turn-choose}

@@ -1,9 +1,8 @@
 -- `clear_marks` meets its contract. Assumes nothing.
-use Prim.Native.Nat.{◌≤◌, ◌<◌, ◌-◌}
+use Prim.Native.Nat.{◌<◌}
 use native.Mathlib.Omega.{arith}
 use mathlib.Core.Path.{◌≡◌, ◌∙◌}
-use mathlib.Core.List.{◌++◌}
-use lib.ListN.{length, replicate, drop, length-set}
+use lib.ListN.{length, length-set}
 use Rattle.cover_edges.specs.TableLaws.{fill_done}
 use borrow.Author.Fill.{fill_more}
 use Rattle.cover_edges.proofs.clearing.clear_marks.Goals as goal

@@ -1,11 +1,9 @@
 -- `link` meets its contract. Assumes nothing.
 use Prim.Native.Nat.{ℕ, ◌+◌, ◌-◌, ◌≤◌}
-use native.Mathlib.Omega.{arith}
-use mathlib.Core.Path.{◌≡◌, refl, ◌∙◌}
+use mathlib.Core.Path.{◌≡◌}
 use lib.ListN.{length, get_or}
 use Rattle.lists.specs.FrameLaws.{Out}
 use Rattle.cover_edges.specs.Chains.{Chains}
-use Rattle.cover_edges.specs.ChainLaws.{link_start, link_turn, link_rest}
 use Rattle.cover_edges.proofs.linking.link.Given as goal
 
 abbrev pub invariant-loop-i : goal.invariant-loop-i

@@ -1,9 +1,8 @@
 -- `first_bad_edge` meets its contract: the count is answered at the end, so i does not pass it. Assumes nothing.
-use Prim.Native.Nat.{◌≤◌, ◌-◌}
 use mathlib.Core.Path.{sym, ◌∙◌}
 use native.Mathlib.Omega.{arith}
-use Rattle.records.specs.SeekingLaws.{Seeking, seeking_all, seeking_stop, seeking_on, seeking_end}
-use Rattle.cover_edges.specs.Edges.{edge_at, bad_edge, edge_count, first_bad_edge}
+use Rattle.records.specs.SeekingLaws.{seeking_all, seeking_stop, seeking_on, seeking_end}
+use Rattle.cover_edges.specs.Edges.{first_bad_edge}
 use Rattle.cover_edges.proofs.range.first_bad_edge.Goals as goal
 
 pub loop-i-init : goal.loop-i-init

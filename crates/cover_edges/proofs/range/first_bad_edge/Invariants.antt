@@ -1,8 +1,6 @@
 -- `first_bad_edge` meets its contract: the count is answered at the end, so i does not pass it. Assumes nothing.
 use Prim.Native.Nat.{◌≤◌, ◌-◌}
-use mathlib.Core.Path.{sym, ◌∙◌}
-use native.Mathlib.Omega.{arith}
-use Rattle.records.specs.SeekingLaws.{Seeking, seeking_all, seeking_stop, seeking_on, seeking_end}
+use Rattle.records.specs.SeekingLaws.{Seeking}
 use Rattle.cover_edges.specs.Edges.{edge_at, bad_edge, edge_count, first_bad_edge}
 use Rattle.cover_edges.proofs.range.first_bad_edge.Given as goal
 

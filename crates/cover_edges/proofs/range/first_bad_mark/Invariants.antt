@@ -1,9 +1,7 @@
 -- `first_bad_mark` meets its contract. Assumes nothing.
 use Prim.Native.Nat.{◌-◌}
-use native.Mathlib.Omega.{arith}
 use lib.ListN.{length}
-use borrow.Author.Tests.{lt-ltb, le-ltb}
-use Rattle.records.specs.SeekingLaws.{Seeking, seeking_all, seeking_stop, seeking_on, seeking_end}
+use Rattle.records.specs.SeekingLaws.{Seeking}
 use Rattle.cover_edges.specs.Edges.{bad_mark, first_bad_mark}
 use Rattle.cover_edges.proofs.range.first_bad_mark.Given as goal
 

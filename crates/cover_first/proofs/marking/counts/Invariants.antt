@@ -1,12 +1,6 @@
 -- `counts` meets its contract. Assumes nothing.
-use mathlib.Core.Path.{subst}
-use mathlib.Core.Bool.{Bool, true, false, not}
-use Prim.Native.Nat.{ℕ, ◌+◌, ◌-◌, ◌≤◌, ◌<◌}
-use native.Mathlib.Omega.{arith}
-use lib.Dec.{eqb}
-use lib.ListN.{length, get_or}
-use Rattle.cover_first.specs.FirstLaws.{group_at, OpenCounted, raised-start, is_open, counted_inside, counted_step}
-use Rattle.lists.specs.Lists.{bit}
+use Prim.Native.Nat.{◌-◌, ◌≤◌}
+use Rattle.cover_first.specs.FirstLaws.{OpenCounted}
 use Rattle.cover_first.proofs.marking.counts.Given as goal
 
 abbrev pub invariant-loop-i : goal.invariant-loop-i

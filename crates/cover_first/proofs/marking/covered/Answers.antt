@@ -1,9 +1,9 @@
 -- `covered` meets its contract. Assumes nothing.
 use mathlib.Core.Path.{◌≡◌}
-use Prim.Native.Nat.{◌+◌, ◌-◌, ◌≤◌, ◌<◌}
+use Prim.Native.Nat.{◌+◌, ◌<◌}
 use native.Mathlib.Omega.{arith}
 use lib.ListN.{length}
-use Rattle.cover_first.specs.FirstLaws.{meta_at, Covered, flags_start, in_marked, covered_inside, covered_step}
+use Rattle.cover_first.specs.FirstLaws.{meta_at, flags_start, in_marked, covered_inside, covered_step}
 use Rattle.cover_first.proofs.marking.covered.Goals.{After-meta_of-x}
 use Rattle.cover_first.proofs.marking.covered.Goals as goal
 

@@ -1,9 +1,6 @@
 -- `covered` meets its contract. Assumes nothing.
-use mathlib.Core.Path.{◌≡◌}
-use Prim.Native.Nat.{◌+◌, ◌-◌, ◌≤◌, ◌<◌}
-use native.Mathlib.Omega.{arith}
-use lib.ListN.{length}
-use Rattle.cover_first.specs.FirstLaws.{meta_at, Covered, flags_start, in_marked, covered_inside, covered_step}
+use Prim.Native.Nat.{◌-◌, ◌≤◌}
+use Rattle.cover_first.specs.FirstLaws.{Covered}
 use Rattle.cover_first.proofs.marking.covered.Given as goal
 
 abbrev pub invariant-loop-i : goal.invariant-loop-i

@@ -1,9 +1,9 @@
 -- `forced` meets its contract. Assumes nothing.
 use mathlib.Core.Path.{◌≡◌}
-use Prim.Native.Nat.{◌+◌, ◌-◌, ◌≤◌, ◌<◌}
+use Prim.Native.Nat.{◌+◌, ◌≤◌, ◌<◌}
 use native.Mathlib.Omega.{arith}
 use lib.ListN.{length, get_or}
-use Rattle.cover_first.specs.FirstLaws.{group_at, Forced, flags_start, only_edge, forced_inside, forced_step}
+use Rattle.cover_first.specs.FirstLaws.{group_at, flags_start, only_edge, forced_inside, forced_step}
 use Rattle.cover_first.proofs.marking.forced.Goals.{After-meta_of-x}
 use Rattle.cover_first.proofs.marking.forced.Goals as goal
 

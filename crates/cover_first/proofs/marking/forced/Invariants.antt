@@ -1,9 +1,6 @@
 -- `forced` meets its contract. Assumes nothing.
-use mathlib.Core.Path.{◌≡◌}
-use Prim.Native.Nat.{◌+◌, ◌-◌, ◌≤◌, ◌<◌}
-use native.Mathlib.Omega.{arith}
-use lib.ListN.{length, get_or}
-use Rattle.cover_first.specs.FirstLaws.{group_at, Forced, flags_start, only_edge, forced_inside, forced_step}
+use Prim.Native.Nat.{◌-◌, ◌≤◌}
+use Rattle.cover_first.specs.FirstLaws.{Forced}
 use Rattle.cover_first.proofs.marking.forced.Given as goal
 
 abbrev pub invariant-loop-i : goal.invariant-loop-i

@@ -1,8 +1,8 @@
 -- `lower` meets its contract. Assumes nothing.
-use Prim.Native.Nat.{◌-◌, ◌<◌}
+use Prim.Native.Nat.{◌<◌}
 use native.Mathlib.Omega.{arith}
 use lib.ListN.{length}
-use Rattle.cover_tables.specs.TableLaws.{Lowered, lowered_start, lowered_inside, lowered_some, lowered_step, lowered_end}
+use Rattle.cover_tables.specs.TableLaws.{lowered_start, lowered_inside, lowered_some, lowered_step, lowered_end}
 use Rattle.cover_taking.proofs.taking.lower.Goals.{After-wide-g}
 use Rattle.cover_taking.proofs.taking.lower.Goals as goal
 

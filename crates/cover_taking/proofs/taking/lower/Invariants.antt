@@ -1,8 +1,6 @@
 -- `lower` meets its contract. Assumes nothing.
-use Prim.Native.Nat.{◌-◌, ◌<◌}
-use native.Mathlib.Omega.{arith}
-use lib.ListN.{length}
-use Rattle.cover_tables.specs.TableLaws.{Lowered, lowered_start, lowered_inside, lowered_some, lowered_step, lowered_end}
+use Prim.Native.Nat.{◌-◌}
+use Rattle.cover_tables.specs.TableLaws.{Lowered}
 use Rattle.cover_taking.proofs.taking.lower.Given as goal
 
 abbrev pub invariant-loop-p : goal.invariant-loop-p

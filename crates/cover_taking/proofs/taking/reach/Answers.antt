@@ -1,9 +1,8 @@
 -- `reach` meets its contract. Assumes nothing.
-use mathlib.Core.Path.{◌≡◌}
-use Prim.Native.Nat.{◌+◌, ◌-◌, ◌<◌}
+use Prim.Native.Nat.{◌+◌, ◌<◌}
 use native.Mathlib.Omega.{arith}
-use lib.ListN.{length, get_or}
-use Rattle.cover_tables.specs.StepLaws.{Reaching, reaching_lists, reaching_start, reaching_inside, reaching_meta, reaching_step, reaches}
+use lib.ListN.{length}
+use Rattle.cover_tables.specs.StepLaws.{reaching_lists, reaching_start, reaching_inside, reaching_meta, reaching_step, reaches}
 use Rattle.cover_edges.specs.Edges.{edges_to}
 use Rattle.cover_taking.proofs.taking.reach.Goals.{In-loop-p, Start}
 use Rattle.cover_taking.proofs.taking.reach.Goals as goal
