@@ -5,7 +5,7 @@ use Rattle.records.specs.declared.refusal.Tested.{Tested}
 use Rattle.records.specs.declared.refusal.Tested.TheVariants.{Refused}
 use Rattle.records.specs.Search.{seek}
 use Rattle.records.specs.Tested.{and_then, field_tested}
-use Rattle.protein_groups_spec.specs.ProteinGroups.{Pair, pair_at, grouping}
+use Rattle.protein_groups_spec.specs.ProteinGroups.{Pair, pair_at}
 
 -- 1: more than 1,048,576 pairs, counted in whole records, 262,144 peptides or 65,536 proteins
 abbrev pub too_large : List ℕ → ℕ → ℕ → Bool

@@ -9,7 +9,7 @@ use Rattle.records.specs.declared.refusal.Tested.TheVariants.{Passed}
 use Rattle.records.specs.TestedLaws.{passed-both, passed_first, passed-field}
 use Rattle.cover_edges.specs.Edges.{first_bad_edge, first_bad_mark}
 use Rattle.cover_edges.specs.RangeLaws.{in_range, all_bits}
-use Rattle.protein_groups_spec.specs.ProteinGroups.{proteins, grouping, pair_at}
+use Rattle.protein_groups_spec.specs.ProteinGroups.{proteins, pair_at}
 
 -- what is known where the tests passed
 pub record PairsReady (pairs flags : List ℕ) (peptides proteins words : ℕ) : Type 0 where

@@ -1,15 +1,14 @@
 -- What a call of `report_line` makes of a table, and what its answer is. Assumes nothing.
-use Rattle.std.specs.Prelude.{ℕ, ◌+◌, ◌*◌, ◌/◌, ◌≤◌, ◌<◌, ◌≡◌, refl, Bool, true, false, cond, ◌&&◌, List, [], ◌∷◌, length, get_or, replicate, leb, eqb}
-use Rattle.std.proofs.Common.{ap, ◌∙◌, ⊎_elim, arith, leb-true}
-use Rattle.std.proofs.lemmas.List.{length-replicate, get_or-replicate}
-use Rattle.std.proofs.Math.ListN.{get_or-eq_default}
+use Rattle.std.specs.Prelude.{ℕ, ◌+◌, ◌*◌, ◌/◌, ◌≤◌, ◌≡◌, refl, Bool, true, false, cond, ◌&&◌, List, [], ◌∷◌, length, get_or, replicate, leb, eqb}
+use Rattle.std.proofs.Common.{ap, ◌∙◌, arith, leb-true}
+use Rattle.std.proofs.lemmas.List.{length-replicate}
 use Rattle.std.proofs.lemmas.Bool.{not-true}
 use Rattle.lists.specs.FrameLaws.{zeros_at}
 use Rattle.report_lines_tests.specs.Testing.{contents, tested}
 use Rattle.catalogue_repeats.specs.Repeating.{cleared}
 use Rattle.catalogue_names.specs.NamesInLaws.{names_in}
 use Rattle.catalogue_repeats.specs.RepeatingLaws.{length-cleared, cleared_zeros}
-use Rattle.lists.specs.Tests.{below?, both}
+use Rattle.lists.specs.Tests.{both}
 use Rattle.records.specs.declared.refusal.Refusal.TheVariants.{Room}
 use Rattle.records.specs.declared.refusal.Tested.{Tested}
 use Rattle.records.specs.declared.refusal.Tested.TheVariants.{Passed, Refused}

@@ -1,6 +1,6 @@
 -- What is known where the tests of a report line passed. Assumes nothing.
 use Rattle.std.specs.Prelude.{ℕ, ◌+◌, ◌*◌, ◌/◌, ◌%◌, ◌≤◌, ◌<◌, ◌≡◌, refl, Bool, true, false, cond, not, ◌&&◌, ◌||◌, List, length, get_or, ltb, leb, eqb}
-use Rattle.std.proofs.Common.{ap₂, ◌∙◌, arith, ltb-true, ltb-false, leb-true, leb-false, eqb-true}
+use Rattle.std.proofs.Common.{ap₂, ◌∙◌, ltb-true, ltb-false, leb-true, leb-false, eqb-true}
 use Rattle.std.proofs.lemmas.Bool.{not-false}
 use Rattle.report_lines_tests.specs.Testing.{too_large, uneven, members_tested, marks_tested, bad_protein, first_bad_protein, list_tested, bad_tag_byte, first_bad_tag_byte, tag_tested, lists_tested, contents, tested}
 use Rattle.lists.specs.Tests.{both, neither}

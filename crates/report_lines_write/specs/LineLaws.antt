@@ -1,5 +1,5 @@
 -- Groups that stand as stretches: the line that the code reads off is document 01's. Assumes nothing.
-use Rattle.std.specs.Prelude.{ℕ, zero, suc, ◌+◌, ◌-◌, ◌*◌, ◌/◌, ◌%◌, ◌≤◌, ◌<◌, ◌≡◌, refl, Bool, true, false, cond, ◌&&◌, ◌⊎◌, ltb, eqb, get_or, take, drop, replicate}
+use Rattle.std.specs.Prelude.{ℕ, zero, suc, ◌+◌, ◌-◌, ◌*◌, ◌/◌, ◌%◌, ◌≤◌, ◌<◌, ◌≡◌, refl, Bool, true, false, cond, ◌&&◌, ltb, eqb, get_or, take, drop, replicate}
 use Rattle.std.proofs.Common.{sym, ◌∙◌, ⊎_elim, arith, add-one, ltb-true, lt-ltb, le-ltb, eq-eqb, ne_eqb, length-append, length-take, length-drop, take_all, take-take, drop_at, get_or-take, get_or-drop, ext_get_or, length-take-le, get_or-append-add}
 use Rattle.std.proofs.Math.Path.{ap}
 use mathlib.Core.List.{List, [], ◌∷◌, ◌++◌, flatten, map, map-map}

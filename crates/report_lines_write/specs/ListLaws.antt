@@ -1,5 +1,5 @@
 -- Laws of lists. Assumes nothing.
-use Rattle.std.specs.Prelude.{ℕ, suc, ◌+◌, ◌≡◌, refl, Bool, true, false, cond, length}
+use Rattle.std.specs.Prelude.{ℕ, suc, ◌≡◌, refl, Bool, true, false, cond, length}
 use Rattle.std.proofs.Common.{ap, ◌∙◌, zero-add}
 use mathlib.Core.List.{List, [], ◌∷◌, ◌++◌, flatten, map, map-append}
 use Rattle.records.specs.RoomLaws.{flatten_append, flatten_one}

@@ -1,5 +1,5 @@
 -- The last entry of each stretch marked, and where stretches begin: the turns of the code. Assumes nothing.
-use Rattle.std.specs.Prelude.{ℕ, zero, suc, ◌+◌, ◌-◌, ◌*◌, ◌%◌, ◌≤◌, ◌<◌, ◌≡◌, refl, Bool, cond, ◌⊎◌, ltb, length, get_or, set, take, drop}
+use Rattle.std.specs.Prelude.{ℕ, zero, suc, ◌+◌, ◌-◌, ◌*◌, ◌%◌, ◌≤◌, ◌<◌, ◌≡◌, refl, Bool, cond, ltb, length, get_or, set, take, drop}
 use Rattle.std.proofs.Common.{sym, ap, ◌∙◌, ⊎_elim, arith, add-one, lt-ltb, le-ltb, length-set, take-suc-set, drop-set-lt, get_or-set_other}
 use mathlib.Core.List.{List, [], ◌∷◌, ◌++◌, flatten, map, append_assoc, append-nil}
 use Rattle.std.proofs.Math.Seq.{slice, slice_empty}

@@ -1,5 +1,5 @@
 -- How long a line is. Assumes nothing.
-use Rattle.std.specs.Prelude.{ℕ, zero, suc, ◌+◌, ◌*◌, ◌≤◌, ◌<◌, ◌≡◌, Bool, cond, ◌⊎◌, List, [], ◌∷◌, ◌++◌, map, length, drop}
+use Rattle.std.specs.Prelude.{ℕ, zero, suc, ◌+◌, ◌*◌, ◌≤◌, ◌<◌, ◌≡◌, Bool, cond, List, [], ◌∷◌, ◌++◌, map, length, drop}
 use Rattle.std.proofs.Common.{sym, ◌∙◌, ⊎_elim, append-nil, arith, add-one, lt-ltb, le-ltb, length-append}
 use Rattle.lists.specs.Tests.{below?}
 use Rattle.sorting_spec.specs.Sort.{sorted}

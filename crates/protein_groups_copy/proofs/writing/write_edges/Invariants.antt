@@ -1,11 +1,8 @@
 -- `write_edges` meets its contract: what is still to be written gives the whole. Assumes nothing.
 use Prim.Native.Nat.{◌-◌}
-use native.Mathlib.Omega.{arith}
-use mathlib.Core.Path.{◌∙◌}
-use Rattle.protein_groups_spec.specs.Rows.{standing_edge, standing_edges}
+use Rattle.protein_groups_spec.specs.Rows.{standing_edge}
 use Rattle.cover_edges.specs.Edges.{edge_bytes}
-use Rattle.cover_edges.specs.BackLaws.{sized_edges}
-use Rattle.protein_groups_copy.specs.WritingLaws.{WrittenTo, writing_none, writing_more, writing_end}
+use Rattle.protein_groups_copy.specs.WritingLaws.{WrittenTo}
 use Rattle.protein_groups_copy.proofs.writing.write_edges.Given as goal
 
 abbrev pub invariant-loop-i : goal.invariant-loop-i

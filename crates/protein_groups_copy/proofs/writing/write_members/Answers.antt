@@ -1,11 +1,10 @@
 -- `write_members` meets its contract: what is still to be written gives the whole. Assumes nothing.
-use Prim.Native.Nat.{◌-◌}
 use native.Mathlib.Omega.{arith}
 use mathlib.Core.Path.{◌∙◌}
 use Rattle.protein_groups_spec.specs.Rows.{standing_member, standing_members}
 use Rattle.protein_groups_members.specs.Members.{member_bytes}
 use Rattle.protein_groups_members.specs.MemberLaws.{sized_members}
-use Rattle.protein_groups_copy.specs.WritingLaws.{WrittenTo, writing_none, writing_more, writing_end}
+use Rattle.protein_groups_copy.specs.WritingLaws.{writing_none, writing_more, writing_end}
 use Rattle.protein_groups_copy.proofs.writing.write_members.Goals as goal
 
 pub loop-j-init : goal.loop-j-init

@@ -1,11 +1,8 @@
 -- `write_members` meets its contract: what is still to be written gives the whole. Assumes nothing.
 use Prim.Native.Nat.{◌-◌}
-use native.Mathlib.Omega.{arith}
-use mathlib.Core.Path.{◌∙◌}
-use Rattle.protein_groups_spec.specs.Rows.{standing_member, standing_members}
+use Rattle.protein_groups_spec.specs.Rows.{standing_member}
 use Rattle.protein_groups_members.specs.Members.{member_bytes}
-use Rattle.protein_groups_members.specs.MemberLaws.{sized_members}
-use Rattle.protein_groups_copy.specs.WritingLaws.{WrittenTo, writing_none, writing_more, writing_end}
+use Rattle.protein_groups_copy.specs.WritingLaws.{WrittenTo}
 use Rattle.protein_groups_copy.proofs.writing.write_members.Given as goal
 
 abbrev pub invariant-loop-j : goal.invariant-loop-j

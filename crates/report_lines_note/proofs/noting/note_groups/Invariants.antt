@@ -1,14 +1,11 @@
 -- `note_groups` meets its contract. Assumes nothing.
-use Prim.Native.Nat.{ℕ, ◌+◌, ◌*◌, ◌-◌, ◌≤◌, ◌<◌}
-use native.Mathlib.Omega.{arith}
-use mathlib.Core.Path.{◌≡◌, refl, ◌∙◌}
+use Prim.Native.Nat.{ℕ, ◌-◌, ◌≤◌, ◌<◌}
+use mathlib.Core.Path.{◌≡◌}
 use mathlib.Core.Bool.{cond}
 use mathlib.Core.List.{List}
 use lib.ListN.{length, get_or}
 use Rattle.lists.specs.Lists.{occurs}
-use Rattle.records.specs.Le.{number_at}
 use Rattle.report_lines_note.specs.Noting.{first_members, Flagged}
-use Rattle.report_lines_note.specs.NoteLaws.{flag_none, flag_turn}
 use Rattle.report_lines_note.proofs.noting.note_groups.Given as goal
 
 abbrev pub invariant-loop-i : goal.invariant-loop-i

@@ -1,9 +1,8 @@
 -- `note_list` meets its contract. Assumes nothing.
-use Prim.Native.Nat.{◌-◌, ◌≤◌, ◌<◌}
+use Prim.Native.Nat.{◌<◌}
 use native.Mathlib.Omega.{arith}
-use mathlib.Core.Path.{◌≡◌, refl, ◌∙◌}
-use lib.ListN.{length, get_or, take, length-set}
-use Rattle.report_lines_note.specs.Noting.{ListNoted}
+use mathlib.Core.Path.{refl, ◌∙◌}
+use lib.ListN.{get_or, length-set}
 use Rattle.report_lines_note.specs.NoteLaws.{list_none, list_more, list_all}
 use Rattle.report_lines_note.proofs.noting.note_list.Goals.{After-shared_slice_known-1}
 use Rattle.report_lines_note.proofs.noting.note_list.Goals as goal

@@ -1,10 +1,8 @@
 -- `note_list` meets its contract. Assumes nothing.
-use Prim.Native.Nat.{◌-◌, ◌≤◌, ◌<◌}
-use native.Mathlib.Omega.{arith}
-use mathlib.Core.Path.{◌≡◌, refl, ◌∙◌}
-use lib.ListN.{length, get_or, take, length-set}
+use Prim.Native.Nat.{◌-◌, ◌≤◌}
+use mathlib.Core.Path.{◌≡◌}
+use lib.ListN.{length, take}
 use Rattle.report_lines_note.specs.Noting.{ListNoted}
-use Rattle.report_lines_note.specs.NoteLaws.{list_none, list_more, list_all}
 use Rattle.report_lines_note.proofs.noting.note_list.Given as goal
 
 abbrev pub invariant-loop-i : goal.invariant-loop-i

@@ -1,9 +1,7 @@
 -- `first_bad_protein` meets its contract. Assumes nothing.
 use Prim.Native.Nat.{◌-◌}
-use native.Mathlib.Omega.{arith}
 use lib.ListN.{length}
-use borrow.Author.Tests.{le-leb, lt-leb}
-use Rattle.records.specs.SeekingLaws.{Seeking, seeking_all, seeking_stop, seeking_on, seeking_end}
+use Rattle.records.specs.SeekingLaws.{Seeking}
 use Rattle.report_lines_tests.specs.Testing.{bad_protein, first_bad_protein}
 use Rattle.report_lines_tests.proofs.tests.first_bad_protein.Given as goal
 

@@ -1,9 +1,7 @@
 -- `first_bad_tag_byte` meets its contract. Assumes nothing.
 use Prim.Native.Nat.{◌-◌}
-use mathlib.Core.Path.{sym, ◌∙◌}
-use native.Mathlib.Omega.{arith}
 use lib.ListN.{length}
-use Rattle.records.specs.SeekingLaws.{Seeking, seeking_all, seeking_stop, seeking_on, seeking_end}
+use Rattle.records.specs.SeekingLaws.{Seeking}
 use Rattle.report_lines_tests.specs.Testing.{bad_tag_byte, first_bad_tag_byte}
 use Rattle.report_lines_tests.proofs.tests.first_bad_tag_byte.Given as goal
 

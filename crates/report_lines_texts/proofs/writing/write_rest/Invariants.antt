@@ -1,9 +1,8 @@
 -- `write_rest` meets its contract: the texts from i on are still to come. Assumes nothing.
 use Prim.Native.Nat.{◌-◌}
 use lib.ListN.{length}
-use native.Mathlib.Omega.{arith}
 use Rattle.sorting_texts.specs.Text.{joined_text}
-use Rattle.report_lines_texts.specs.WriteLaws.{Coming, after_from, coming_all, coming_done, coming_length, after-length, after_turn, after_last}
+use Rattle.report_lines_texts.specs.WriteLaws.{Coming, after_from}
 use Rattle.report_lines_texts.proofs.writing.write_rest.Given as goal
 
 abbrev pub invariant-loop-i : goal.invariant-loop-i

@@ -1,8 +1,6 @@
 -- `write_text` meets its contract: what is left of the walk is still to come. Assumes nothing.
-use lib.ListN.{length}
 use native.Mathlib.Omega.{arith}
-use Rattle.sorting_texts.specs.Walk.{left_from}
-use Rattle.report_lines_texts.specs.WalkLaws.{Writing, writing_start, writing_length, writing_done, writing_byte, writing_less, writing_fits, writing_on}
+use Rattle.report_lines_texts.specs.WalkLaws.{writing_start, writing_length, writing_done, writing_byte, writing_less, writing_fits, writing_on}
 use Rattle.report_lines_texts.proofs.writing.write_text.Goals as goal
 
 pub loop-step-init : goal.loop-step-init

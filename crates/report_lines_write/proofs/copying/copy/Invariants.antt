@@ -1,8 +1,6 @@
 -- `copy` meets its contract: after i turns i numbers are copied. Assumes nothing.
 use Prim.Native.Nat.{◌≤◌, ◌-◌}
-use mathlib.Core.Path.{◌≡◌}
-use native.Mathlib.Omega.{arith}
-use Rattle.report_lines_write.specs.CopyLaws.{NumbersCopied, copied-zero, copied_next}
+use Rattle.report_lines_write.specs.CopyLaws.{NumbersCopied}
 use Rattle.report_lines_write.proofs.copying.copy.Given as goal
 
 abbrev pub invariant-loop-i : goal.invariant-loop-i

@@ -1,8 +1,7 @@
 -- `mark_lasts` meets its contract: after g turns the stretches of g groups are marked. Assumes nothing.
-use Prim.Native.Nat.{◌≤◌, ◌-◌}
 use mathlib.Core.Path.{◌≡◌}
 use native.Mathlib.Omega.{arith}
-use Rattle.report_lines_write.specs.MarkLaws.{LastsMarked, lasts_none, mark-fits, mark-small, mark-turn}
+use Rattle.report_lines_write.specs.MarkLaws.{lasts_none, mark-fits, mark-small, mark-turn}
 use Rattle.report_lines_write.proofs.marking.mark_lasts.Goals as goal
 
 pub loop-g-init : goal.loop-g-init
