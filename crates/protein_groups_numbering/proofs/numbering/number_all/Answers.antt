@@ -1,10 +1,10 @@
 -- `number_all` meets its contract. Assumes nothing.
-use Prim.Native.Nat.{◌≤◌, ◌-◌, ◌+◌}
-use mathlib.Core.Path.{◌≡◌, refl, ◌∙◌}
+use Prim.Native.Nat.{◌+◌}
+use mathlib.Core.Path.{refl, ◌∙◌}
 use mathlib.Core.Logic.{inr}
 use native.Mathlib.Omega.{arith}
-use lib.ListN.{length, length-set}
-use Rattle.protein_groups_numbering.specs.KnowingLaws.{PartNumbered, NumberTurn, numbering_none, numbering_turn, numbering_end}
+use lib.ListN.{length-set}
+use Rattle.protein_groups_numbering.specs.KnowingLaws.{NumberTurn, numbering_none, numbering_turn, numbering_end}
 use Rattle.protein_groups_numbering.proofs.numbering.number_all.Goals.{After-wide}
 use Rattle.protein_groups_numbering.proofs.numbering.number_all.Goals as goal
 

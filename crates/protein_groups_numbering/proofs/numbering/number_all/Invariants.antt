@@ -1,10 +1,8 @@
 -- `number_all` meets its contract. Assumes nothing.
-use Prim.Native.Nat.{◌≤◌, ◌-◌, ◌+◌}
-use mathlib.Core.Path.{◌≡◌, refl, ◌∙◌}
-use mathlib.Core.Logic.{inr}
-use native.Mathlib.Omega.{arith}
-use lib.ListN.{length, length-set}
-use Rattle.protein_groups_numbering.specs.KnowingLaws.{PartNumbered, NumberTurn, numbering_none, numbering_turn, numbering_end}
+use Prim.Native.Nat.{◌≤◌, ◌-◌}
+use mathlib.Core.Path.{◌≡◌}
+use lib.ListN.{length}
+use Rattle.protein_groups_numbering.specs.KnowingLaws.{PartNumbered}
 use Rattle.protein_groups_numbering.proofs.numbering.number_all.Given as goal
 
 abbrev pub invariant-loop-i : goal.invariant-loop-i

@@ -1,9 +1,9 @@
 -- `copy_run` meets its contract. Assumes nothing.
-use Prim.Native.Nat.{◌≤◌, ◌-◌, ◌+◌}
+use Prim.Native.Nat.{◌+◌}
 use mathlib.Core.Path.{◌≡◌, refl}
 use native.Mathlib.Omega.{arith}
-use lib.ListN.{length, get_or, length-set}
-use Rattle.protein_groups_numbering.specs.SpreadLaws.{RunCopied, run-copied-none, run-copied-more}
+use lib.ListN.{get_or, length-set}
+use Rattle.protein_groups_numbering.specs.SpreadLaws.{run-copied-none, run-copied-more}
 use Rattle.protein_groups_numbering.proofs.spreading.copy_run.Goals as goal
 
 pub loop-i-init : goal.loop-i-init

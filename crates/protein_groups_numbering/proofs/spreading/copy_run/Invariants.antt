@@ -1,9 +1,8 @@
 -- `copy_run` meets its contract. Assumes nothing.
-use Prim.Native.Nat.{◌≤◌, ◌-◌, ◌+◌}
-use mathlib.Core.Path.{◌≡◌, refl}
-use native.Mathlib.Omega.{arith}
-use lib.ListN.{length, get_or, length-set}
-use Rattle.protein_groups_numbering.specs.SpreadLaws.{RunCopied, run-copied-none, run-copied-more}
+use Prim.Native.Nat.{◌≤◌, ◌-◌}
+use mathlib.Core.Path.{◌≡◌}
+use lib.ListN.{length}
+use Rattle.protein_groups_numbering.specs.SpreadLaws.{RunCopied}
 use Rattle.protein_groups_numbering.proofs.spreading.copy_run.Given as goal
 
 abbrev pub invariant-loop-i : goal.invariant-loop-i

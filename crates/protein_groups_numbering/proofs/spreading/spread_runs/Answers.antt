@@ -1,10 +1,9 @@
 -- `spread_runs` meets its contract. Assumes nothing.
-use Prim.Native.Nat.{◌≤◌, ◌-◌, ◌+◌}
-use mathlib.Core.Path.{◌≡◌, refl, sym, ◌∙◌}
+use Prim.Native.Nat.{◌+◌}
+use mathlib.Core.Path.{refl, sym, ◌∙◌}
 use native.Mathlib.Omega.{arith}
-use lib.ListN.{length, get_or}
 use Rattle.protein_groups_numbering.specs.SpreadLaws.{Spreading, spreading_none, spreading_skip, spreading_more, spreading_end, text-asked, read-run}
-use Rattle.protein_groups_numbering.proofs.spreading.spread_runs.Goals.{After-slice_known-then-g-seen-1, After-spread_text-arg-1}
+use Rattle.protein_groups_numbering.proofs.spreading.spread_runs.Goals.{After-slice_known-then-g-seen-1}
 use Rattle.protein_groups_numbering.proofs.spreading.spread_runs.Goals as goal
 
 pub loop-j-init : goal.loop-j-init
@@ -19,22 +18,20 @@ offset_bounds-w-plan c = let q = c.requires in omega (arith, q.ranks, q.keys, q.
 pub bounds-w-plan : goal.bounds-w-plan
 bounds-w-plan c = let q = c.requires in omega (arith, q.ranks, q.keys, q.fits, c.loop-j.invariant.1)
 
--- the thing at j leads a run
-leads : (c : After-spread_text-arg-1) → get_or c.args.w.now (c.args.plan.runs + c.loop-j.j) 0 ≡ c.loop-j.seen
-leads c =
-    let s = c.args in let l = c.loop-j in
-    sym (read-run s.w.now l.w s.plan s.t l.j l.seen l.k l.invariant.1 c.requires (omega arith) l.invariant.2) ∙ c.if-g-seen.true
-
 pub spread_text-k-requires : goal.spread_text-k-requires
 spread_text-k-requires c =
     let s = c.args in let l = c.loop-j in
-    text-asked s.w.now l.w s.plan s.t l.j l.seen l.k l.invariant.1 c.requires (omega arith) l.invariant.2 (leads (goal.at.spread_text-k-requires c).After-spread_text-arg-1)
+    text-asked s.w.now l.w s.plan s.t l.j l.seen l.k l.invariant.1 c.requires (omega arith) l.invariant.2
+    (sym (read-run s.w.now l.w s.plan s.t l.j l.seen l.k l.invariant.1 c.requires (omega arith) l.invariant.2) ∙ c.if-g-seen.true)
 
+-- the thing at j leads a run
 more : (c : After-slice_known-then-g-seen-1)
     → Spreading c.args.w.now c.spread_text-k.new.w c.args.plan c.args.t (c.loop-j.j + 1) (c.loop-j.seen + 1) (c.loop-j.k + c.spread_text-k.result)
 more c =
     let s = c.args in let l = c.loop-j in let d = c.spread_text-k in
-    spreading_more s.w.now l.w s.plan s.t l.j l.seen l.k l.invariant.1 c.requires (omega arith) l.invariant.2 (leads TODO-c.After-spread_text-arg-1) d.new.w d.result d.auto.w d.ensures
+    spreading_more s.w.now l.w s.plan s.t l.j l.seen l.k l.invariant.1 c.requires (omega arith) l.invariant.2
+    (sym (read-run s.w.now l.w s.plan s.t l.j l.seen l.k l.invariant.1 c.requires (omega arith) l.invariant.2) ∙ c.if-g-seen.true)
+    d.new.w d.result d.auto.w d.ensures
 
 pub overflow_add-k : goal.overflow_add-k
 overflow_add-k c = let q = c.requires in omega (arith, (more (goal.at.overflow_add-k c).After-slice_known-then-g-seen-1).few, q.keys, q.fits)

@@ -1,9 +1,8 @@
 -- `spread_runs` meets its contract. Assumes nothing.
-use Prim.Native.Nat.{◌≤◌, ◌-◌, ◌+◌}
-use mathlib.Core.Path.{◌≡◌, refl, sym, ◌∙◌}
-use native.Mathlib.Omega.{arith}
-use lib.ListN.{length, get_or}
-use Rattle.protein_groups_numbering.specs.SpreadLaws.{Spreading, spreading_none, spreading_skip, spreading_more, spreading_end, text-asked, read-run}
+use Prim.Native.Nat.{◌≤◌, ◌-◌}
+use mathlib.Core.Path.{◌≡◌}
+use lib.ListN.{length}
+use Rattle.protein_groups_numbering.specs.SpreadLaws.{Spreading}
 use Rattle.protein_groups_numbering.proofs.spreading.spread_runs.Given as goal
 
 abbrev pub invariant-loop-j : goal.invariant-loop-j

@@ -1,5 +1,5 @@
 -- `place_pairs` meets its contract: the first i pairs are placed. Assumes nothing.
-use Prim.Native.Nat.{ℕ, ◌-◌, ◌≤◌}
+use Prim.Native.Nat.{ℕ}
 use native.Mathlib.Omega.{arith}
 use mathlib.Core.Path.{◌≡◌, subst}
 use Rattle.protein_groups_place.specs.Placing.{PairsLaid}

@@ -1,9 +1,6 @@
 -- `place_pairs` meets its contract: the first i pairs are placed. Assumes nothing.
-use Prim.Native.Nat.{ℕ, ◌-◌, ◌≤◌}
-use native.Mathlib.Omega.{arith}
-use mathlib.Core.Path.{◌≡◌, subst}
+use Prim.Native.Nat.{◌-◌, ◌≤◌}
 use Rattle.protein_groups_place.specs.Placing.{PairsLaid}
-use Rattle.protein_groups_place.specs.PlacingLaws.{laid_none, laid_more}
 use Rattle.protein_groups_place.proofs.placing.place_pairs.Given as goal
 
 abbrev pub invariant-loop-i : goal.invariant-loop-i

@@ -12,8 +12,6 @@ use Rattle.sorting_runs.specs.declared.runs.Numbered.TheVariants.{Runs, Unfit}
 use Rattle.protein_groups_runs.specs.OrderingLaws.{counts, runs_ordered}
 use Rattle.protein_groups_runs.proofs.runs.order_runs.Goals as goal
 
--- TODO answers 11, needs 9: ['overflow_add-hi', 'sort_range-requires', 'number_runs-numbered-requires', 'enum_known-numbered', 'enum_told-1', 'shape_of-w-in-Runs', 'returns-in-Runs', 'shape_of-w-in-Unfit', 'returns-in-Unfit']
-
 pub returns-in-Runs : goal.returns-in-Runs
 returns-in-Runs c =
     let a = c.args in

@@ -1,11 +1,11 @@
 -- `takers` meets its contract. Assumes nothing.
-use Prim.Native.Nat.{◌≤◌, ◌-◌, ◌+◌}
+use Prim.Native.Nat.{◌+◌}
 use mathlib.Core.Path.{◌≡◌, refl, ◌∙◌}
 use mathlib.Core.Logic.{inr}
 use borrow.Author.Tests.{lt-ltb, le-ltb}
 use native.Mathlib.Omega.{arith}
-use lib.ListN.{length, get_or, length-set}
-use Rattle.protein_groups_runs.specs.TakerLaws.{bound, TakersTo, takers_none, takers_more, takers_skip, takers_end}
+use lib.ListN.{get_or, length-set}
+use Rattle.protein_groups_runs.specs.TakerLaws.{bound, takers_none, takers_more, takers_skip, takers_end}
 use Rattle.protein_groups_runs.proofs.runs.takers.Goals.{After-slice_known-in-loop-i-2-1}
 use Rattle.protein_groups_runs.proofs.runs.takers.Goals as goal
 

@@ -1,11 +1,8 @@
 -- `takers` meets its contract. Assumes nothing.
-use Prim.Native.Nat.{◌≤◌, ◌-◌, ◌+◌}
-use mathlib.Core.Path.{◌≡◌, refl, ◌∙◌}
-use mathlib.Core.Logic.{inr}
-use borrow.Author.Tests.{lt-ltb, le-ltb}
-use native.Mathlib.Omega.{arith}
-use lib.ListN.{length, get_or, length-set}
-use Rattle.protein_groups_runs.specs.TakerLaws.{bound, TakersTo, takers_none, takers_more, takers_skip, takers_end}
+use Prim.Native.Nat.{◌≤◌, ◌-◌}
+use mathlib.Core.Path.{◌≡◌}
+use lib.ListN.{length}
+use Rattle.protein_groups_runs.specs.TakerLaws.{TakersTo}
 use Rattle.protein_groups_runs.proofs.runs.takers.Given as goal
 
 abbrev pub invariant-loop-i : goal.invariant-loop-i
