@@ -3,7 +3,7 @@ use Rattle.std.specs.Prelude.{ℕ, zero, suc, ◌+◌, ◌-◌, ◌*◌, ◌≤�
 use Rattle.std.proofs.Common.{arith, add-zero, sym, ap, ◌∙◌, true≢false, inr, ⊎_elim, length-set, get_or-set_same, get_or-set_other, eq-eqb, ne_eqb}
 use Rattle.std.proofs.lemmas.Bool.{false≢true, eqb-false}
 use Rattle.lists.specs.Tests.{same?, truth?, neither, eqb-sym}
-use Rattle.lists.specs.Lists.{bit, count}
+use Rattle.lists.specs.Lists.{bit}
 use Rattle.lists.specs.FrameLaws.{Framed, framed_none, framed_then, framed_set}
 use Rattle.lists.specs.KeepLaws.{count_append, count-le}
 use Rattle.records.specs.Le.{number_at}

@@ -1,6 +1,6 @@
 -- What a call that passes its tests may count on. Assumes nothing.
-use Rattle.std.specs.Prelude.{ℕ, ◌/◌, ◌%◌, ◌≤◌, ◌<◌, ◌+◌, ◌≡◌, refl, false, not, ◌||◌, Bool, true, List, length, get_or, eqb, ltb}
-use Rattle.std.proofs.Common.{sym, arith, ltb-false, eqb-true}
+use Rattle.std.specs.Prelude.{ℕ, ◌/◌, ◌%◌, ◌≤◌, ◌<◌, ◌+◌, ◌≡◌, false, not, ◌||◌, Bool, List, length, get_or, eqb, ltb}
+use Rattle.std.proofs.Common.{arith, ltb-false, eqb-true}
 use Rattle.std.proofs.lemmas.Bool.{not-false}
 use Rattle.lists.specs.Tests.{neither}
 use Rattle.records.specs.declared.refusal.Refusal.TheVariants.{Size, Length, Work}

@@ -3,7 +3,7 @@ use native.Mathlib.Omega.{arith}
 use mathlib.Core.Path.{◌≡◌, ◌∙◌}
 use Prim.Native.Nat.{◌+◌, ◌-◌, ◌*◌}
 use Rattle.records.specs.Le.{number_at}
-use Rattle.cover_differing.specs.WalkingLaws.{OnTheWay, pass-start, meta_in, meta-small, next_in, next_falls, pass-turn, pass_end}
+use Rattle.cover_differing.specs.WalkingLaws.{pass-start, meta_in, meta-small, next_in, next_falls, pass-turn, pass_end}
 use Rattle.cover_differing.proofs.passing.go_along.Goals.{After-wide-m}
 use Rattle.cover_differing.proofs.passing.go_along.Goals as goal
 

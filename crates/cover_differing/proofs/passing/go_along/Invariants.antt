@@ -1,9 +1,5 @@
 -- `go_along` meets its contract. Assumes nothing.
-use native.Mathlib.Omega.{arith}
-use mathlib.Core.Path.{◌≡◌, ◌∙◌}
-use Prim.Native.Nat.{◌+◌, ◌-◌, ◌*◌}
-use Rattle.records.specs.Le.{number_at}
-use Rattle.cover_differing.specs.WalkingLaws.{OnTheWay, pass-start, meta_in, meta-small, next_in, next_falls, pass-turn, pass_end}
+use Rattle.cover_differing.specs.WalkingLaws.{OnTheWay}
 use Rattle.cover_differing.proofs.passing.go_along.Given as goal
 
 abbrev pub invariant-loop-h : goal.invariant-loop-h

@@ -1,8 +1,7 @@
 -- `each_alone` meets its contract. Assumes nothing.
-use Prim.Native.Nat.{◌+◌, ◌-◌, ◌≤◌}
 use native.Mathlib.Omega.{arith}
 use mathlib.Core.Path.{◌≡◌, refl}
-use Rattle.cover_edges.specs.PutLaws.{Puts, puts_none, puts_step}
+use Rattle.cover_edges.specs.PutLaws.{puts_none, puts_step}
 use Rattle.cover_joining.proofs.joining.each_alone.Goals as goal
 
 pub loop-x-preserved : goal.loop-x-preserved

@@ -1,8 +1,6 @@
 -- `each_alone` meets its contract. Assumes nothing.
 use Prim.Native.Nat.{◌+◌, ◌-◌, ◌≤◌}
-use native.Mathlib.Omega.{arith}
-use mathlib.Core.Path.{◌≡◌, refl}
-use Rattle.cover_edges.specs.PutLaws.{Puts, puts_none, puts_step}
+use Rattle.cover_edges.specs.PutLaws.{Puts}
 use Rattle.cover_joining.proofs.joining.each_alone.Given as goal
 
 abbrev pub invariant-loop-x : goal.invariant-loop-x

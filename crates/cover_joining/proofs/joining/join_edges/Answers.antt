@@ -1,9 +1,7 @@
 -- `join_edges` meets its contract. Assumes nothing.
-use Prim.Native.Nat.{◌-◌, ◌≤◌}
 use native.Mathlib.Omega.{arith}
 use mathlib.Core.Path.{◌≡◌, refl, ◌∙◌}
-use lib.ListN.{length}
-use Rattle.cover_joining.specs.Joining.{Joined, nodes, edge_links}
+use Rattle.cover_joining.specs.Joining.{nodes}
 use Rattle.cover_joining.specs.JoiningLaws.{edges-start, edges-turn}
 use Rattle.cover_joining.proofs.joining.join_edges.Goals as goal
 

@@ -1,10 +1,8 @@
 -- `join_edges` meets its contract. Assumes nothing.
 use Prim.Native.Nat.{◌-◌, ◌≤◌}
-use native.Mathlib.Omega.{arith}
-use mathlib.Core.Path.{◌≡◌, refl, ◌∙◌}
+use mathlib.Core.Path.{◌≡◌}
 use lib.ListN.{length}
 use Rattle.cover_joining.specs.Joining.{Joined, nodes, edge_links}
-use Rattle.cover_joining.specs.JoiningLaws.{edges-start, edges-turn}
 use Rattle.cover_joining.proofs.joining.join_edges.Given as goal
 
 abbrev pub invariant-loop-i : goal.invariant-loop-i

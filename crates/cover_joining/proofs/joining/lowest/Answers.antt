@@ -1,9 +1,9 @@
 -- `lowest` meets its contract. Assumes nothing.
 use Prim.Native.Nat.{◌+◌, ◌<◌}
 use native.Mathlib.Omega.{arith}
-use mathlib.Core.Path.{◌≡◌, refl, ◌∙◌}
-use lib.ListN.{length, get_or, length-set}
-use Rattle.cover_joining.specs.JoiningLaws.{Finding, finding_start, finding_less, finding_turn, finding_end}
+use mathlib.Core.Path.{refl, ◌∙◌}
+use lib.ListN.{get_or, length-set}
+use Rattle.cover_joining.specs.JoiningLaws.{finding_start, finding_less, finding_turn, finding_end}
 use Rattle.cover_joining.proofs.joining.lowest.Goals.{In-loop-up}
 use Rattle.cover_joining.proofs.joining.lowest.Goals as goal
 

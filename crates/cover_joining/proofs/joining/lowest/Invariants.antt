@@ -1,9 +1,7 @@
 -- `lowest` meets its contract. Assumes nothing.
-use Prim.Native.Nat.{◌+◌, ◌<◌}
-use native.Mathlib.Omega.{arith}
-use mathlib.Core.Path.{◌≡◌, refl, ◌∙◌}
-use lib.ListN.{length, get_or, length-set}
-use Rattle.cover_joining.specs.JoiningLaws.{Finding, finding_start, finding_less, finding_turn, finding_end}
+use mathlib.Core.Path.{◌≡◌}
+use lib.ListN.{length}
+use Rattle.cover_joining.specs.JoiningLaws.{Finding}
 use Rattle.cover_joining.proofs.joining.lowest.Given as goal
 
 abbrev pub invariant-loop-up : goal.invariant-loop-up

@@ -1,9 +1,7 @@
 -- `copy_field` meets its contract. Assumes nothing.
 use mathlib.Core.Path.{◌≡◌}
-use Prim.Native.Nat.{◌+◌, ◌-◌, ◌*◌, ◌≤◌}
 use native.Mathlib.Omega.{arith}
-use Rattle.records.specs.Le.{number_at}
-use Rattle.cover_edges.specs.PutLaws.{Puts, puts_none, puts_step}
+use Rattle.cover_edges.specs.PutLaws.{puts_none, puts_step}
 use Rattle.cover_levels.proofs.filling.copy_field.Goals as goal
 
 pub loop-i-preserved : goal.loop-i-preserved

@@ -1,8 +1,7 @@
 -- `numbers` meets its contract. Assumes nothing.
 use mathlib.Core.Path.{◌≡◌, refl}
-use Prim.Native.Nat.{◌+◌, ◌-◌, ◌≤◌}
 use native.Mathlib.Omega.{arith}
-use Rattle.cover_edges.specs.PutLaws.{Puts, puts_none, puts_step}
+use Rattle.cover_edges.specs.PutLaws.{puts_none, puts_step}
 use Rattle.cover_levels.proofs.filling.numbers.Goals as goal
 
 pub returns : goal.returns

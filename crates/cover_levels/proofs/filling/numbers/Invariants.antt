@@ -1,8 +1,6 @@
 -- `numbers` meets its contract. Assumes nothing.
-use mathlib.Core.Path.{◌≡◌, refl}
 use Prim.Native.Nat.{◌+◌, ◌-◌, ◌≤◌}
-use native.Mathlib.Omega.{arith}
-use Rattle.cover_edges.specs.PutLaws.{Puts, puts_none, puts_step}
+use Rattle.cover_edges.specs.PutLaws.{Puts}
 use Rattle.cover_levels.proofs.filling.numbers.Given as goal
 
 abbrev pub invariant-loop-i : goal.invariant-loop-i

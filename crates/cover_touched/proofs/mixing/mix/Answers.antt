@@ -1,11 +1,10 @@
 -- `mix` meets its contract. Assumes nothing.
-use Prim.Native.Nat.{ℕ, ◌-◌, ◌≤◌}
+use Prim.Native.Nat.{ℕ}
 use native.Mathlib.Omega.{arith}
 use mathlib.Core.Path.{◌≡◌, refl, ◌∙◌, subst}
-use lib.ListN.{length, length-set}
-use Rattle.cover_joining.specs.Joining.{nodes}
+use lib.ListN.{length-set}
 use Rattle.cover_touched.specs.Touching.{Mixed}
-use Rattle.cover_touched.specs.MixingLaws.{Mixing, mixing_start, mixing_turn}
+use Rattle.cover_touched.specs.MixingLaws.{mixing_start, mixing_turn}
 use Rattle.cover_touched.proofs.mixing.mix.Goals as goal
 
 pub loop-g-init : goal.loop-g-init

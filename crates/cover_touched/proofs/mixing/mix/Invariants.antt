@@ -1,11 +1,9 @@
 -- `mix` meets its contract. Assumes nothing.
-use Prim.Native.Nat.{ℕ, ◌-◌, ◌≤◌}
-use native.Mathlib.Omega.{arith}
-use mathlib.Core.Path.{◌≡◌, refl, ◌∙◌, subst}
-use lib.ListN.{length, length-set}
+use Prim.Native.Nat.{◌-◌, ◌≤◌}
+use mathlib.Core.Path.{◌≡◌}
+use lib.ListN.{length}
 use Rattle.cover_joining.specs.Joining.{nodes}
-use Rattle.cover_touched.specs.Touching.{Mixed}
-use Rattle.cover_touched.specs.MixingLaws.{Mixing, mixing_start, mixing_turn}
+use Rattle.cover_touched.specs.MixingLaws.{Mixing}
 use Rattle.cover_touched.proofs.mixing.mix.Given as goal
 
 abbrev pub invariant-loop-g : goal.invariant-loop-g

@@ -1,12 +1,9 @@
 -- `join_differing` meets its contract. Assumes nothing.
-use Prim.Native.Nat.{◌-◌, ◌≤◌}
 use native.Mathlib.Omega.{arith}
-use mathlib.Core.Path.{◌≡◌, refl, ◌∙◌}
-use lib.ListN.{length}
-use Rattle.cover_joining.specs.Joining.{Joined, nodes}
-use Rattle.cover_differing.specs.Walking.{differing, GroupsLinked}
+use mathlib.Core.Path.{refl, ◌∙◌}
+use Rattle.cover_joining.specs.Joining.{nodes}
+use Rattle.cover_differing.specs.Walking.{differing}
 use Rattle.cover_edges.specs.Edges.{edges_to}
-use Rattle.cover_touched.specs.Touching.{seeds}
 use Rattle.cover_touched.specs.TouchingLaws.{seeds-start, seeds-turn, seeds_end, linked_same}
 use Rattle.cover_touched.proofs.touching.join_differing.Goals as goal
 

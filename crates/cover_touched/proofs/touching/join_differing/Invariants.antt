@@ -1,13 +1,11 @@
 -- `join_differing` meets its contract. Assumes nothing.
 use Prim.Native.Nat.{◌-◌, ◌≤◌}
-use native.Mathlib.Omega.{arith}
-use mathlib.Core.Path.{◌≡◌, refl, ◌∙◌}
+use mathlib.Core.Path.{◌≡◌}
 use lib.ListN.{length}
 use Rattle.cover_joining.specs.Joining.{Joined, nodes}
 use Rattle.cover_differing.specs.Walking.{differing, GroupsLinked}
 use Rattle.cover_edges.specs.Edges.{edges_to}
 use Rattle.cover_touched.specs.Touching.{seeds}
-use Rattle.cover_touched.specs.TouchingLaws.{seeds-start, seeds-turn, seeds_end, linked_same}
 use Rattle.cover_touched.proofs.touching.join_differing.Given as goal
 
 abbrev pub invariant-loop-g : goal.invariant-loop-g

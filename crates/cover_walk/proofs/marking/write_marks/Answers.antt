@@ -1,12 +1,9 @@
 -- `write_marks` meets its contract. Assumes nothing.
 use mathlib.Core.Path.{◌≡◌}
-use Prim.Native.Nat.{◌+◌, ◌-◌, ◌≤◌}
+use Prim.Native.Nat.{◌+◌}
 use native.Mathlib.Omega.{arith}
-use lib.Dec.{eqb}
-use lib.ListN.{length, get_or}
-use Rattle.lists.specs.Lists.{bit}
 use Rattle.cover_spec.specs.ListedLaws.{listed_is}
-use Rattle.cover_edges.specs.PutLaws.{Puts, puts_none, puts_low}
+use Rattle.cover_edges.specs.PutLaws.{puts_none, puts_low}
 use Rattle.cover_walk.proofs.marking.write_marks.Goals as goal
 
 pub loop-i-preserved : goal.loop-i-preserved

@@ -1,8 +1,7 @@
 -- `descend` meets its contract. Assumes nothing.
-use mathlib.Core.Path.{◌≡◌, refl, ◌∙◌, subst}
+use mathlib.Core.Path.{refl, ◌∙◌, subst}
 use Prim.Native.Nat.{ℕ}
 use native.Mathlib.Omega.{arith}
-use lib.ListN.{length}
 use Rattle.cover_tables.specs.StepLaws.{Levels, levels_end}
 use Rattle.cover_edges.specs.Edges.{edges_to}
 use Rattle.cover_walk.proofs.walking.descend.Goals as goal

@@ -1,9 +1,7 @@
 -- `descend` meets its contract. Assumes nothing.
-use mathlib.Core.Path.{◌≡◌, refl, ◌∙◌, subst}
-use Prim.Native.Nat.{ℕ}
-use native.Mathlib.Omega.{arith}
+use mathlib.Core.Path.{◌≡◌}
 use lib.ListN.{length}
-use Rattle.cover_tables.specs.StepLaws.{Levels, levels_end}
+use Rattle.cover_tables.specs.StepLaws.{Levels}
 use Rattle.cover_edges.specs.Edges.{edges_to}
 use Rattle.cover_walk.proofs.walking.descend.Given as goal
 

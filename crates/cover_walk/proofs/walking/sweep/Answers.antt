@@ -1,9 +1,7 @@
 -- `sweep` meets its contract. Assumes nothing.
-use mathlib.Core.Path.{◌≡◌, refl, ◌∙◌}
-use Prim.Native.Nat.{◌-◌, ◌≤◌}
+use mathlib.Core.Path.{refl, ◌∙◌}
 use native.Mathlib.Omega.{arith}
-use lib.ListN.{length}
-use Rattle.cover_tables.specs.StepLaws.{Levels, levels_down}
+use Rattle.cover_tables.specs.StepLaws.{levels_down}
 use Rattle.cover_edges.specs.Edges.{edges_to}
 use Rattle.cover_walk.proofs.walking.sweep.Goals as goal
 

@@ -1,9 +1,8 @@
 -- `sweep` meets its contract. Assumes nothing.
-use mathlib.Core.Path.{◌≡◌, refl, ◌∙◌}
+use mathlib.Core.Path.{◌≡◌}
 use Prim.Native.Nat.{◌-◌, ◌≤◌}
-use native.Mathlib.Omega.{arith}
 use lib.ListN.{length}
-use Rattle.cover_tables.specs.StepLaws.{Levels, levels_down}
+use Rattle.cover_tables.specs.StepLaws.{Levels}
 use Rattle.cover_edges.specs.Edges.{edges_to}
 use Rattle.cover_walk.proofs.walking.sweep.Given as goal
 
