@@ -2,9 +2,8 @@
 -- each lent slice, work memory before marks.
 use Rattle.std.specs.Prelude.{ℕ, refl, replicate}
 use mathlib.Core.List.{List, [], ◌∷◌, ◌++◌, flatten}
-use Rattle.lists.specs.Lists.{count}
 use Rattle.records.specs.Le.{le, number_at}
-use Rattle.records.specs.Cases.{Case, Hold, answered, refused_as, numbers, told}
+use Rattle.records.specs.Cases.{Case, Hold, answered, refused_as, told}
 use Rattle.records.specs.Room.{written}
 use Rattle.records.specs.Search.{seek}
 use Rattle.cover_spec.specs.Cover.{mark_forced, cover_marked, stays, pass, trim_passes, greatest, mark, choose, turn, turns, cover, listed, cover_list}
