@@ -10,7 +10,7 @@ use Rattle.enzyme_parts.specs.Going.{Underway}
 use Rattle.enzyme_parts.specs.GoingLaws.{underway_start, underway_end, range-first, range-on}
 use Rattle.enzyme_parts.specs.PassLaws.{halves-pass}
 use Rattle.enzyme_parts.specs.WalkLaws.{halves-on, halves_end}
-use Rattle.enzyme_parts.proofs.parts.offer_halves.Goals.{After-slice_known-in-loop-c-2-1, After-slice_known-in-loop-c-4-1}
+use Rattle.enzyme_parts.proofs.parts.offer_halves.Goals.{After-slice_known-in-loop-c-2-1}
 use Rattle.enzyme_parts.proofs.parts.offer_halves.Goals as goal
 
 -- the first part of a cut was offered
@@ -20,7 +20,7 @@ mid : (c : After-slice_known-in-loop-c-2-1)
     let g = c.offer_range-x.new in
     let r = range a.a a.e 0 0 in
     Underway a.letters.now a.far.now a.terms (loaded a.times (halves r (suc a.a) (a.e - suc a.a))) a.run a.out.now a.marks.now
-    (loaded a.times (range l.c a.e 0 1 ∷ halves r (l.c + 1) (a.e - (l.c + 1)))) c.offer_range-x.result g.1.1.1.1.1.1.1.1.0 g.1.1.1.1.1.1.1.1.1.0
+    (loaded a.times (range l.c a.e 0 1 ∷ halves r (l.c + 1) (a.e - (l.c + 1)))) c.offer_range-x.result g.out g.marks
 mid c =
     let a = c.args in
     let l = c.loop-c in
@@ -39,14 +39,14 @@ pub offer_range-at-requires : goal.offer_range-at-requires
 offer_range-at-requires c = range-first refl (mid (goal.at.offer_range-at-requires c).After-slice_known-in-loop-c-2-1)
 
 -- the next cut is below the greatest length
-below : (c : After-slice_known-in-loop-c-4-1) → c.loop-c.c < 65536
-below c = let r = (mid TODO-c.After-slice_known-in-loop-c-2-1).ready in omega (arith, c.loop-c-test.true, r.inside.1, r.keeps.small)
+below : (c : After-slice_known-in-loop-c-2-1) → c.loop-c.c < 65536
+below c = let r = (mid c).ready in omega (arith, c.loop-c-test.true, r.inside.1, r.keeps.small)
 
 pub overflow_add-c-in-loop-c : goal.overflow_add-c-in-loop-c
-overflow_add-c-in-loop-c c = omega (arith, below (goal.at.overflow_add-c-in-loop-c c).After-slice_known-in-loop-c-4-1)
+overflow_add-c-in-loop-c c = omega (arith, below (goal.at.overflow_add-c-in-loop-c c).After-slice_known-in-loop-c-2-1)
 
 pub next_cut-c-requires : goal.next_cut-c-requires
-next_cut-c-requires c = (c.requires.0, omega (arith, below (goal.at.next_cut-c-requires c).After-slice_known-in-loop-c-4-1))
+next_cut-c-requires c = (c.requires.0, omega (arith, below (goal.at.next_cut-c-requires c).After-slice_known-in-loop-c-2-1))
 
 pub loop-c-smaller : goal.loop-c-smaller
 loop-c-smaller c = omega (arith, c.loop-c-test.true, c.next_cut-c.ensures.0)
