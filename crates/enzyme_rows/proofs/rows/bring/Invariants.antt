@@ -1,10 +1,6 @@
 -- `bring` meets its contract. Assumes nothing.
-use mathlib.Core.Path.{◌≡◌, refl, sym}
-use lib.ListN.{get_or}
 use Prim.Native.Nat.{◌≤◌, ◌-◌}
-use native.Mathlib.Omega.{arith}
 use Rattle.enzyme_rows.specs.Steps.{Brought}
-use Rattle.enzyme_rows.specs.TurnLaws.{written_for_none, written_for_more}
 use Rattle.enzyme_rows.proofs.rows.bring.Given as goal
 
 abbrev pub invariant-loop-i : goal.invariant-loop-i

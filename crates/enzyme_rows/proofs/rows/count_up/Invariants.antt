@@ -1,9 +1,7 @@
 -- `count_up` meets its contract. Assumes nothing.
 use Prim.Native.Nat.{ℕ, ◌≤◌, ◌<◌, ◌-◌}
-use mathlib.Core.Path.{◌≡◌, refl, ◌∙◌}
-use native.Mathlib.Omega.{arith}
-use lib.ListN.{length, get_or, length-set}
-use Rattle.lists.specs.FrameLaws.{set_more}
+use mathlib.Core.Path.{◌≡◌}
+use lib.ListN.{length, get_or}
 use Rattle.enzyme_rows.proofs.rows.count_up.Given as goal
 
 abbrev pub invariant-loop-i : goal.invariant-loop-i

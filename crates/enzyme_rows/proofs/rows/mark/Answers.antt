@@ -1,9 +1,7 @@
 -- `mark` meets its contract. Assumes nothing.
 use mathlib.Core.Path.{◌≡◌, refl, sym}
 use lib.ListN.{get_or}
-use Prim.Native.Nat.{◌≤◌, ◌-◌}
 use native.Mathlib.Omega.{arith}
-use Rattle.enzyme_rows.specs.Steps.{RepeatsMarked}
 use Rattle.enzyme_rows.specs.TurnLaws.{repeats-marked-none, repeats-marked-more}
 use Rattle.enzyme_rows.proofs.rows.mark.Goals as goal
 
