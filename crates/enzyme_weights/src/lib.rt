@@ -3,5 +3,4 @@
 
 mod weights;
 
-pub use weights::new_weight;
-pub use weights::weight_at;
+pub use weights::{new_weight, weight_at};

@@ -1,8 +1,6 @@
 -- `run_size` meets its contract: what is counted and the places ahead give the whole. Assumes nothing.
 use native.Mathlib.Omega.{arith}
-use mathlib.Core.Path.{◌≡◌, sym, ◌∙◌}
-use Prim.Native.Nat.{◌+◌, ◌-◌, ◌≤◌}
-use Rattle.enzyme_weights.specs.Weights.{run_from}
+use mathlib.Core.Path.{sym, ◌∙◌}
 use Rattle.enzyme_weights.specs.SizeLaws.{size-on, size_stop, size_end}
 use Rattle.enzyme_weights.proofs.weights.run_size.Goals as goal
 

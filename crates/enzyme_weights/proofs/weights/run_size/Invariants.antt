@@ -1,9 +1,7 @@
 -- `run_size` meets its contract: what is counted and the places ahead give the whole. Assumes nothing.
-use native.Mathlib.Omega.{arith}
-use mathlib.Core.Path.{◌≡◌, sym, ◌∙◌}
+use mathlib.Core.Path.{◌≡◌}
 use Prim.Native.Nat.{◌+◌, ◌-◌, ◌≤◌}
 use Rattle.enzyme_weights.specs.Weights.{run_from}
-use Rattle.enzyme_weights.specs.SizeLaws.{size-on, size_stop, size_end}
 use Rattle.enzyme_weights.proofs.weights.run_size.Given as goal
 
 abbrev pub invariant-loop-q : goal.invariant-loop-q
