@@ -2,9 +2,9 @@
 use mathlib.Core.Path.{◌≡◌}
 use mathlib.Core.Logic.{inr}
 use lib.ListN.{get_or}
-use Prim.Native.Nat.{◌≤◌, ◌<◌, ◌-◌}
+use Prim.Native.Nat.{◌<◌}
 use native.Mathlib.Omega.{arith}
-use Rattle.enzyme_rows.specs.Steps.{goes_on, Kept}
+use Rattle.enzyme_rows.specs.Steps.{goes_on}
 use Rattle.enzyme_rows.specs.TurnLaws.{kept-none, kept-turn}
 use Rattle.enzyme_runs.proofs.keeping.keep.Goals as goal
 

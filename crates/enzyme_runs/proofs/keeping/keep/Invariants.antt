@@ -1,11 +1,6 @@
 -- `keep` meets its contract. Assumes nothing.
-use mathlib.Core.Path.{◌≡◌}
-use mathlib.Core.Logic.{inr}
-use lib.ListN.{get_or}
-use Prim.Native.Nat.{◌≤◌, ◌<◌, ◌-◌}
-use native.Mathlib.Omega.{arith}
+use Prim.Native.Nat.{◌≤◌, ◌-◌}
 use Rattle.enzyme_rows.specs.Steps.{goes_on, Kept}
-use Rattle.enzyme_rows.specs.TurnLaws.{kept-none, kept-turn}
 use Rattle.enzyme_runs.proofs.keeping.keep.Given as goal
 
 abbrev pub invariant-loop-i : goal.invariant-loop-i

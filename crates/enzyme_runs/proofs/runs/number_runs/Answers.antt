@@ -1,11 +1,10 @@
 -- `number_runs` meets its contract. Assumes nothing.
-use Prim.Native.Nat.{◌≤◌, ◌<◌, ◌-◌}
+use Prim.Native.Nat.{◌<◌}
 use mathlib.Core.Path.{◌≡◌, refl, ◌∙◌}
 use lib.ListN.{length, get_or, length-set}
 use native.Mathlib.Omega.{arith}
 use Rattle.enzyme_keys.specs.Keys.{sort_key}
-use Rattle.enzyme_rows.specs.Steps.{RunStarts}
-use Rattle.enzyme_rows.specs.TurnLaws.{Passed, passed_none, passed-more, passed-has, run-starts-none, run-starts-more}
+use Rattle.enzyme_rows.specs.TurnLaws.{passed_none, passed-more, passed-has, run-starts-none, run-starts-more}
 use Rattle.enzyme_runs.proofs.runs.number_runs.Goals as goal
 
 pub loop-i-init : goal.loop-i-init

@@ -1,11 +1,10 @@
 -- `number_runs` meets its contract. Assumes nothing.
-use Prim.Native.Nat.{◌≤◌, ◌<◌, ◌-◌}
-use mathlib.Core.Path.{◌≡◌, refl, ◌∙◌}
-use lib.ListN.{length, get_or, length-set}
-use native.Mathlib.Omega.{arith}
+use Prim.Native.Nat.{◌≤◌, ◌-◌}
+use mathlib.Core.Path.{◌≡◌}
+use lib.ListN.{length}
 use Rattle.enzyme_keys.specs.Keys.{sort_key}
 use Rattle.enzyme_rows.specs.Steps.{RunStarts}
-use Rattle.enzyme_rows.specs.TurnLaws.{Passed, passed_none, passed-more, passed-has, run-starts-none, run-starts-more}
+use Rattle.enzyme_rows.specs.TurnLaws.{Passed}
 use Rattle.enzyme_runs.proofs.runs.number_runs.Given as goal
 
 abbrev pub invariant-loop-i : goal.invariant-loop-i
