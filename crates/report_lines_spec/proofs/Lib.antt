@@ -1,0 +1,2 @@
+-- CountLaws says how the count of a line relates to the `;` in it.
+pub mod CountLaws
