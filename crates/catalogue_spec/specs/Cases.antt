@@ -47,13 +47,12 @@ books =
     ∷ reading (122 ∷ 123 ∷ []) 2 1
     ∷ []
 
-books_hold : Hold books
-unfolding seek is_letter first_bad first_bad_bound booking spelling reading books
-books_hold = refl
-
 pub table : List Case
 table = names ++ books
 
 pub cases : Hold table
-unfolding table
+unfolding seek is_letter first_bad first_bad_bound booking spelling reading books table
 cases = joined names books names_hold books_hold
+  where
+    books_hold : Hold books
+    books_hold = refl

@@ -1,11 +1,11 @@
 -- Laws of the turns. Assumes nothing.
-use Rattle.std.specs.Prelude.{ℕ, zero, suc, ◌+◌, ◌-◌, ◌*◌, ◌≤◌, ◌<◌, ◌≡◌, refl, cond, ◌&&◌, ◌⊎◌, List, [], ◌∷◌, ◌++◌, map, leb, length, get_or, take, drop, set}
+use Rattle.std.specs.Prelude.{ℕ, suc, ◌+◌, ◌-◌, ◌*◌, ◌≤◌, ◌<◌, ◌≡◌, refl, cond, ◌&&◌, List, [], ◌∷◌, ◌++◌, map, leb, length, get_or, take, drop, set}
 use Rattle.std.proofs.Common.{sym, ap, ap₂, ◌∙◌, subst, inl, inr, ⊎_elim, append_assoc, append-nil, arith, add-one, le-leb, length-append, length-drop, length-set, length-take-le, get_or-set_same, get_or-set_other}
 use Rattle.std.proofs.lemmas.Simd.{map-map}
 use Rattle.std.proofs.lemmas.List.{length-map}
 use Rattle.std.proofs.lemmas.List.Edits.{sets}
 use Rattle.std.proofs.Math.Seq.{slice, slice-cons, slice_empty, length-slice}
-use Rattle.lists.specs.Tests.{below?, same?}
+use Rattle.lists.specs.Tests.{same?}
 use Rattle.lists.specs.FrameLaws.{framed_none, framed_then, framed_within, framed_set}
 use Rattle.records.specs.Le.{le}
 use Rattle.records.specs.LeLaws.{length-le, sets_append}

@@ -1,7 +1,7 @@
 -- Document 01, "Grouping digests": worked cases, proved of the definitions. A case is the answer's numbers and then each lent
 -- slice: work memory, groups, proteins.
 use Rattle.std.specs.Prelude.{ℕ, ◌-◌, refl, length, take, replicate}
-use mathlib.Core.List.{List, [], ◌∷◌, ◌++◌, flatten, map}
+use mathlib.Core.List.{List, [], ◌∷◌, ◌++◌, flatten}
 use Rattle.records.specs.Le.{le, number_at}
 use Rattle.records.specs.Cases.{Case, Hold, answered, refused_as, told}
 use Rattle.records.specs.Room.{written}

@@ -2,7 +2,7 @@
 use Rattle.std.specs.Prelude.{ℕ, ◌+◌, ◌-◌, ◌*◌, ◌/◌, ◌%◌, ◌≡◌, Bool, cond, not, ◌&&◌, ◌||◌, List, [], ◌∷◌, length, get_or, ltb, leb, eqb}
 use Rattle.records.specs.declared.refusal.Refusal.TheVariants.{Size, Length, Work}
 use Rattle.records.specs.declared.refusal.Tested.{Tested}
-use Rattle.records.specs.declared.refusal.Tested.TheVariants.{Passed, Refused}
+use Rattle.records.specs.declared.refusal.Tested.TheVariants.{Refused}
 use Rattle.records.specs.declared.refusal.Counted.{Counted}
 use Rattle.records.specs.declared.refusal.Counted.TheVariants.{Refused as No}
 use Rattle.records.specs.Outcome.{Outcome, outcome, unless_refused, only}

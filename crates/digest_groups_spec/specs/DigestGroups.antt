@@ -1,6 +1,6 @@
 -- Document 01, "Grouping digests": "Digests equal in position, decoy and letters form a group, groups sorted by these; the
 -- reference is the first in input order, proteins are sorted by name bytes, repeats kept."
-use Rattle.std.specs.Prelude.{ℕ, ◌+◌, ◌-◌, ◌*◌, ◌/◌, Bool, cond, ◌&&◌, List, [], ◌∷◌, ◌++◌, map, length, get_or, take, drop, replicate, eqb}
+use Rattle.std.specs.Prelude.{ℕ, ◌+◌, ◌-◌, ◌*◌, ◌/◌, Bool, cond, ◌&&◌, List, [], ◌∷◌, ◌++◌, map, length, get_or, take, drop, replicate}
 use Rattle.lists.specs.Lists.{up_from, keep, same}
 use Rattle.records.specs.declared.refusal.Refusal.TheVariants.{Room}
 use Rattle.records.specs.declared.refusal.Counted.{Counted}

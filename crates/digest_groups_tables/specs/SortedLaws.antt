@@ -1,5 +1,5 @@
 -- Sorted numbers of digests: the tables, sorted, have the gathered digests as runs. Assumes nothing.
-use Rattle.std.specs.Prelude.{ℕ, ◌+◌, ◌-◌, ◌*◌, ◌≤◌, ◌<◌, ◌≡◌, Bool, cond, List, map, length, get_or, drop}
+use Rattle.std.specs.Prelude.{ℕ, ◌+◌, ◌*◌, ◌≤◌, ◌<◌, ◌≡◌, Bool, cond, List, map, length, get_or, drop}
 use Rattle.std.proofs.Common.{sym, ap, ap₂, ◌∙◌, subst, arith, ext_get_or}
 use Rattle.std.proofs.Math.Seq.{slice, length-slice}
 use Rattle.lists.specs.Lists.{up_from}

@@ -2,7 +2,7 @@
 use Rattle.std.specs.Prelude.{ℕ, suc, ◌+◌, ◌-◌, ◌*◌, ◌≤◌, ◌<◌, min, ◌≡◌, refl, Bool, true, false, ◌&&◌, List, [], ◌∷◌, length, get_or, take, drop, set, ltb, eqb}
 use Rattle.std.proofs.Common.{◌∙◌, ⊎_elim, arith, length-take, length-drop, length-set, get_or-take, get_or-drop, get_or-set_same, get_or-set_other}
 use Rattle.std.proofs.Math.Nat.{min-le_left, min-le_right}
-use Rattle.lists.specs.Tests.{below?, same?}
+use Rattle.lists.specs.Tests.{same?}
 use Rattle.letters.specs.Letters.{capital}
 use Rattle.letters.specs.Reversal.{letters_of}
 use Rattle.letters.specs.ReversalLaws.{length-letters, letter_inner, letter_outer}

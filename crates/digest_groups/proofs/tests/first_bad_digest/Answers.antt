@@ -1,12 +1,11 @@
 -- `first_bad_digest` meets its contract. Assumes nothing.
-use Prim.Native.Nat.{◌+◌, ◌-◌, ◌*◌, ◌/◌}
+use Prim.Native.Nat.{◌+◌, ◌-◌, ◌*◌}
 use native.Mathlib.Omega.{arith}
 use mathlib.Core.Path.{◌≡◌, sym, ap, ◌∙◌}
 use mathlib.Core.Bool.{not}
-use lib.ListN.{length}
-use Rattle.records.specs.SeekingLaws.{Seeking, seeking_all, seeking_stop, seeking_on, seeking_end}
+use Rattle.records.specs.SeekingLaws.{seeking_all, seeking_stop, seeking_on, seeking_end}
 use Rattle.digest_groups_spec.specs.DigestGroups.{digest_at}
-use Rattle.digest_groups_spec.specs.DigestGrouping.{good_digest, bad_digest, first_bad_digest}
+use Rattle.digest_groups_spec.specs.DigestGrouping.{good_digest, first_bad_digest}
 use Rattle.digest_groups.proofs.tests.first_bad_digest.Goals.{After-is_good_digest}
 use Rattle.digest_groups.proofs.tests.first_bad_digest.Goals as goal
 

@@ -1,7 +1,5 @@
 -- `gather_runs` meets its contract: what is still to come gives all. Assumes nothing.
-use Prim.Native.Nat.{◌-◌}
 use native.Mathlib.Omega.{arith}
-use Rattle.digest_groups_runs.specs.Turns.{RunsAhead}
 use Rattle.digest_groups_runs.specs.TurnLaws.{ahead-start, ahead_more, hi_above, ahead-all}
 use Rattle.digest_groups_runs.proofs.groups.gather_runs.Goals as goal
 

@@ -1,8 +1,6 @@
 -- `gather_runs` meets its contract: what is still to come gives all. Assumes nothing.
 use Prim.Native.Nat.{◌-◌}
-use native.Mathlib.Omega.{arith}
 use Rattle.digest_groups_runs.specs.Turns.{RunsAhead}
-use Rattle.digest_groups_runs.specs.TurnLaws.{ahead-start, ahead_more, hi_above, ahead-all}
 use Rattle.digest_groups_runs.proofs.groups.gather_runs.Given as goal
 
 abbrev pub invariant-loop-lo : goal.invariant-loop-lo

@@ -1,13 +1,8 @@
 -- `take_proteins` meets its contract: the numbers before i are replaced. Assumes nothing.
-use Prim.Native.Nat.{ℕ, ◌+◌, ◌-◌, ◌*◌, ◌≤◌}
-use native.Mathlib.Omega.{arith}
-use mathlib.Core.Path.{◌≡◌, sym, subst}
-use mathlib.Core.Logic.{inr}
-use lib.ListN.{length, get_or}
+use Prim.Native.Nat.{ℕ, ◌-◌, ◌≤◌}
 use Rattle.enzyme_keep.specs.Digests.{protein_in}
 use Rattle.digest_groups_spec.specs.DigestGroups.{digest_at}
 use Rattle.digest_groups_runs.specs.Turns.{Replaced}
-use Rattle.digest_groups_runs.specs.TurnLaws.{replaced_none, replaced_more}
 use Rattle.digest_groups_runs.proofs.groups.take_proteins.Given as goal
 
 abbrev pub invariant-loop-i : goal.invariant-loop-i

@@ -1,8 +1,8 @@
 -- `spell_all` meets its contract: the first i digests stand in the tables. Assumes nothing.
-use Prim.Native.Nat.{ℕ, ◌≤◌, ◌-◌, ◌+◌, ◌*◌}
+use Prim.Native.Nat.{ℕ, ◌-◌, ◌+◌, ◌*◌}
 use native.Mathlib.Omega.{arith}
 use mathlib.Core.Path.{◌≡◌, refl, subst}
-use lib.ListN.{length, length-set}
+use lib.ListN.{length-set}
 use Rattle.digest_groups_spec.specs.DigestGroups.{digest_at}
 use Rattle.digest_groups_words.specs.Tables.{DigestTables, digest_spelling}
 use Rattle.digest_groups_words.specs.TableLaws.{tables-none, tables_more}

@@ -1,11 +1,8 @@
 -- `spell_all` meets its contract: the first i digests stand in the tables. Assumes nothing.
-use Prim.Native.Nat.{ℕ, ◌≤◌, ◌-◌, ◌+◌, ◌*◌}
-use native.Mathlib.Omega.{arith}
-use mathlib.Core.Path.{◌≡◌, refl, subst}
-use lib.ListN.{length, length-set}
-use Rattle.digest_groups_spec.specs.DigestGroups.{digest_at}
-use Rattle.digest_groups_words.specs.Tables.{DigestTables, digest_spelling}
-use Rattle.digest_groups_words.specs.TableLaws.{tables-none, tables_more}
+use Prim.Native.Nat.{◌≤◌, ◌-◌}
+use mathlib.Core.Path.{◌≡◌}
+use lib.ListN.{length}
+use Rattle.digest_groups_words.specs.Tables.{DigestTables}
 use Rattle.digest_groups_words.proofs.spelling.spell_all.Given as goal
 
 abbrev pub invariant-loop-i : goal.invariant-loop-i
