@@ -1,11 +1,9 @@
 -- `offer_endings` meets its contract. Assumes nothing.
-use Prim.Native.Nat.{suc, ◌+◌, ◌-◌}
+use Prim.Native.Nat.{◌+◌}
 use mathlib.Core.Path.{ap}
 use native.Mathlib.Omega.{arith}
 use native.Mathlib.Numerals.{add-one}
-use Rattle.enzyme_once.specs.Once.{endings}
 use Rattle.enzyme_samples.specs.Ready.{loaded}
-use Rattle.enzyme_parts.specs.Going.{Underway}
 use Rattle.enzyme_parts.specs.GoingLaws.{underway_start, underway_end, range-first, range-on}
 use Rattle.enzyme_parts.specs.PassLaws.{endings-pass}
 use Rattle.enzyme_parts.specs.WalkLaws.{endings-on, endings_end}

@@ -1,15 +1,8 @@
 -- `offer_halves` meets its contract. Assumes nothing.
-use Prim.Native.Nat.{suc, ◌+◌, ◌-◌, ◌<◌}
-use mathlib.Core.Path.{refl, ap}
-use mathlib.Core.List.{◌∷◌}
-use native.Mathlib.Omega.{arith}
-use native.Mathlib.Numerals.{add-one}
+use Prim.Native.Nat.{suc, ◌-◌}
 use Rattle.enzyme_cuts.specs.Cutting.{range, halves}
 use Rattle.enzyme_samples.specs.Ready.{loaded}
 use Rattle.enzyme_parts.specs.Going.{Underway}
-use Rattle.enzyme_parts.specs.GoingLaws.{underway_start, underway_end, range-first, range-on}
-use Rattle.enzyme_parts.specs.PassLaws.{halves-pass}
-use Rattle.enzyme_parts.specs.WalkLaws.{halves-on, halves_end}
 use Rattle.enzyme_parts.proofs.parts.offer_halves.Given as goal
 
 abbrev pub invariant-loop-c : goal.invariant-loop-c

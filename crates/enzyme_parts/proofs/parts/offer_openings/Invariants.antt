@@ -1,14 +1,8 @@
 -- `offer_openings` meets its contract. Assumes nothing.
 use Prim.Native.Nat.{suc, ◌-◌}
-use mathlib.Core.Path.{refl, ap}
-use native.Mathlib.Omega.{arith}
-use native.Mathlib.Numerals.{add-one}
 use Rattle.enzyme_once.specs.Once.{openings}
 use Rattle.enzyme_samples.specs.Ready.{loaded}
 use Rattle.enzyme_parts.specs.Going.{Underway}
-use Rattle.enzyme_parts.specs.GoingLaws.{underway_start, underway_end, range-first, range-on}
-use Rattle.enzyme_parts.specs.PassLaws.{openings-pass}
-use Rattle.enzyme_parts.specs.WalkLaws.{openings-on}
 use Rattle.enzyme_parts.proofs.parts.offer_openings.Given as goal
 
 abbrev pub invariant-loop-c : goal.invariant-loop-c
