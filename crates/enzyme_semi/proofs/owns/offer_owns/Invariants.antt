@@ -1,13 +1,9 @@
 -- `offer_owns` meets its contract. Assumes nothing.
 use Prim.Native.Nat.{suc, ◌-◌, ◌≤◌}
-use mathlib.Core.Path.{◌≡◌}
-use native.Mathlib.Omega.{arith}
 use Rattle.enzyme_weights.specs.Weights.{weight_in}
 use Rattle.enzyme_parts.specs.Walk.{sites_in, weigh_ins}
 use Rattle.enzyme_parts.specs.Weighed.{weigh_owns}
-use Rattle.enzyme_parts.specs.WalkLaws.{weigh_on, weigh_end, weigh_start}
 use Rattle.enzyme_parts.specs.Going.{Underway}
-use Rattle.enzyme_parts.specs.GoingLaws.{underway_start, underway_end, underway_first, underway_on}
 use Rattle.enzyme_semi.proofs.owns.offer_owns.Given as goal
 
 abbrev pub invariant-loop-j : goal.invariant-loop-j

@@ -1,13 +1,8 @@
 -- `offer_all_windows` meets its contract. Assumes nothing.
-use Prim.Native.Nat.{suc, ◌+◌}
-use mathlib.Core.Path.{◌≡◌}
 use native.Mathlib.Omega.{arith}
 use native.Mathlib.Numerals.{add-one}
-use Rattle.enzyme_cuts.specs.Cutting.{windows_from}
-use Rattle.enzyme_samples.specs.Ready.{loaded}
 use Rattle.enzyme_parts.specs.Walk.{sites_in}
 use Rattle.enzyme_parts.specs.WalkLaws.{sizes-on, window-sizes_end}
-use Rattle.enzyme_parts.specs.Going.{Underway}
 use Rattle.enzyme_parts.specs.GoingLaws.{underway_start, underway_end, underway_first, underway_on}
 use Rattle.enzyme_semi.proofs.windows.offer_all_windows.Goals as goal
 

@@ -1,14 +1,10 @@
 -- `offer_windows` meets its contract. Assumes nothing.
 use Prim.Native.Nat.{◌-◌, ◌≤◌}
-use mathlib.Core.Path.{ap}
-use native.Mathlib.Omega.{arith}
 use Rattle.enzyme_cuts.specs.Cutting.{windows}
 use Rattle.enzyme_once.specs.SpotLaws.{spans}
 use Rattle.enzyme_samples.specs.Ready.{loaded}
 use Rattle.enzyme_parts.specs.Walk.{site_start, sites_in}
-use Rattle.enzyme_parts.specs.WalkLaws.{spans_on, spans_end, windows-start}
 use Rattle.enzyme_parts.specs.Going.{Underway}
-use Rattle.enzyme_parts.specs.GoingLaws.{underway_start, underway_end, range-first, range-on}
 use Rattle.enzyme_semi.proofs.windows.offer_windows.Given as goal
 
 abbrev pub invariant-loop-j : goal.invariant-loop-j
