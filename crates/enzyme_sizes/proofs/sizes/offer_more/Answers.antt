@@ -1,16 +1,12 @@
 -- `offer_more` meets its contract. Assumes nothing.
-use Prim.Native.Nat.{◌+◌, ◌-◌, ◌≤◌}
+use Prim.Native.Nat.{◌+◌, ◌-◌}
 use mathlib.Core.Path.{◌≡◌, refl}
 use native.Mathlib.Omega.{arith}
-use lib.ListN.{length}
 use Rattle.enzyme_windows.specs.Pieces.{pieces}
 use Rattle.enzyme_parts.specs.Walk.{sites_in}
-use Rattle.enzyme_parts.specs.Weighed.{weigh_from}
 use Rattle.enzyme_parts.specs.WalkLaws.{weigh_sizes_end}
-use Rattle.enzyme_parts.specs.Going.{Underway}
 use Rattle.enzyme_parts.specs.GoingLaws.{underway_start, underway_end}
 use Rattle.enzyme_semi.specs.WeightLaws.{weight_of}
-use Rattle.enzyme_sizes.specs.Told.{TablesLong, LevelTold}
 use Rattle.enzyme_sizes.specs.ToldLaws.{long_same, told_serves}
 use Rattle.enzyme_sizes.specs.StepLaws.{step_ready, step_on}
 use Rattle.enzyme_sizes.proofs.sizes.offer_more.Goals as goal
