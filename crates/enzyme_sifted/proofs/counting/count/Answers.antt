@@ -1,10 +1,8 @@
 -- `count` meets its contract. Assumes nothing.
-use Prim.Native.Nat.{◌≤◌, ◌-◌}
 use mathlib.Core.Path.{◌≡◌, refl, ◌∙◌}
 use lib.ListN.{length, length-set}
 use native.Mathlib.Omega.{arith}
 use Rattle.enzyme_codes.specs.Codes.{code_at}
-use Rattle.enzyme_sifted.specs.Sifted.{CodesSeen}
 use Rattle.enzyme_sifted.specs.SiftLaws.{seen_none, seen_more}
 use Rattle.enzyme_sifted.proofs.counting.count.Goals as goal
 

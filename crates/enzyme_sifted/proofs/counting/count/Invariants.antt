@@ -1,11 +1,9 @@
 -- `count` meets its contract. Assumes nothing.
 use Prim.Native.Nat.{◌≤◌, ◌-◌}
-use mathlib.Core.Path.{◌≡◌, refl, ◌∙◌}
-use lib.ListN.{length, length-set}
-use native.Mathlib.Omega.{arith}
+use mathlib.Core.Path.{◌≡◌}
+use lib.ListN.{length}
 use Rattle.enzyme_codes.specs.Codes.{code_at}
 use Rattle.enzyme_sifted.specs.Sifted.{CodesSeen}
-use Rattle.enzyme_sifted.specs.SiftLaws.{seen_none, seen_more}
 use Rattle.enzyme_sifted.proofs.counting.count.Given as goal
 
 abbrev pub invariant-loop-z : goal.invariant-loop-z

@@ -1,9 +1,7 @@
 -- `pick` meets its contract. Assumes nothing.
-use Prim.Native.Nat.{◌≤◌, ◌-◌}
 use mathlib.Core.Path.{◌≡◌, refl, ◌∙◌}
-use lib.ListN.{length, length-set}
+use lib.ListN.{length-set}
 use native.Mathlib.Omega.{arith}
-use Rattle.enzyme_sifted.specs.Sifted.{RepeatsPicked}
 use Rattle.enzyme_sifted.specs.SiftLaws.{repeats-picked-none, repeats-picked-turn}
 use Rattle.enzyme_sifted.proofs.picking.pick.Goals as goal
 

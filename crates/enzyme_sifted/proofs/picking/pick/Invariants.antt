@@ -1,10 +1,8 @@
 -- `pick` meets its contract. Assumes nothing.
 use Prim.Native.Nat.{◌≤◌, ◌-◌}
-use mathlib.Core.Path.{◌≡◌, refl, ◌∙◌}
-use lib.ListN.{length, length-set}
-use native.Mathlib.Omega.{arith}
+use mathlib.Core.Path.{◌≡◌}
+use lib.ListN.{length}
 use Rattle.enzyme_sifted.specs.Sifted.{RepeatsPicked}
-use Rattle.enzyme_sifted.specs.SiftLaws.{repeats-picked-none, repeats-picked-turn}
 use Rattle.enzyme_sifted.proofs.picking.pick.Given as goal
 
 abbrev pub invariant-loop-z : goal.invariant-loop-z
