@@ -1,2 +1,2 @@
-// No code: the rules of the cover and of its update, and what follows from them, stand in specs.
+// No code: the rules of the cover and of its update stand in specs, and what follows from them there and in proofs.
 #![tactic(auto)]
