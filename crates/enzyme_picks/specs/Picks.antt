@@ -1,5 +1,5 @@
 -- The windows of a table of starts, with a weight for each, and what is written of them.
-use Rattle.std.specs.Prelude.{ℕ, zero, suc, ◌+◌, ◌-◌, ◌≤◌, ◌<◌, Bool, true, ◌&&◌, List, [], ◌∷◌, length, get_or, ltb}
+use Rattle.std.specs.Prelude.{ℕ, zero, suc, ◌+◌, ◌-◌, ◌≤◌, ◌<◌, Bool, ◌&&◌, List, length, get_or, ltb}
 use Rattle.enzyme_cuts.specs.Cutting.{Range, range, within}
 use Rattle.enzyme_keep.specs.declared.offering.Step.TheVariants.{Kept}
 use Rattle.enzyme_keep.specs.Digests.{record_of}

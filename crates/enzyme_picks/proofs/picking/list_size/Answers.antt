@@ -1,10 +1,8 @@
 -- `list_size` meets its contract: the windows ahead give the whole. Assumes nothing.
 use native.Mathlib.Omega.{arith}
 use mathlib.Core.Path.{◌≡◌, refl, sym, ◌∙◌}
-use Prim.Native.Nat.{suc, ◌+◌, ◌-◌}
-use lib.ListN.{length}
+use Prim.Native.Nat.{suc, ◌+◌}
 use Rattle.enzyme_weights.specs.Weights.{weight_in}
-use Rattle.enzyme_picks.specs.Picks.{windows_put}
 use Rattle.enzyme_picks.specs.PickLaws.{turn-kept, turn_full, put-start, put_end}
 use Rattle.std.proofs.Common.{rules}
 use Rattle.enzyme_picks.proofs.picking.list_size.Goals as goal

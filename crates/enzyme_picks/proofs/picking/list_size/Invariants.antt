@@ -1,11 +1,9 @@
 -- `list_size` meets its contract: the windows ahead give the whole. Assumes nothing.
-use native.Mathlib.Omega.{arith}
-use mathlib.Core.Path.{◌≡◌, refl, sym, ◌∙◌}
+use mathlib.Core.Path.{◌≡◌}
 use Prim.Native.Nat.{suc, ◌+◌, ◌-◌}
 use lib.ListN.{length}
 use Rattle.enzyme_weights.specs.Weights.{weight_in}
 use Rattle.enzyme_picks.specs.Picks.{windows_put}
-use Rattle.enzyme_picks.specs.PickLaws.{turn-kept, turn_full, put-start, put_end}
 use Rattle.enzyme_picks.proofs.picking.list_size.Given as goal
 
 abbrev pub invariant-loop-e : goal.invariant-loop-e
