@@ -103,11 +103,11 @@ module _ (pairs flags : List ℕ) (peptides proteins words : ℕ) (p : tested pa
 
   -- A group has a member, and an edge.
   pub no_empty-group : (g : ℕ) → g < G.groups → (0 < members_of g G.members) × (0 < of_group g G.edges)
-  no_empty-group g h = rw as_packed (laws.no-empty-group flags peptides qs g (rw as_packed at h))
+  no_empty-group g h = rw as_packed (laws.no_empty-group flags peptides qs g (rw as_packed at h))
 
   -- A meta-peptide has an edge.
   pub no_empty-meta : (m : ℕ) → m < G.metas → 0 < of_meta m G.edges
-  no_empty-meta m h = rw as_packed (laws.no-empty-meta flags peptides qs m (rw as_packed at h))
+  no_empty-meta m h = rw as_packed (laws.no_empty-meta flags peptides qs m (rw as_packed at h))
 
   -- The cover of the edges marks for each peptide that has a pair a group with one of its proteins, seen with its flag.
   pub each_peptide_reached : (q : Pair) → In q qs → Reached flags qs G q.peptide

@@ -1,6 +1,6 @@
 -- The evidence of each key, in a lent slice: by key, numbered, sorted. Assumes nothing.
-use Rattle.std.specs.Prelude.{◌≡◌, refl, Bool, true, ◌&&◌, List, [], ◌∷◌, map, ℕ, zero, suc, ◌+◌, ◌-◌, ◌≤◌, ◌<◌, ltb, leb, length, get_or}
-use Rattle.std.proofs.Common.{sym, ap, ◌∙◌, inl, inr, add-one, arith, lt-ltb, le-leb}
+use Rattle.std.specs.Prelude.{◌≡◌, Bool, true, ◌&&◌, List, [], ◌∷◌, map, ℕ, suc, ◌+◌, ◌-◌, ◌≤◌, ◌<◌, ltb, leb, length, get_or}
+use Rattle.std.proofs.Common.{ap, ◌∙◌, inl, inr, add-one, arith, lt-ltb, le-leb}
 use Rattle.std.proofs.Math.Seq.{slice}
 use Rattle.lists.specs.FrameLaws.{Out}
 use Rattle.lists.specs.FirstLaws.{first_at, first_ones, firsts-all, all_of_key, under_places}

@@ -4,8 +4,6 @@ use native.Mathlib.Omega.{arith}
 use Rattle.protein_groups_tables.specs.EvidenceLaws.{table-zero, all-below, evident}
 use Rattle.protein_groups_tables.proofs.evidence.evidences.Goals as goal
 
--- TODO answers 8, needs 7: ['wide-size-requires', 'sort_values-requires', 'number_all-found-requires', 'overflow_add-a', 'sort_each-requires', 'shape_of-w', 'returns']
-
 pub number_all-found-requires : goal.number_all-found-requires
 number_all-found-requires c =
     let a = c.args in let g = c.requires in let f = g.keyed in let s = c.sort_values in (

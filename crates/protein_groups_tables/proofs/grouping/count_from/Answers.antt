@@ -1,9 +1,9 @@
 -- `count_from` meets its contract. Assumes nothing.
 use mathlib.Core.Path.{◌≡◌, refl, ◌∙◌}
-use Prim.Native.Nat.{◌+◌, ◌-◌, ◌≤◌}
+use Prim.Native.Nat.{◌+◌}
 use native.Mathlib.Omega.{arith}
-use lib.ListN.{length, length-set}
-use Rattle.protein_groups_tables.specs.ProteinLaws.{Rowed, row_none, row_more}
+use lib.ListN.{length-set}
+use Rattle.protein_groups_tables.specs.ProteinLaws.{row_none, row_more}
 use Rattle.protein_groups_tables.proofs.grouping.count_from.Goals as goal
 
 pub loop-i-init : goal.loop-i-init

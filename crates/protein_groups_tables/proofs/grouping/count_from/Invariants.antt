@@ -1,9 +1,8 @@
 -- `count_from` meets its contract. Assumes nothing.
-use mathlib.Core.Path.{◌≡◌, refl, ◌∙◌}
-use Prim.Native.Nat.{◌+◌, ◌-◌, ◌≤◌}
-use native.Mathlib.Omega.{arith}
-use lib.ListN.{length, length-set}
-use Rattle.protein_groups_tables.specs.ProteinLaws.{Rowed, row_none, row_more}
+use mathlib.Core.Path.{◌≡◌}
+use Prim.Native.Nat.{◌-◌, ◌≤◌}
+use lib.ListN.{length}
+use Rattle.protein_groups_tables.specs.ProteinLaws.{Rowed}
 use Rattle.protein_groups_tables.proofs.grouping.count_from.Given as goal
 
 abbrev pub invariant-loop-i : goal.invariant-loop-i
