@@ -15,7 +15,7 @@ use Rattle.protein_groups_spec.specs.ProteinGroups.{pair_at, pairs_in, grouping}
 use Rattle.protein_groups_spec.specs.PackedGroups.{packed_seen, packed_grouping}
 use Rattle.protein_groups_spec.specs.WholeLaws.{peptides_of}
 use Rattle.protein_groups_tables.specs.Placed.{keys_at, Placeable, GroupingFits}
-use Rattle.protein_groups_spec.specs.PackingLaws.{packed-grouping}
+use Rattle.protein_groups_spec.proofs.PackingLaws.{packed-grouping}
 use Rattle.protein_groups.specs.declared.arranging.Stands.{Stands}
 use Rattle.protein_groups.specs.declared.grouping.Grouped.{Grouped}
 use Rattle.protein_groups.specs.declared.grouping.Grouped.TheVariants.{Made, Refused as No}

@@ -15,12 +15,12 @@ use Rattle.cover_edges.specs.BackLaws.{edges-accepted}
 use Rattle.protein_groups_members.specs.Members.{Member, member_bytes, first_bad_member}
 use Rattle.protein_groups_members.specs.MemberLaws.{members_accepted}
 use Rattle.protein_groups_spec.specs.ProteinGroups.{Pair, pair_at, pairs_in, Groups, grouping}
-use Rattle.protein_groups_spec.specs.Standing.{standing, members_of, seen_as, showing, Reached}
+use Rattle.protein_groups_spec.specs.Standing.{PairsFit, standing, members_of, seen_as, showing, Reached}
 use Rattle.protein_groups_spec.specs.PackedGroups.{packed_seen, packed_grouping}
-use Rattle.protein_groups_spec.specs.PackingLaws.{packed-grouping}
-use Rattle.protein_groups_spec.specs.TheoremLaws.{PairsFit, all_members}
-use Rattle.protein_groups_spec.specs.GroupingLaws as laws
-use Rattle.protein_groups_spec.specs.SizeLaws.{few_groups, few_metas, few_edges, few_members}
+use Rattle.protein_groups_spec.proofs.PackingLaws.{packed-grouping}
+use Rattle.protein_groups_spec.proofs.TheoremLaws.{all_members}
+use Rattle.protein_groups_spec.proofs.GroupingLaws as laws
+use Rattle.protein_groups_spec.proofs.SizeLaws.{few_groups, few_metas, few_edges, few_members}
 
 module _ (pairs flags : List ℕ) (peptides proteins words : ℕ) (p : tested pairs flags peptides proteins words ≡ Passed) where
   -- its pairs, and their grouping

@@ -1,9 +1,14 @@
 -- The words of the theorems on the grouping.
-use Rattle.std.specs.Prelude.{ℕ, ◌≡◌, Bool, true, ◌&&◌, List, ltb, eqb, get_or}
+use Rattle.std.specs.Prelude.{ℕ, ◌≡◌, ◌≤◌, ◌<◌, Bool, true, ◌&&◌, List, ltb, eqb, length, get_or}
 use Rattle.lists.specs.Lists.{In, count}
 use Rattle.cover_spec.specs.Cover.{cover}
 use Rattle.protein_groups_members.specs.Members.{Member}
 use Rattle.protein_groups_spec.specs.ProteinGroups.{Pair, Groups}
+
+-- what is asked of the lists: flags are 0 or 1, and a pair's peptide is below the number of peptides
+pub record PairsFit (flags : List ℕ) (peptides : ℕ) (qs : List Pair) : Type 0 where
+  pub flag : (i : ℕ) → i < length flags → get_or flags i 0 ≤ 1
+  pub below : (q : Pair) → In q qs → q.peptide < peptides
 
 -- how many members have protein p and flag f
 abbrev pub standing : ℕ → ℕ → List Member → ℕ

@@ -12,7 +12,7 @@ use Rattle.sorting_spec.specs.Distinct.{distinct}
 use Rattle.protein_groups_spec.specs.ProteinGroups.{Pair, Seen, seen, alike, among, place, firsts, pairs_of, shown, proteins, taking, up, evidence, metas, list_from, list_of, edges_from, member, members_from, groups_of, grouping}
 use Rattle.lists.specs.FirstLaws as first
 use Rattle.protein_groups_spec.specs.PackedGroups.{packed_grouping, packed_evidence, packed_groups, packed_member, packed_members, packed_metas, packed_proteins, packed_seen, packed_shown, lists}
-use Rattle.protein_groups_spec.specs.TheoremLaws.{halves_pack, place_in_found}
+use Rattle.protein_groups_spec.proofs.TheoremLaws.{halves_pack, place_in_found}
 use Rattle.protein_groups_spec.specs.ReadingLaws.{map_shift}
 use Rattle.protein_groups_spec.specs.WholeLaws.{row_alike, same_alike}
 

@@ -15,8 +15,8 @@ use Rattle.sorting_spec.specs.Distinct.{once_after, once, distinct}
 use Rattle.protein_groups_members.specs.Members.{Member}
 use Rattle.protein_groups_spec.specs.ProteinGroups.{Pair, pairs_of, up, list_from}
 use Rattle.protein_groups_spec.specs.PackedGroups.{packed_shown, packed_seen, packed_proteins, packed_metas, packed_evidence, packed_member}
-use Rattle.protein_groups_spec.specs.Standing.{showing}
-use Rattle.protein_groups_spec.specs.TheoremLaws.{PairsFit, replicate_in, list_in, place_in_found, in_found, in_shown, own-meta, meta-has, taking-has, pair_is}
+use Rattle.protein_groups_spec.specs.Standing.{PairsFit, showing}
+use Rattle.protein_groups_spec.proofs.TheoremLaws.{replicate_in, list_in, place_in_found, in_found, in_shown, own-meta, meta-has, taking-has, pair_is}
 
 -- ---- distinct lists rise, so each stands at one place
 

@@ -23,7 +23,7 @@ use Rattle.protein_groups_spec.specs.CountingLaws.{metas_in, groups_in, list_cho
 use Rattle.protein_groups_spec.specs.LeaderLaws.{le_texts, texts_length, spread_most, edges_spread}
 use Rattle.protein_groups_spec.specs.ReadingLaws.{read_walk}
 use Rattle.protein_groups_spec.specs.WholeLaws.{peptides_of, times_pairs, whole-packed}
-use Rattle.protein_groups_spec.specs.TheoremLaws.{found_once, member_seen}
+use Rattle.protein_groups_spec.proofs.TheoremLaws.{found_once, member_seen}
 
 -- ---- what is left of a list is no longer than it
 

@@ -18,9 +18,9 @@ use Rattle.cover_spec.proofs.CoverLaws.{neighbour}
 use Rattle.protein_groups_members.specs.Members.{Member}
 use Rattle.protein_groups_spec.specs.ProteinGroups.{Pair, Groups, edges_from}
 use Rattle.protein_groups_spec.specs.PackedGroups.{packed_proteins, packed_metas, lists, packed_member, packed_members, packed_groups, packed_grouping}
-use Rattle.protein_groups_spec.specs.Standing.{standing, members_of, seen_as, showing, Reached}
-use Rattle.protein_groups_spec.specs.TheoremLaws.{PairsFit, flag_le, seen_is, edge_counts, edge_find, all_edges, list_in, edge_in, in_edge, member_in, in_member, some-meta, some-protein, list_group, group_list, standing-times, times-seen, protein-seen, own-meta, reached-by_list}
-use Rattle.protein_groups_spec.specs.AlikeLaws.{distinct-at, list_showing, showing_list}
+use Rattle.protein_groups_spec.specs.Standing.{PairsFit, standing, members_of, seen_as, showing, Reached}
+use Rattle.protein_groups_spec.proofs.TheoremLaws.{flag_le, seen_is, edge_counts, edge_find, all_edges, list_in, edge_in, in_edge, member_in, in_member, some-meta, some-protein, list_group, group_list, standing-times, times-seen, protein-seen, own-meta, reached-by_list}
+use Rattle.protein_groups_spec.proofs.AlikeLaws.{distinct-at, list_showing, showing_list}
 
 module _ (flags : List ℕ) (peptides : ℕ) (qs : List Pair) where
   abbrev G : Groups

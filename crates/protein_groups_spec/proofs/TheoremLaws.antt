@@ -27,13 +27,8 @@ use Rattle.protein_groups_members.specs.Members.{Member}
 use Rattle.protein_groups_members.specs.MemberLaws.{Ranged}
 use Rattle.protein_groups_spec.specs.ProteinGroups.{Pair, pairs_of, paired, taking, up, list_from, edges_from}
 use Rattle.protein_groups_spec.specs.PackedGroups.{packed_shown, packed_seen, packed_proteins, packed_metas, packed_evidence, lists, packed_member, packed_members, packed_groups, packed_grouping}
-use Rattle.protein_groups_spec.specs.Standing.{standing, seen_as}
+use Rattle.protein_groups_spec.specs.Standing.{PairsFit, standing, seen_as}
 use Rattle.protein_groups_spec.specs.LeaderLaws.{walk_by, runs_tagged, gathered_walk, distinct_in, le_texts}
-
--- what is asked of the lists: flags are 0 or 1, and a pair's peptide is below the number of peptides
-pub record PairsFit (flags : List ℕ) (peptides : ℕ) (qs : List Pair) : Type 0 where
-  pub flag : (i : ℕ) → i < length flags → get_or flags i 0 ≤ 1
-  pub below : (q : Pair) → In q qs → q.peptide < peptides
 
 -- at the places of a list
 pub count_places : (t : ℕ → Bool) (at : ℕ → ℕ) (a : ℕ) (l : List ℕ) → ((i : ℕ) → i < length l → at (a + i) ≡ get_or l i 0) → count (λ k. t (at k)) (up_from a (length l)) ≡ count t l
