@@ -1,13 +1,9 @@
 -- `list_levels` meets its contract: the sizes ahead give the whole, and the next size is ranked. Assumes nothing.
 use native.Mathlib.Omega.{arith}
 use mathlib.Core.Path.{◌≡◌, refl, ◌∙◌}
-use mathlib.Core.List.{List}
-use Prim.Native.Nat.{ℕ, suc, ◌+◌, ◌-◌, ◌≤◌}
+use Prim.Native.Nat.{suc, ◌+◌, ◌-◌}
 use lib.ListN.{length}
 use Rattle.enzyme_windows.specs.Pieces.{pieces}
-use Rattle.enzyme_windows.specs.Weights.{class_weight}
-use Rattle.enzyme_levels.specs.Levels.{LevelRanked}
-use Rattle.enzyme_picks.specs.Picks.{sizes_put}
 use Rattle.enzyme_picks.specs.PickLaws.{sizes-kept, sizes_full, sizes-last}
 use Rattle.enzyme_set.specs.ListLaws.{level_listed, level_ready}
 use Rattle.enzyme_set.proofs.windows.list_levels.Invariants.{weights}
