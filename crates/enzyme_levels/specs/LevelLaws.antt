@@ -2,9 +2,9 @@
 use Rattle.std.specs.Prelude.{ℕ, zero, suc, min, ◌+◌, ◌≤◌, ◌<◌, ◌≡◌, refl, ◌⊎◌, List, [], ◌∷◌, get_or}
 use Rattle.std.proofs.Common.{sym, ap, ◌∙◌, inl, inr, arith, add-one}
 use Rattle.lists.specs.Tests.{same?, below?}
-use Rattle.enzyme_windows.specs.Shared.{SameWindow, Named, shared_sites}
+use Rattle.enzyme_windows.specs.Shared.{SameWindow, Named, shared_sites, SharedUpTo}
 use Rattle.enzyme_windows.specs.NameLaws.{window_on, window_back}
-use Rattle.enzyme_windows.specs.TableLaws.{SharedUpTo, shared-up-more, shared-up-same}
+use Rattle.enzyme_windows.proofs.TableLaws.{shared-up-more, shared-up-same}
 use Rattle.enzyme_rows.specs.Steps.{AmongFirst, RunsRanked, goes_on, Kept}
 use Rattle.enzyme_runs.specs.RunLaws.{alike?}
 use Rattle.enzyme_runs.specs.StepLaws.{ranks_same, ranks_back, goes_on_lem, went_on, ranked_again, ranked_first, ranked_rest}

@@ -1,9 +1,8 @@
 -- The tables behind windows of n sites.
 use Rattle.std.specs.Prelude.{ℕ, suc, ◌+◌, ◌≤◌, ◌<◌, ◌≡◌, List, length, get_or}
 use Rattle.enzyme_windows.specs.Pieces.{end_to_end}
-use Rattle.enzyme_windows.specs.Shared.{SameWindow, Named}
+use Rattle.enzyme_windows.specs.Shared.{SameWindow, Named, SharedUpTo}
 use Rattle.enzyme_windows.specs.StartLaws.{piece_start}
-use Rattle.enzyme_windows.specs.TableLaws.{SharedUpTo}
 use Rattle.enzyme_keys.specs.Keys.{SiteWithin}
 use Rattle.enzyme_rows.specs.Steps.{AmongFirst, FirstDiffer, StandTogether, RunStarts}
 

@@ -5,10 +5,10 @@ use Rattle.std.proofs.lemmas.Bool.{eqb-false, lt-leb}
 use Rattle.lists.specs.Tests.{same?, below?}
 use Rattle.enzyme_windows.specs.Shared.{shared_sites, SameWindow}
 use Rattle.enzyme_windows.specs.Weights.{one_if_same, windows_there, same_count, class_weight}
-use Rattle.enzyme_windows.specs.FirstLaws.{window-shared}
+use Rattle.enzyme_windows.proofs.FirstLaws.{window-shared}
 use Rattle.enzyme_windows.specs.GroupLaws.{window_self, window-turned}
 use Rattle.enzyme_windows.specs.SumLaws.{count_places}
-use Rattle.enzyme_windows.specs.ClassLaws.{one_same, same_or}
+use Rattle.enzyme_windows.proofs.ClassLaws.{one_same, same_or}
 use Rattle.enzyme_rows.specs.Steps.{AmongFirst}
 use Rattle.enzyme_runs.specs.RunLaws.{run-start, runs_back, runs_same}
 use Rattle.enzyme_weights.specs.Weights.{run_from, run_size, class_size, weight_in}

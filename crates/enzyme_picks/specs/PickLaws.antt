@@ -18,11 +18,11 @@ use Rattle.enzyme_windows.specs.Weights.{same_count, class_weight}
 use Rattle.enzyme_windows.specs.PieceLaws.{end_to_end_pieces}
 use Rattle.enzyme_windows.specs.WindowLaws.{end_to_end_append, windows_inside}
 use Rattle.enzyme_windows.specs.LookedLaws.{kept-firsts}
-use Rattle.enzyme_windows.specs.KeptLaws.{first-windows}
-use Rattle.enzyme_windows.specs.SiteLaws.{sites-pieces}
+use Rattle.enzyme_windows.proofs.KeptLaws.{first-windows}
+use Rattle.enzyme_windows.proofs.FilledLaws.{sites-pieces}
 use Rattle.enzyme_windows.specs.StartLaws.{piece_start, unshared-on, unshared_end}
-use Rattle.enzyme_windows.specs.ClassLaws.{count-some}
-use Rattle.enzyme_windows.specs.HavingLaws.{window-text, sizes-having}
+use Rattle.enzyme_windows.proofs.ClassLaws.{count-some}
+use Rattle.enzyme_windows.proofs.HavingLaws.{window-text, sizes-having}
 use Rattle.enzyme_once.specs.Once.{each_once}
 use Rattle.enzyme_picks.specs.Picks.{StartsRise, new_at, windows_put, sizes_put}
 use Rattle.enzyme_keep.specs.StepLaws.{unless_alike}

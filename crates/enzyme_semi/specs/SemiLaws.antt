@@ -13,15 +13,16 @@ use Rattle.enzyme_keep.specs.Steps.{after, offers, standing, among}
 use Rattle.enzyme_keep.specs.StepLaws.{view_told}
 use Rattle.enzyme_windows.specs.Pieces.{pieces}
 use Rattle.enzyme_windows.specs.PieceLaws.{end_to_end_pieces}
-use Rattle.enzyme_windows.specs.SiteLaws.{non_empty, sites-pieces}
+use Rattle.enzyme_windows.specs.SiteLaws.{non_empty}
+use Rattle.enzyme_windows.proofs.FilledLaws.{sites-pieces}
 use Rattle.enzyme_windows.specs.WindowLaws.{length-placed}
 use Rattle.enzyme_windows.specs.StartLaws.{piece_start}
 use Rattle.enzyme_once.specs.Once.{each_once}
 use Rattle.enzyme_once.specs.SpotLaws.{spots}
 use Rattle.enzyme_once.specs.DistinctLaws.{NoRangeTwice}
 use Rattle.enzyme_fresh.specs.Fresh.{fresh}
-use Rattle.enzyme_fresh.specs.KeptLaws.{placed-spots}
-use Rattle.enzyme_fresh.specs.FreshLaws.{fresh_inside, fresh-once, fresh-offers}
+use Rattle.enzyme_fresh.proofs.KeptLaws.{placed-spots}
+use Rattle.enzyme_fresh.proofs.FreshLaws.{fresh_inside, fresh-once, fresh-offers}
 use Rattle.enzyme_sites.specs.Starts.{Starts}
 use Rattle.enzyme_words.specs.Words.{Far}
 use Rattle.enzyme_list.specs.Tally.{step_at}

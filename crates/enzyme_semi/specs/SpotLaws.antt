@@ -4,7 +4,8 @@ use Rattle.std.proofs.Common.{ap, ◌∙◌, append-nil, arith, length-append}
 use Rattle.enzyme_cuts.specs.declared.kinds.Knife.{Knife}
 use Rattle.enzyme_cuts.specs.Cutting.{Range, site, set_sites}
 use Rattle.enzyme_windows.specs.Pieces.{pieces, end_to_end, places_from}
-use Rattle.enzyme_windows.specs.SiteLaws.{non_empty, sites-pieces}
+use Rattle.enzyme_windows.specs.SiteLaws.{non_empty}
+use Rattle.enzyme_windows.proofs.FilledLaws.{sites-pieces}
 use Rattle.enzyme_windows.specs.StartLaws.{piece_start}
 use Rattle.enzyme_once.specs.SpotLaws.{spots}
 use Rattle.enzyme_sites.specs.Starts.{Starts}

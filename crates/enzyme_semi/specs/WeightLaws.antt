@@ -3,12 +3,12 @@
 use Rattle.std.specs.Prelude.{ℕ, suc, ◌-◌, ◌*◌, ◌≡◌, refl, Bool, true, false, cond, List, length, ltb, leb, eqb}
 use Rattle.std.proofs.Common.{sym, subst, ◌∙◌, arith, one-mul, leb-true, leb-false, lt-ltb, le-ltb, ne_eqb}
 use Rattle.enzyme_windows.specs.Shared.{shared_sites}
-use Rattle.enzyme_windows.specs.FirstLaws.{shared-window}
+use Rattle.enzyme_windows.proofs.FirstLaws.{shared-window}
 use Rattle.enzyme_windows.specs.Weights.{sum_to, same_count, class_weight}
 use Rattle.enzyme_windows.specs.SumLaws.{sum_alike}
-use Rattle.enzyme_windows.specs.ClassLaws.{count-some, class_sum}
+use Rattle.enzyme_windows.proofs.ClassLaws.{count-some, class_sum}
 use Rattle.enzyme_fresh.specs.Fresh.{Repeats}
-use Rattle.enzyme_fresh.specs.FreshLaws.{zero-repeats}
+use Rattle.enzyme_fresh.proofs.FreshLaws.{zero-repeats}
 use Rattle.enzyme_semi.specs.WeighedLaws.{SkipsAs}
 use Rattle.enzyme_semi.specs.TallyLaws.{WeighsAll}
 

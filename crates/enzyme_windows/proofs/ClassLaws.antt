@@ -4,7 +4,7 @@ use Rattle.std.proofs.Common.{sym, ◌∙◌, inl, inr, arith, leb-true, le-leb}
 use Rattle.lists.specs.Tests.{below?}
 use Rattle.enzyme_windows.specs.Shared.{in_common, shared_sites, SameWindow}
 use Rattle.enzyme_windows.specs.Weights.{sum_to, one_if_same, windows_there, same_count, class_weight}
-use Rattle.enzyme_windows.specs.FirstLaws.{window-alike, alike-window, shared-window, window-shared}
+use Rattle.enzyme_windows.proofs.FirstLaws.{window-alike, alike-window, shared-window, window-shared}
 use Rattle.enzyme_windows.specs.GroupLaws.{window_self, window-turned, window_through}
 use Rattle.enzyme_windows.specs.SumLaws.{sum_alike, sum-none, sum-times, sum_swap, sum_one}
 

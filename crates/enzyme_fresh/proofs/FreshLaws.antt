@@ -10,14 +10,15 @@ use Rattle.enzyme_keep.specs.declared.offering.Terms.{Terms}
 use Rattle.enzyme_keep.specs.Steps.{offers}
 use Rattle.enzyme_windows.specs.Pieces.{pieces}
 use Rattle.enzyme_windows.specs.PieceLaws.{end_to_end_pieces}
-use Rattle.enzyme_windows.specs.SiteLaws.{non_empty, sites-pieces}
+use Rattle.enzyme_windows.specs.SiteLaws.{non_empty}
+use Rattle.enzyme_windows.proofs.FilledLaws.{sites-pieces}
 use Rattle.enzyme_windows.specs.LookedLaws.{kept_after, kept-firsts}
 use Rattle.enzyme_once.specs.Once.{each_once}
 use Rattle.enzyme_once.specs.DistinctLaws.{NoRangeTwice, once-once}
 use Rattle.enzyme_once.specs.RangeLaws.{once_inside}
 use Rattle.enzyme_fresh.specs.Fresh.{fresh, Repeats}
 use Rattle.enzyme_keep.specs.PutLaws.{kept-offers}
-use Rattle.enzyme_fresh.specs.KeptLaws.{placed-spots, fresh-same}
+use Rattle.enzyme_fresh.proofs.KeptLaws.{placed-spots, fresh-same}
 use Rattle.enzyme_fresh.specs.FewerLaws.{fewer_distinct, fewer_inside, from_fewer}
 
 -- ---- what the numbers say

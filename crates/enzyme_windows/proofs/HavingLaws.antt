@@ -11,11 +11,11 @@ use Rattle.enzyme_windows.specs.Pieces.{pieces, end_to_end, places_from}
 use Rattle.enzyme_windows.specs.Shared.{SameWindow}
 use Rattle.enzyme_windows.specs.Weights.{sum_to, one_if_same, same_count}
 use Rattle.enzyme_windows.specs.PieceLaws.{end_to_end_pieces}
-use Rattle.enzyme_windows.specs.KeptLaws.{text, other_text}
-use Rattle.enzyme_windows.specs.FirstLaws.{letters-window}
+use Rattle.enzyme_windows.proofs.KeptLaws.{text, other_text}
+use Rattle.enzyme_windows.proofs.FirstLaws.{letters-window}
 use Rattle.enzyme_windows.specs.StartLaws.{piece_start, window-letters, windows-at, windows-past}
 use Rattle.enzyme_windows.specs.SumLaws.{sum_alike, sum-none}
-use Rattle.enzyme_windows.specs.ClassLaws.{one_same, same_or}
+use Rattle.enzyme_windows.proofs.ClassLaws.{one_same, same_or}
 
 same-turned : (t u : List ℕ) → same t u ≡ false → same u t ≡ false
 same-turned t u e = go (same u t) refl
