@@ -2,7 +2,6 @@
 use Rattle.std.specs.Prelude.{ℕ, zero, suc, ◌+◌, ◌-◌, ◌≤◌, ◌<◌, ◌≡◌, refl, ◌⊎◌, List, length, take, drop}
 use Rattle.std.proofs.Common.{sym, ◌∙◌, inl, inr, ⊎_elim, arith, length-drop, length-take-le}
 use Rattle.lists.specs.Tests.{same?, below?}
-use Rattle.lists.specs.Lists.{same}
 use Rattle.lists.specs.SameLaws.{same_short}
 use Rattle.enzyme_cuts.specs.Cutting.{site, starting, of_length, of_lengths, none_sites, having}
 use Rattle.enzyme_cuts.specs.HavingLaws.{having_append}

@@ -1,10 +1,8 @@
 -- `list_blocks` meets its contract: the blocks ahead, chosen, give the whole. Assumes nothing.
 use native.Mathlib.Omega.{arith}
-use mathlib.Core.Path.{◌≡◌, refl, ◌∙◌}
-use Prim.Native.Nat.{◌-◌, ◌/◌, ◌%◌}
+use mathlib.Core.Path.{refl, ◌∙◌}
+use Prim.Native.Nat.{◌/◌}
 use lib.ListN.{length}
-use Rattle.enzyme_cuts.specs.Cutting.{starting}
-use Rattle.enzyme_lengths.specs.Listing.{chosen_of, Told}
 use Rattle.enzyme_blocks.specs.BlockLaws.{block_above}
 use Rattle.enzyme_lengths.specs.StartLaws.{walk_kept, walk_full, starting_end}
 use Rattle.enzyme_lengths.proofs.listing.list_blocks.Goals as goal

@@ -1,10 +1,8 @@
 -- `list_length` meets its contract: the great blocks ahead, chosen, give the whole. Assumes nothing.
 use native.Mathlib.Omega.{arith}
 use mathlib.Core.Path.{◌≡◌, refl, ◌∙◌}
-use Prim.Native.Nat.{suc, ◌+◌, ◌-◌, ◌%◌}
+use Prim.Native.Nat.{suc, ◌+◌, ◌-◌}
 use lib.ListN.{length}
-use Rattle.enzyme_cuts.specs.Cutting.{starting, of_length}
-use Rattle.enzyme_lengths.specs.Listing.{chosen_of, Told}
 use Rattle.enzyme_lengths.specs.StartLaws.{walk_kept, walk_full, starting_end}
 use Rattle.enzyme_lengths.proofs.listing.list_length.Goals as goal
 

@@ -2,11 +2,11 @@
 use native.Mathlib.Omega.{arith}
 use mathlib.Core.Path.{◌≡◌, refl, sym, ◌∙◌}
 use mathlib.Core.List.{List, ◌++◌}
-use Prim.Native.Nat.{suc, ◌+◌, ◌-◌, ◌<◌, min}
+use Prim.Native.Nat.{suc, ◌+◌, ◌-◌}
 use lib.ListN.{length}
 use Rattle.enzyme_cuts.specs.Cutting.{Range, of_length, of_lengths, none_sites}
 use Rattle.enzyme_lengths.specs.ListingLaws.{lengths_on}
-use Rattle.enzyme_lengths.specs.Listing.{chosen_of, Told}
+use Rattle.enzyme_lengths.specs.Listing.{chosen_of}
 use Rattle.enzyme_lengths.specs.ListingLaws.{chosen-kept, chosen_full}
 use Rattle.enzyme_lengths.specs.StartLaws.{lengths_from-one, lengths_stop}
 use Rattle.enzyme_lengths.specs.TellingLaws.{told_later}

@@ -1,15 +1,9 @@
 -- `list_lengths` meets its contract: the lengths ahead, chosen, give the whole. Assumes nothing.
-use native.Mathlib.Omega.{arith}
-use mathlib.Core.Path.{◌≡◌, refl, sym, ◌∙◌}
-use mathlib.Core.List.{List, ◌++◌}
-use Prim.Native.Nat.{suc, ◌+◌, ◌-◌, ◌<◌, min}
+use mathlib.Core.Path.{◌≡◌}
+use Prim.Native.Nat.{suc, ◌-◌, ◌<◌, min}
 use lib.ListN.{length}
-use Rattle.enzyme_cuts.specs.Cutting.{Range, of_length, of_lengths, none_sites}
-use Rattle.enzyme_lengths.specs.ListingLaws.{lengths_on}
+use Rattle.enzyme_cuts.specs.Cutting.{of_lengths, none_sites}
 use Rattle.enzyme_lengths.specs.Listing.{chosen_of, Told}
-use Rattle.enzyme_lengths.specs.ListingLaws.{chosen-kept, chosen_full}
-use Rattle.enzyme_lengths.specs.StartLaws.{lengths_from-one, lengths_stop}
-use Rattle.enzyme_lengths.specs.TellingLaws.{told_later}
 use Rattle.enzyme_lengths.proofs.listing.list_lengths.Given as goal
 
 abbrev pub invariant-loop-len : goal.invariant-loop-len

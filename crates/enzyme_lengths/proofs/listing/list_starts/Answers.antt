@@ -2,11 +2,11 @@
 use native.Mathlib.Omega.{arith}
 use mathlib.Core.Path.{◌≡◌, refl, sym, ◌∙◌}
 use mathlib.Core.List.{List, ◌∷◌}
-use Prim.Native.Nat.{◌+◌, ◌-◌, ◌≤◌}
+use Prim.Native.Nat.{◌+◌, ◌-◌}
 use lib.ListN.{length}
 use borrow.Author.Tests.{ltb-true}
 use Rattle.enzyme_cuts.specs.Cutting.{Range, site, starting}
-use Rattle.enzyme_lengths.specs.Listing.{chosen_of, Told}
+use Rattle.enzyme_lengths.specs.Listing.{chosen_of}
 use Rattle.enzyme_lengths.specs.ListingLaws.{chosen-one-kept, chosen-one_full}
 use Rattle.enzyme_lengths.specs.StartLaws.{starts-on, starting_end}
 use Rattle.enzyme_lengths.specs.PositionLaws.{placed_as}

@@ -1,15 +1,9 @@
 -- `list_starts` meets its contract: the ranges ahead, chosen, give the whole. Assumes nothing.
-use native.Mathlib.Omega.{arith}
-use mathlib.Core.Path.{◌≡◌, refl, sym, ◌∙◌}
-use mathlib.Core.List.{List, ◌∷◌}
-use Prim.Native.Nat.{◌+◌, ◌-◌, ◌≤◌}
+use mathlib.Core.Path.{◌≡◌}
+use Prim.Native.Nat.{◌-◌, ◌≤◌}
 use lib.ListN.{length}
-use borrow.Author.Tests.{ltb-true}
-use Rattle.enzyme_cuts.specs.Cutting.{Range, site, starting}
+use Rattle.enzyme_cuts.specs.Cutting.{starting}
 use Rattle.enzyme_lengths.specs.Listing.{chosen_of, Told}
-use Rattle.enzyme_lengths.specs.ListingLaws.{chosen-one-kept, chosen-one_full}
-use Rattle.enzyme_lengths.specs.StartLaws.{starts-on, starting_end}
-use Rattle.enzyme_lengths.specs.PositionLaws.{placed_as}
 use Rattle.enzyme_lengths.proofs.listing.list_starts.Given as goal
 
 abbrev pub invariant-loop-a : goal.invariant-loop-a
