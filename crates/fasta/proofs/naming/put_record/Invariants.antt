@@ -1,13 +1,9 @@
 -- `put_record` meets its contract: what is still to be stored from i on gives the whole. Assumes nothing.
-use Prim.Native.Nat.{ℕ, ◌+◌, ◌-◌, ◌≤◌}
-use mathlib.Core.Path.{◌≡◌, refl, ap, ◌∙◌}
-use mathlib.Core.List.{List}
-use native.Mathlib.Omega.{arith}
-use lib.ListN.{length, drop, get_or, set}
+use Prim.Native.Nat.{◌-◌, ◌≤◌}
+use mathlib.Core.Path.{◌≡◌}
+use lib.ListN.{length, drop}
 use lib.Seq.{sets}
-use Rattle.records.specs.StoreLaws.{store_end}
 use Rattle.catalogue_spec.specs.Names.{padded}
-use Rattle.fasta.specs.EntryLaws.{length-padded, padded-stored}
 use Rattle.fasta.proofs.naming.put_record.Given as goal
 
 abbrev pub invariant-loop-i : goal.invariant-loop-i
