@@ -13,9 +13,8 @@ turn-requires c =
 pub returns-in-Refused : goal.returns-in-Refused
 returns-in-Refused c =
     let a = c.args in
-    let w = c.found-1 in
-    said w.given.0.0 c.number.result c.place.result c.number.ensures c.place.ensures ((a.decoy.now ∷ []) ∷ a.letters.now ∷ a.ids.now ∷ [])
-    ∙ reverse_no a.letters.now a.ids.now a.decoy.now w.given.0.0 (sym c.test_reverse-found.ensures ∙ w.given.1)
+    said c.in-Refused.why c.number.result c.place.result c.number.ensures c.place.ensures ((a.decoy.now ∷ []) ∷ a.letters.now ∷ a.ids.now ∷ [])
+    ∙ reverse_no a.letters.now a.ids.now a.decoy.now c.in-Refused.why (sym c.test_reverse-found.ensures ∙ c.in-Refused.is)
 
 pub returns-in-Passed : goal.returns-in-Passed
 returns-in-Passed c =

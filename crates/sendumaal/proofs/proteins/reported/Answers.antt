@@ -8,7 +8,6 @@ use Rattle.sendumaal.proofs.proteins.reported.Goals as goal
 
 pub returns-in-Refused : goal.returns-in-Refused
 returns-in-Refused c =
-    let f = c.answer-in-Refused-1 in
     let b = c.args.bytes.now in
     let g = c.args.groups.now in
-    said f.given.0.0 c.number.result c.place.result c.number.ensures c.place.ensures ((b ∷ []) ∷ (g ∷ []) ∷ []) ∙ sym (ap (λ (x : Reported). report_call x b g) f.given.1)
+    said c.in-Refused.why c.number.result c.place.result c.number.ensures c.place.ensures ((b ∷ []) ∷ (g ∷ []) ∷ []) ∙ sym (ap (λ (x : Reported). report_call x b g) c.in-Refused.is)

@@ -10,16 +10,14 @@ pub returns-in-Made : goal.returns-in-Made
 returns-in-Made c =
     let a = c.args in
     let g = c.group_proteins-answer in
-    let n = c.answer-1 in
     let q : ProteinsArguments = record { pairs = a.pairs.now; flags = a.flags.now; peptides = a.peptides; proteins = a.proteins; work = a.work.now; edges = a.edges.now; members = a.members.now; groups = a.groups.now; metas = a.metas.now; edge_count = a.edge_count.now; member_count = a.member_count.now } in
-    proteins-made q g.result (g.new.work ∷ g.new.edges ∷ g.new.members ∷ []) g.ensures n.given.0.0 n.given.1
+    proteins-made q g.result (g.new.work ∷ g.new.edges ∷ g.new.members ∷ []) g.ensures c.in-Made.sizes c.in-Made.is
 
 pub returns-in-Refused : goal.returns-in-Refused
 returns-in-Refused c =
     let a = c.args in
     let g = c.group_proteins-answer in
-    let n = c.answer-in-Refused-1 in
     let q : ProteinsArguments = record { pairs = a.pairs.now; flags = a.flags.now; peptides = a.peptides; proteins = a.proteins; work = a.work.now; edges = a.edges.now; members = a.members.now; groups = a.groups.now; metas = a.metas.now; edge_count = a.edge_count.now; member_count = a.member_count.now } in
-    said n.given.0.0 c.number.result c.place.result c.number.ensures c.place.ensures
+    said c.in-Refused.why c.number.result c.place.result c.number.ensures c.place.ensures
     ((q.groups ∷ []) ∷ (q.metas ∷ []) ∷ (q.edge_count ∷ []) ∷ (q.member_count ∷ []) ∷ g.new.work ∷ g.new.edges ∷ g.new.members ∷ [])
-    ∙ proteins_no q g.result (g.new.work ∷ g.new.edges ∷ g.new.members ∷ []) g.ensures n.given.0.0 n.given.1
+    ∙ proteins_no q g.result (g.new.work ∷ g.new.edges ∷ g.new.members ∷ []) g.ensures c.in-Refused.why c.in-Refused.is

@@ -9,13 +9,11 @@ pub returns-in-Id : goal.returns-in-Id
 returns-in-Id c =
     let a = c.args in
     let i = c.insert-answer in
-    let n = c.answer-1 in
-    insert_id (insert_outcome a.table.now a.count a.mass a.name) i.result (i.new.table ∷ []) a.id.now i.ensures n.given.0.0 n.given.1
+    insert_id (insert_outcome a.table.now a.count a.mass a.name) i.result (i.new.table ∷ []) a.id.now i.ensures c.in-Id.n c.in-Id.is
 
 pub returns-in-Refused : goal.returns-in-Refused
 returns-in-Refused c =
     let a = c.args in
     let i = c.insert-answer in
-    let n = c.answer-in-Refused-1 in
-    said n.given.0.0 c.number.result c.place.result c.number.ensures c.place.ensures ((a.id.now ∷ []) ∷ i.new.table ∷ [])
-    ∙ insert_no (insert_outcome a.table.now a.count a.mass a.name) i.result (i.new.table ∷ []) a.id.now i.ensures n.given.0.0 n.given.1
+    said c.in-Refused.why c.number.result c.place.result c.number.ensures c.place.ensures ((a.id.now ∷ []) ∷ i.new.table ∷ [])
+    ∙ insert_no (insert_outcome a.table.now a.count a.mass a.name) i.result (i.new.table ∷ []) a.id.now i.ensures c.in-Refused.why c.in-Refused.is
