@@ -1,5 +1,5 @@
 -- Each way keeps the digests, and tells how often their letters occur. Assumes nothing.
-use Rattle.std.specs.Prelude.{ℕ, zero, suc, ◌+◌, ◌-◌, ◌≤◌, ◌<◌, ◌≡◌, refl, Bool, true, false, ◌&&◌, ◌⊎◌, length, ltb, leb}
+use Rattle.std.specs.Prelude.{ℕ, zero, suc, ◌+◌, ◌-◌, ◌≤◌, ◌<◌, ◌≡◌, refl, true, ◌&&◌, length, ltb, leb}
 use Rattle.std.proofs.Common.{sym, ap, subst, ◌∙◌, inl, inr, ⊎_elim, arith, leb-true}
 use Rattle.std.proofs.Math.Bool.{and-true}
 use mathlib.Core.List.{List, [], ◌∷◌, ◌++◌, foldl}
@@ -9,7 +9,7 @@ use Rattle.letters.specs.declared.letter_set.LetterSet.{LetterSet}
 use Rattle.enzyme_cuts.specs.declared.kinds.Kind.{Kind}
 use Rattle.enzyme_cuts.specs.declared.kinds.Kind.TheVariants.{None, End, Set}
 use Rattle.enzyme_cuts.specs.declared.kinds.Enzyme.{Enzyme}
-use Rattle.enzyme_cuts.specs.Cutting.{Range, range, site, knife, meant, starting, of_length, of_lengths, none_sites, end_sites, windows_from, with_windows, sites_of, candidates, digests, part, within, kept, occurs}
+use Rattle.enzyme_cuts.specs.Cutting.{Range, range, site, knife, meant, starting, of_length, of_lengths, none_sites, end_sites, with_windows, candidates, digests, part, within, kept, occurs}
 use Rattle.enzyme_cuts.specs.Work.{RangesWithin, work_of, work}
 use Rattle.enzyme_cuts.specs.KeepLaws.{work_keeps, end_windows}
 use Rattle.enzyme_cuts.specs.InsideLaws.{inside_work, part_length}

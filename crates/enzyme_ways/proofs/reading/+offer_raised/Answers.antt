@@ -1,5 +1,4 @@
 -- `offer_raised` meets its contract, size by size; the room grows until it is enough. Assumes nothing.
-use Prim.Native.Nat.{ℕ, ◌-◌, ◌<◌}
 use native.Mathlib.Omega.{arith}
 use Rattle.enzyme_ways.proofs.reading.+offer_raised.Goals as goal
 

@@ -1,12 +1,8 @@
 -- `copy_raised` meets its contract: the first i places hold capitals. Assumes nothing.
-use Prim.Native.Nat.{ℕ, ◌+◌, ◌-◌, ◌≤◌, ◌<◌}
-use mathlib.Core.Path.{◌≡◌, refl, ◌∙◌}
-use native.Mathlib.Omega.{arith}
-use lib.ListN.{length, get_or, length-set}
-use lib.Seq.{get_or-take, length-take-le}
-use Rattle.lists.specs.FrameLaws.{set_more}
+use Prim.Native.Nat.{ℕ, ◌-◌, ◌<◌}
+use mathlib.Core.Path.{◌≡◌}
+use lib.ListN.{length, get_or}
 use Rattle.letters.specs.Letters.{capital}
-use Rattle.letters.specs.CapitalLaws.{capitals_is}
 use Rattle.enzyme_ways.proofs.reading.copy_raised.Given as goal
 
 abbrev pub invariant-loop-i : goal.invariant-loop-i

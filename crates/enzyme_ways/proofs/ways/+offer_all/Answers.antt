@@ -4,7 +4,6 @@ use mathlib.Core.Path.{◌≡◌, ap}
 use borrow.Author.Tests.{eq-eqb, ne_eqb}
 use Rattle.enzyme_cuts.specs.declared.kinds.Kind.TheVariants.{None, End, Set}
 use Rattle.enzyme_ways.specs.Ways.{looks_again}
-use Prim.Native.Nat.{ℕ, ◌<◌}
 use Rattle.enzyme_ways.proofs.ways.+offer_all.Goals as goal
 
 pub returns-then-n-le1024 : goal.returns-then-n-le1024

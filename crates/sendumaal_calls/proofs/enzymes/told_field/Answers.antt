@@ -10,5 +10,5 @@ returns-in-Passed c = sym (ap field_call c.in-Passed.is)
 
 pub returns-in-Refused : goal.returns-in-Refused
 returns-in-Refused c =
-    let f = c.found-1 in
-    said f.given.0.0 c.number.result c.place.result c.number.ensures c.place.ensures [] ∙ sym (ap field_call f.given.1)
+    let f = c.in-Refused in
+    said f.why c.number.result c.place.result c.number.ensures c.place.ensures [] ∙ sym (ap field_call f.is)

@@ -24,6 +24,6 @@ returns-in-Long c = told_as (goal.at.returns-in-Long c).Start _ c.in-Long.is
 
 pub returns-in-Refused : goal.returns-in-Refused
 returns-in-Refused c =
-    let f = c.answer-in-Refused-1 in
+    let f = c.in-Refused in
     let a = c.args in
-    said f.given.0.0 c.number.result c.place.result c.number.ensures c.place.ensures ((a.next.now ∷ []) ∷ (a.count.now ∷ []) ∷ (a.found.now ∷ []) ∷ []) ∙ told_as (goal.at.returns-in-Refused c).Start _ f.given.1
+    said f.why c.number.result c.place.result c.number.ensures c.place.ensures ((a.next.now ∷ []) ∷ (a.count.now ∷ []) ∷ (a.found.now ∷ []) ∷ []) ∙ told_as (goal.at.returns-in-Refused c).Start _ f.is

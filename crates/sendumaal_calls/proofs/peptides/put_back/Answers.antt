@@ -1,9 +1,8 @@
 -- `put_back` meets its contract. Assumes nothing.
 use mathlib.Core.Path.{◌≡◌, refl, ◌∙◌}
-use Prim.Native.Nat.{◌≤◌, ◌-◌}
 use native.Mathlib.Omega.{arith}
 use lib.ListN.{length, length-set}
-use Rattle.sendumaal_calls.specs.PeptideCallLaws.{overlaid, overlaid-more, overlaid-all}
+use Rattle.sendumaal_calls.specs.PeptideCallLaws.{overlaid-more, overlaid-all}
 use Rattle.std.proofs.Common.{rules}
 use Rattle.sendumaal_calls.proofs.peptides.put_back.Goals as goal
 
@@ -26,8 +25,8 @@ pub loop-i-preserved : goal.loop-i-preserved
 loop-i-preserved c =
     let l = c.loop-i in
     let a = c.args in
-    let k : length a.t2 ≡ 64 = search rules in
-    (omega arith, simp length-set (omega arith), overlaid-more a.out.now a.t2 l.out l.i (omega arith) (omega arith) l.invariant.2)
+    let k : length a.from ≡ 64 = search rules in
+    (omega arith, simp length-set (omega arith), overlaid-more a.out.now a.from l.out l.i (omega arith) (omega arith) l.invariant.2)
 
 pub shape_of-out : goal.shape_of-out
 shape_of-out c = omega arith
@@ -36,4 +35,4 @@ pub returns : goal.returns
 returns c =
     let l = c.loop-i in
     let a = c.args in
-    l.invariant.2 ∙ overlaid-all a.out.now a.t2 l.i (omega arith)
+    l.invariant.2 ∙ overlaid-all a.out.now a.from l.i (omega arith)

@@ -1,9 +1,8 @@
 -- `put_back` meets its contract. Assumes nothing.
-use mathlib.Core.Path.{◌≡◌, refl, ◌∙◌}
+use mathlib.Core.Path.{◌≡◌}
 use Prim.Native.Nat.{◌≤◌, ◌-◌}
-use native.Mathlib.Omega.{arith}
-use lib.ListN.{length, length-set}
-use Rattle.sendumaal_calls.specs.PeptideCallLaws.{overlaid, overlaid-more, overlaid-all}
+use lib.ListN.{length}
+use Rattle.sendumaal_calls.specs.PeptideCallLaws.{overlaid}
 use Rattle.sendumaal_calls.proofs.peptides.put_back.Given as goal
 
 abbrev pub invariant-loop-i : goal.invariant-loop-i

@@ -8,6 +8,6 @@ use Rattle.sendumaal_calls.proofs.telling.counted.Goals as goal
 
 pub returns-in-Refused : goal.returns-in-Refused
 returns-in-Refused c =
-    let f = c.answer-in-Refused-1 in
+    let f = c.in-Refused in
     let k = c.args.count.now in
-    said f.given.0.0 c.number.result c.place.result c.number.ensures c.place.ensures ((k ∷ []) ∷ []) ∙ sym (ap (λ (x : Counted). count_call x k) f.given.1)
+    said f.why c.number.result c.place.result c.number.ensures c.place.ensures ((k ∷ []) ∷ []) ∙ sym (ap (λ (x : Counted). count_call x k) f.is)

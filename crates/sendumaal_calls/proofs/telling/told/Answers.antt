@@ -7,5 +7,5 @@ use Rattle.sendumaal_calls.proofs.telling.told.Goals as goal
 
 pub returns-in-Refused : goal.returns-in-Refused
 returns-in-Refused c =
-    let f = c.found-1 in
-    said f.given.0.0 c.number.result c.place.result c.number.ensures c.place.ensures [] ∙ sym (ap test_call f.given.1)
+    let f = c.in-Refused in
+    said f.why c.number.result c.place.result c.number.ensures c.place.ensures [] ∙ sym (ap test_call f.is)
