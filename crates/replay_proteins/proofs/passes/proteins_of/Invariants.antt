@@ -1,9 +1,7 @@
 -- `proteins_of` meets its contract. Assumes nothing.
-use lib.Seq.{length-take-le}
 use Prim.Native.Nat.{◌-◌, ◌≤◌}
-use lib.ListN.{length, length-set}
-use mathlib.Core.Path.{◌≡◌, sym}
-use native.Mathlib.Omega.{arith}
+use lib.ListN.{length}
+use mathlib.Core.Path.{◌≡◌}
 use Rattle.replay_proteins.proofs.passes.proteins_of.Given as goal
 
 abbrev pub invariant-loop-k : goal.invariant-loop-k
