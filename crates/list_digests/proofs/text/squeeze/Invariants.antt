@@ -1,8 +1,7 @@
 -- `squeeze` meets its contract. Assumes nothing.
 use Prim.Native.Nat.{◌-◌, ◌≤◌}
-use mathlib.Core.Path.{◌≡◌, refl}
+use mathlib.Core.Path.{◌≡◌}
 use lib.ListN.{length}
-use native.Mathlib.Omega.{arith}
 use Rattle.list_digests.proofs.text.squeeze.Given as goal
 
 abbrev pub invariant-loop-i : goal.invariant-loop-i

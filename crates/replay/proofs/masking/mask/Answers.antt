@@ -1,8 +1,5 @@
 -- `mask` reads and writes within its text, and ends. Assumes nothing.
-use Prim.Native.Nat.{◌-◌}
-use mathlib.Core.Path.{◌≡◌, refl, ◌∙◌}
-use native.Mathlib.Omega.{arith}
-use lib.ListN.{length, length-set}
+use mathlib.Core.Path.{refl}
 use Rattle.replay.proofs.masking.mask.Goals as goal
 
 pub loop-i-init : goal.loop-i-init

@@ -1,8 +1,7 @@
 -- `mask` reads and writes within its text, and ends. Assumes nothing.
 use Prim.Native.Nat.{◌-◌}
-use mathlib.Core.Path.{◌≡◌, refl, ◌∙◌}
-use native.Mathlib.Omega.{arith}
-use lib.ListN.{length, length-set}
+use mathlib.Core.Path.{◌≡◌}
+use lib.ListN.{length}
 use Rattle.replay.proofs.masking.mask.Given as goal
 
 abbrev pub invariant-loop-i : goal.invariant-loop-i
