@@ -13,7 +13,7 @@ use enzyme_keep::{Step, Terms};
 use records::wide;
 
 // Writes the new ranges of a length that start from `from` to `to`, all of which have one position.
-fn list_starts(
+fn list_placed(
     letters: &[u8],
     longest: &[u16],
     next: &[u16],
@@ -91,18 +91,18 @@ fn list_later(
     ensures { (after result out.new ≡ chosen_of letters.now protein (starting len from (to - from)) count out.old) × Told len letters.now longest.now next.now size.now head.new }
 {
     let end = inner_end(letters.len(), len, from, to);
-    let Step::Kept(k) = list_starts(
+    let Step::Kept(k) = list_placed(
         letters, longest, next, size, head, len, 3, protein, from, end, out, count,
     ) else {
         return Step::Full;
     };
-    list_starts(
+    list_placed(
         letters, longest, next, size, head, len, 1, protein, end, to, out, k,
     )
 }
 
 // Writes the new ranges of a length that start from `from` to `to`; the first start stands apart.
-fn list_from(
+fn list_starts(
     letters: &[u8],
     longest: &[u16],
     next: &[u16],
@@ -115,12 +115,15 @@ fn list_from(
     out: &mut [u8],
     count: usize,
 ) -> Step
-    requires { (length letters.now ≤ 65536) × Measured letters.now longest.now × (to + len ≤ length letters.now + 1) × (0 < len) × Told len letters.now longest.now next.now size.now head.old × (from < to) }
+    requires { (length letters.now ≤ 65536) × Measured letters.now longest.now × (to + len ≤ length letters.now + 1) × (0 < len) × Told len letters.now longest.now next.now size.now head.old }
     ensures { (after result out.new ≡ chosen_of letters.now protein (starting len from (to - from)) count out.old) × Told len letters.now longest.now next.now size.now head.new }
 {
+    if to <= from {
+        return Step::Kept(count);
+    }
     let second = later(from, 1);
     let position = enzyme_keep::position(0, len, letters.len());
-    let Step::Kept(k) = list_starts(
+    let Step::Kept(k) = list_placed(
         letters, longest, next, size, head, len, position, protein, from, second, out, count,
     ) else {
         return Step::Full;
@@ -145,13 +148,13 @@ fn list_block(
     out: &mut [u8],
     count: usize,
 ) -> Step
-    requires { (length letters.now ≤ 65536) × Measured letters.now longest.now × (to + len ≤ length letters.now + 1) × Above longest.now from (min to (length letters.now)) least × (0 < len) × Told len letters.now longest.now next.now size.now head.old × (from < to) }
+    requires { (length letters.now ≤ 65536) × Measured letters.now longest.now × (to + len ≤ length letters.now + 1) × Above longest.now from (min to (length letters.now)) least × (0 < len) × Told len letters.now longest.now next.now size.now head.old }
     ensures { (after result out.new ≡ chosen_of letters.now protein (starting len from (to - from)) count out.old) × Told len letters.now longest.now next.now size.now head.new }
 {
     if len <= least {
         return Step::Kept(count);
     }
-    list_from(
+    list_starts(
         letters, longest, next, size, head, len, protein, from, to, out, count,
     )
 }

@@ -15,7 +15,7 @@ list_block-requires c = let l = c.loop-a in
     let e = c.block_end-end in
     let x = c.wide-floor in
     let low = block_above 64 0 (length c.args.letters.now) c.args.longest.now c.args.least.now c.requires.3.small l.a (l.a / 64) (l.a / 64) e.result x.result (omega arith) (omega arith) (omega (arith, e.ensures)) x.ensures.0 in
-    (c.requires.0, c.requires.1, omega (arith, e.ensures), low, c.requires.5, l.invariant.3, omega (arith, e.ensures))
+    (c.requires.0, c.requires.1, omega (arith, e.ensures), low, c.requires.5, l.invariant.3)
 
 pub returns-in_default : goal.returns-in_default
 returns-in_default c = let a = c.args in

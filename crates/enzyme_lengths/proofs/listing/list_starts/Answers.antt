@@ -1,84 +1,39 @@
--- `list_starts` meets its contract: the ranges ahead, chosen, give the whole. Assumes nothing.
+-- `list_starts` meets its contract: the first start, then the others. Assumes nothing.
 use native.Mathlib.Omega.{arith}
-use mathlib.Core.Path.{◌≡◌, refl, sym, ◌∙◌}
-use mathlib.Core.List.{List, ◌∷◌}
-use Prim.Native.Nat.{◌+◌, ◌-◌}
+use mathlib.Core.Path.{◌∙◌}
+use Prim.Native.Nat.{◌≤◌}
 use lib.ListN.{length}
-use borrow.Author.Tests.{ltb-true}
-use Rattle.enzyme_cuts.specs.Cutting.{Range, site, starting}
-use Rattle.enzyme_lengths.specs.Listing.{chosen_of}
-use Rattle.enzyme_lengths.specs.ListingLaws.{chosen-one-kept, chosen-one_full}
-use Rattle.enzyme_lengths.specs.StartLaws.{starts-on, starting_end}
-use Rattle.enzyme_lengths.specs.PositionLaws.{placed_as}
-use Rattle.enzyme_lengths.proofs.listing.list_starts.Goals.{In-loop-a}
+use Rattle.enzyme_lengths.specs.StartLaws.{part-kept, part_full, starting_end}
+use Rattle.enzyme_lengths.specs.PositionLaws.{first_alone}
+use Rattle.enzyme_lengths.proofs.listing.list_starts.Goals.{After-position-position}
 use Rattle.enzyme_lengths.proofs.listing.list_starts.Goals as goal
 
--- the ranges behind the first
-abbrev rest : In-loop-a → List Range
-rest c = starting c.args.len (c.loop-a.a + 1) (c.args.to - (c.loop-a.a + 1))
+-- the second start is one of them, or they end with the first
+within : (c : After-position-position) → (c.later-second.result ≤ c.args.to) × (c.args.from ≤ c.later-second.result)
+within c = let e = c.later-second.ensures in (omega (arith, e, c.if-to-from.false), omega (arith, e))
 
-ahead : (c : In-loop-a) → chosen_of c.args.letters.now c.args.protein (site c.loop-a.a (c.loop-a.a + c.args.len) ∷ rest c) c.loop-a.k c.loop-a.out ≡ chosen_of c.args.letters.now c.args.protein (starting c.args.len c.args.from (c.args.to - c.args.from)) c.args.count c.args.out.now
-ahead c = rw (starts-on c.args.len c.loop-a.a c.args.to (omega arith)) at c.loop-a.invariant.3
+pub returns-then-to-from : goal.returns-then-to-from
+returns-then-to-from c = let a = c.args in
+    (rw (starting_end a.len a.from a.to (omega arith)), c.requires.4)
 
-pub loop-a-init : goal.loop-a-init
-loop-a-init c = (refl, refl, c.requires.4, refl, omega arith)
-
-pub times_where-times-requires : goal.times_where-times-requires
-times_where-times-requires c = let l = c.loop-a in
-    let w = c.place in
-    (c.requires.0, c.requires.1, l.invariant.2, λ h. let t = ltb-true w.result c.args.len h in (omega (arith, w.ensures, c.requires.1.each l.a (omega arith)), omega arith))
+pub list_placed-requires : goal.list_placed-requires
+list_placed-requires c = let e = c.later-second in
+    (c.requires.0, c.requires.1, omega (arith, within (goal.at.list_placed-requires c).After-position-position, c.requires.2), c.requires.3, c.requires.4, first_alone (length c.args.letters.now) c.args.len c.position-position.result c.args.from e.result c.position-position.ensures e.ensures)
 
 pub returns-in_default : goal.returns-in_default
-returns-in_default c = let l = c.loop-a in
-    let w = c.place in
-    let t = c.times_where-times in
-    let x = c.write_placed in (
-      sym (chosen-one_full c.args.letters.now c.args.protein c.args.len l.a (l.a + c.args.len) w.result (rest (goal.at.returns-in_default c).In-loop-a) l.k l.out x.new.out refl (omega (arith, c.loop-a-test.true, c.requires.2)) (λ h. w.ensures ∙ c.requires.1.each l.a h) t.result t.ensures.1
-          (rw (c.in_default.is, placed_as (length c.args.letters.now) c.args.position c.args.protein (site l.a (l.a + c.args.len)) t.result (c.requires.5 l.a l.invariant.4 (omega (arith, c.loop-a-test.true)))) at x.ensures)) ∙ ahead (goal.at.returns-in_default c).In-loop-a,
-      t.ensures.0,
-    )
+returns-in_default c = let a = c.args in
+    let m = c.later-second in
+    let x = c.list_placed in
+    let w = within (goal.at.returns-in_default c).After-position-position in
+    (part_full a.letters.now a.protein a.len a.from m.result a.to a.count a.out.now x.new.out w.1 w.0 (rw c.in_default.is at x.ensures.0), x.ensures.1)
 
-pub loop-a-preserved : goal.loop-a-preserved
-loop-a-preserved c = let l = c.loop-a in
-    let w = c.place in
-    let t = c.times_where-times in
-    let x = c.write_placed in (
-      omega arith,
-      omega arith,
-      t.ensures.0,
-      sym (chosen-one-kept c.args.letters.now c.args.protein c.args.len l.a (l.a + c.args.len) w.result (rest (goal.at.loop-a-preserved c).In-loop-a) l.k l.out x.new.out refl (omega (arith, c.loop-a-test.true, c.requires.2)) (λ h. w.ensures ∙ c.requires.1.each l.a h) t.result t.ensures.1
-          c.in-Kept.x (rw (c.in-Kept.is, placed_as (length c.args.letters.now) c.args.position c.args.protein (site l.a (l.a + c.args.len)) t.result (c.requires.5 l.a l.invariant.4 (omega (arith, c.loop-a-test.true)))) at x.ensures)) ∙ ahead (goal.at.loop-a-preserved c).In-loop-a,
-      omega (arith, l.invariant.4),
-    )
+pub list_later-requires : goal.list_later-requires
+list_later-requires c = (c.requires.0, c.requires.1, c.requires.2, c.requires.3, c.list_placed.ensures.1, omega (arith, c.later-second.ensures), (within (goal.at.list_later-requires c).After-position-position).0)
 
 pub returns : goal.returns
 returns c = let a = c.args in
-    let l = c.loop-a in
-    (rw (starting_end a.len l.a a.to (omega arith)) at l.invariant.3, l.invariant.2)
-
-pub offset_bounds-longest-a : goal.offset_bounds-longest-a
-offset_bounds-longest-a c = omega arith
-
-pub bounds-longest-a : goal.bounds-longest-a
-bounds-longest-a c = omega (arith, c.requires.1.wide)
-
-pub overflow_add-a : goal.overflow_add-a
-overflow_add-a c = omega arith
-
-pub shape_of-head-in_default : goal.shape_of-head-in_default
-shape_of-head-in_default c = omega arith
-
-pub shape_of-out-in_default : goal.shape_of-out-in_default
-shape_of-out-in_default c = omega arith
-
-pub overflow_add-a-in-loop-a : goal.overflow_add-a-in-loop-a
-overflow_add-a-in-loop-a c = omega arith
-
-pub loop-a-smaller : goal.loop-a-smaller
-loop-a-smaller c = omega arith
-
-pub shape_of-head : goal.shape_of-head
-shape_of-head c = omega arith
-
-pub shape_of-out : goal.shape_of-out
-shape_of-out c = omega arith
+    let m = c.later-second in
+    let x = c.list_placed in
+    let y = c.list_later.ensures in
+    let w = within (goal.at.returns c).After-position-position in
+    (y.0 ∙ part-kept a.letters.now a.protein a.len a.from m.result a.to a.count a.out.now x.new.out w.1 w.0 c.in-Kept.k (rw c.in-Kept.is at x.ensures.0), y.1)

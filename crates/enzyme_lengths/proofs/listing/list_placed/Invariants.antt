@@ -1,10 +1,10 @@
--- `list_starts` meets its contract: the ranges ahead, chosen, give the whole. Assumes nothing.
+-- `list_placed` meets its contract: the ranges ahead, chosen, give the whole. Assumes nothing.
 use mathlib.Core.Path.{◌≡◌}
 use Prim.Native.Nat.{◌-◌, ◌≤◌}
 use lib.ListN.{length}
 use Rattle.enzyme_cuts.specs.Cutting.{starting}
 use Rattle.enzyme_lengths.specs.Listing.{chosen_of, Told}
-use Rattle.enzyme_lengths.proofs.listing.list_starts.Given as goal
+use Rattle.enzyme_lengths.proofs.listing.list_placed.Given as goal
 
 abbrev pub invariant-loop-a : goal.invariant-loop-a
 invariant-loop-a l = (length l.head ≡ length l.initial.head) × (length l.out ≡ length l.initial.out) × Told l.len l.letters l.longest l.next l.size l.head
