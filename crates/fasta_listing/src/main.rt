@@ -80,7 +80,7 @@ fn run<R: Env + Files + Print + Eprint>(rt: &R, line: &[u8]) -> std::io::Result<
 
 fn main(rt: HostRuntime) -> std::io::Result<()> {
     let mut input = io::buffer();
-    let n = text_lines::read_full(&mut rt.reader(), &mut input)?;
+    let n = text_lines::read_full(&mut rt.reader(), &mut input);
     let end = text_lines::up_to(text_lines::line_end(&input[..n], 0), &input);
     if end == 4096 {
         return say(

@@ -3,7 +3,6 @@ ghost use Rattle.std.specs.Prelude.{◌≤◌, length};
 
 use std::io;
 use std::io::Read;
-use text_lines::read_full;
 
 // How far a buffer is filled, and why a read failed before it was full, if one did.
 #[derive(Drop)]
@@ -30,14 +29,24 @@ pub(crate) fn fill<F: Read>(file: &mut F, bytes: &mut [u8], first: usize) -> Fil
     requires { first ≤ length bytes.old }
     ensures { result.to ≤ length bytes.new }
 {
-    match read_full(file, &mut bytes[first..]) {
-        Ok(more) => Filled {
-            to: first + more,
-            failed: None,
-        },
-        Err(why) => Filled {
-            to: first,
-            failed: Some(why),
-        },
+    let mut n = first;
+    while n < bytes.len() {
+        let more = match file.read(&mut bytes[n..]) {
+            Ok(more) => more,
+            Err(why) => {
+                return Filled {
+                    to: n,
+                    failed: Some(why),
+                };
+            }
+        };
+        if more == 0 {
+            break;
+        }
+        n += more;
+    }
+    Filled {
+        to: n,
+        failed: None,
     }
 }
