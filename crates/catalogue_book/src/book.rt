@@ -2,7 +2,7 @@
 ghost use Rattle.std.specs.Prelude.{◌≡◌, ◌<◌, length};
 ghost use Rattle.catalogue_spec.specs.Book.{too_many_letters, too_many_proteins, bounds_of, bad_step, strays, ends_wrong, bad_bound, first_bad_bound, bounds_tested, letters_tested};
 
-use records::{Refusal, Tested, field_tested};
+use records::{Refusal, field_tested};
 
 // 1: more than 2^28 letters.
 pub fn too_many_letters(letters: &[u8]) -> bool
@@ -76,22 +76,22 @@ fn first_bad_bound(bounds: &[u32], letters: usize) -> usize
 }
 
 // The tests of boundaries: 9 at the lowest bad one.
-pub fn bounds_tested(bounds: &[u32], letters: usize) -> Tested
+pub fn bounds_tested(bounds: &[u32], letters: usize) -> Result<(), Refusal>
     ensures { result ≡ bounds_tested bounds.now letters }
 {
     if bounds.len() == 0 {
-        return Tested::Refused(Refusal::Field(0));
+        return Err(Refusal::Field(0));
     }
     field_tested(first_bad_bound(bounds, letters), bounds.len())
 }
 
 // The test of a book's letters: 2 at the first byte that is no letter.
-pub fn letters_tested(letters: &[u8]) -> Tested
+pub fn letters_tested(letters: &[u8]) -> Result<(), Refusal>
     ensures { result ≡ letters_tested letters.now }
 {
     let bad = letters::first_bad(letters);
     if bad < letters.len() {
-        return Tested::Refused(Refusal::Letter(bad));
+        return Err(Refusal::Letter(bad));
     }
-    Tested::Passed
+    Ok(())
 }

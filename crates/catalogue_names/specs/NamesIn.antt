@@ -1,9 +1,9 @@
 -- What `names_tested_in` makes of a lent table. The contract of that part cites this; no entry's does.
 use Rattle.std.specs.Prelude.{ℕ, ◌+◌, ◌≡◌, cond, not, ◌&&◌, List, [], ◌∷◌, length, leb}
-use Rattle.records.specs.declared.refusal.Tested.{Tested}
 use Rattle.records.specs.Outcome.{Outcome, outcome, only}
 use Rattle.catalogue_repeats.specs.Repeating.{cleared}
 use Rattle.catalogue_spec.specs.Names.{name_count, too_many_names, whole_names, catalogue_tested}
+use Rattle.records.specs.Answers.{Tested}
 
 -- the same tests with a lent table, which is used where there are names to compare and it has two numbers for each
 abbrev pub names_outcome : List ℕ → List ℕ → Outcome Tested

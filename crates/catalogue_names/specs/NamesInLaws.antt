@@ -1,10 +1,9 @@
 -- Laws of a catalogue tested with a lent table. Assumes nothing.
-use Rattle.std.specs.Prelude.{ℕ, ◌+◌, ◌-◌, ◌*◌, ◌≤◌, ◌<◌, ◌≡◌, true, false, List, [], ◌∷◌, length, take, drop, leb}
+use Rattle.std.specs.Prelude.{ℕ, ◌+◌, ◌-◌, ◌*◌, ◌≤◌, ◌<◌, ◌≡◌, true, false, List, [], ◌∷◌, length, take, drop, leb, Err}
 use Rattle.std.proofs.Common.{arith, le-leb}
 use Rattle.std.proofs.lemmas.Bool.{lt-leb}
 use Rattle.catalogue_repeats.specs.Repeating.{cleared}
 use Rattle.records.specs.declared.refusal.Refusal.TheVariants.{Size, Length}
-use Rattle.records.specs.declared.refusal.Tested.TheVariants.{Refused}
 use Rattle.records.specs.Outcome.{outcome}
 use Rattle.sorting_spec.specs.Joined.{name_of}
 use Rattle.sorting_texts.specs.TextLaws.{stands}
@@ -27,8 +26,8 @@ pub names_short : (names tab : List ℕ) → too_many_names names ≡ false → 
     → names_outcome names tab ≡ outcome (names_tested names) (tab ∷ [])
 names_short names tab e f h = let g : leb (name_count names + name_count names) (length tab) ≡ false = lt-leb (name_count names + name_count names) (length tab) h in rw (e, f, g)
 
-pub names_many : (names tab : List ℕ) → too_many_names names ≡ true → names_outcome names tab ≡ outcome (Refused Size) (tab ∷ [])
+pub names_many : (names tab : List ℕ) → too_many_names names ≡ true → names_outcome names tab ≡ outcome (Err Size) (tab ∷ [])
 names_many names tab e = rw e
 
-pub names_parted : (names tab : List ℕ) → too_many_names names ≡ false → whole_names names ≡ false → names_outcome names tab ≡ outcome (Refused Length) (tab ∷ [])
+pub names_parted : (names tab : List ℕ) → too_many_names names ≡ false → whole_names names ≡ false → names_outcome names tab ≡ outcome (Err Length) (tab ∷ [])
 names_parted names tab e f = rw (e, f)

@@ -10,7 +10,7 @@ ghost use Rattle.catalogue_spec.specs.NameLaws.{lower_of};
 
 use catalogue_name::is_name;
 use catalogue_repeats::{first_repeat, repeat_over};
-use records::{Refusal, Tested};
+use records::Refusal;
 
 // How many names there are; a part of a record is none.
 pub fn name_count(names: &[u8]) -> usize
@@ -59,20 +59,20 @@ fn first_bad_name(names: &[u8]) -> usize
 }
 
 // What the first bad name and the first that repeats tell of n names: the lower of the two.
-fn told(bad: usize, again: usize, n: usize) -> Tested
+fn told(bad: usize, again: usize, n: usize) -> Result<(), Refusal>
     ensures { result ≡ lower_of bad again n }
 {
     if again < bad {
-        return Tested::Refused(Refusal::Repeat(again));
+        return Err(Refusal::Repeat(again));
     }
     if bad < n {
-        return Tested::Refused(Refusal::Name(bad));
+        return Err(Refusal::Name(bad));
     }
-    Tested::Passed
+    Ok(())
 }
 
 // The contents, with a table of the call's own.
-fn contents_tested(names: &[u8]) -> Tested
+fn contents_tested(names: &[u8]) -> Result<(), Refusal>
     requires { name_count names.now ≤ 65536 }
     ensures { result ≡ names_tested names.now }
 {
@@ -82,7 +82,7 @@ fn contents_tested(names: &[u8]) -> Tested
 }
 
 // The same with a table that is lent.
-fn contents_over(names: &[u8], tab: &mut [u32]) -> Tested
+fn contents_over(names: &[u8], tab: &mut [u32]) -> Result<(), Refusal>
     requires { (name_count names.now ≤ 65536) × (name_count names.now + name_count names.now ≤ length tab.old) }
     ensures { (result ≡ names_tested names.now) × (tab.new ≡ cleared (name_count names.now) tab.old) }
 {
@@ -92,25 +92,25 @@ fn contents_over(names: &[u8], tab: &mut [u32]) -> Tested
 }
 
 // The tests of a catalogue: 1, 8, and 12 or 13 at the lowest place.
-pub fn names_tested(names: &[u8]) -> Tested
+pub fn names_tested(names: &[u8]) -> Result<(), Refusal>
     ensures { result ≡ catalogue_tested names.now }
 {
     if too_many_names(names) {
-        return Tested::Refused(Refusal::Size);
+        return Err(Refusal::Size);
     }
     if are_whole_names(names) {
         return contents_tested(names);
     }
-    Tested::Refused(Refusal::Length)
+    Err(Refusal::Length)
 }
 
 // The same tests with a table that is lent, so that the call takes little stack: two numbers a name are used, and are zero at the
 // end. A table that is too short is not used.
-pub fn names_tested_in(names: &[u8], tab: &mut [u32]) -> Tested
+pub fn names_tested_in(names: &[u8], tab: &mut [u32]) -> Result<(), Refusal>
     ensures { outcome result (tab.new ∷ []) ≡ names_outcome names.now tab.old }
 {
     if too_many_names(names) {
-        return Tested::Refused(Refusal::Size);
+        return Err(Refusal::Size);
     }
     if are_whole_names(names) {
         let n = names.len() / 64;
@@ -119,5 +119,5 @@ pub fn names_tested_in(names: &[u8], tab: &mut [u32]) -> Tested
         }
         return contents_tested(names);
     }
-    Tested::Refused(Refusal::Length)
+    Err(Refusal::Length)
 }

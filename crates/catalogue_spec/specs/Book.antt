@@ -1,12 +1,11 @@
 -- Document 01, "Sizes and records": a sequence book is all proteins' letters in a row (at most 2^28) and u32 boundaries, one more
 -- than the proteins: first 0, never falling, rising by at most 65,536, last the letter count (else 9).
-use Rattle.std.specs.Prelude.{ℕ, ◌+◌, ◌-◌, Bool, cond, not, ◌&&◌, ◌||◌, List, length, get_or, ltb, eqb}
+use Rattle.std.specs.Prelude.{ℕ, ◌+◌, ◌-◌, Bool, cond, not, ◌&&◌, ◌||◌, List, length, get_or, ltb, eqb, Err}
 use Rattle.records.specs.declared.refusal.Refusal.TheVariants.{Letter, Field}
-use Rattle.records.specs.declared.refusal.Tested.{Tested}
-use Rattle.records.specs.declared.refusal.Tested.TheVariants.{Passed, Refused}
 use Rattle.records.specs.Tested.{field_tested}
 use Rattle.records.specs.Search.{seek}
 use Rattle.letters.specs.Letters.{first_bad}
+use Rattle.records.specs.Answers.{Passed, Tested}
 
 -- 1: more than 2^28 letters
 abbrev pub too_many_letters : List ℕ → Bool
@@ -43,9 +42,9 @@ first_bad_bound bounds count = seek (bad_bound bounds count) 0 (length bounds)
 -- 9 at the lowest bad boundary; where there is none at all, the first is missing
 abbrev pub bounds_tested : List ℕ → ℕ → Tested
 bounds_tested bounds count =
-    cond (eqb (length bounds) 0) (Refused (Field 0))
+    cond (eqb (length bounds) 0) (Err (Field 0))
     (field_tested (first_bad_bound bounds count) (length bounds))
 
 -- 2 at the first byte that is no letter
 abbrev pub letters_tested : List ℕ → Tested
-letters_tested letters = cond (ltb (first_bad letters) (length letters)) (Refused (Letter (first_bad letters))) Passed
+letters_tested letters = cond (ltb (first_bad letters) (length letters)) (Err (Letter (first_bad letters))) Passed

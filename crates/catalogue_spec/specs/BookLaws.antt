@@ -4,11 +4,11 @@ use Rattle.std.proofs.Common.{sym, ◌∙◌, ⊎_elim, arith, ltb-false, eq-eqb
 use Rattle.std.proofs.lemmas.Bool.{eqb-false, not-false}
 use Rattle.lists.specs.Tests.{neither, same?}
 use Rattle.records.specs.declared.refusal.Refusal.TheVariants.{Field}
-use Rattle.records.specs.declared.refusal.Tested.TheVariants.{Passed}
 use Rattle.records.specs.Tested.{field_tested}
 use Rattle.records.specs.TestedLaws.{passed_first}
 use Rattle.records.specs.SeekingLaws.{none-tested}
 use Rattle.catalogue_spec.specs.Book.{strays, ends_wrong, bad_bound, first_bad_bound, bounds_tested}
+use Rattle.records.specs.Answers.{Passed}
 
 pub record Book (bounds : List ℕ) (count : ℕ) : Type 0 where
   pub some : 0 < length bounds

@@ -1,16 +1,15 @@
 -- Worked cases of a catalogue, proved of the definitions: refusal 0 is none.
-use Rattle.std.specs.Prelude.{ℕ, refl, replicate}
+use Rattle.std.specs.Prelude.{ℕ, refl, replicate, Ok, Err}
 use mathlib.Core.List.{List, [], ◌∷◌, flatten, map}
 use Rattle.records.specs.Refusals.{number_of, place_of}
-use Rattle.records.specs.declared.refusal.Tested.{Tested}
-use Rattle.records.specs.declared.refusal.Tested.TheVariants.{Passed, Refused}
 use Rattle.records.specs.Cases.{Case, Hold}
 use Rattle.records.specs.Search.{seek}
 use Rattle.catalogue_spec.specs.Names.{name_length, zeros_to, padded, names_tested, catalogue_tested}
+use Rattle.records.specs.Answers.{Passed, Tested}
 
 abbrev pub told_test : Tested → List ℕ
-told_test Passed = 0 ∷ 0 ∷ []
-told_test (Refused why) = number_of why ∷ place_of why ∷ []
+told_test (Ok _) = 0 ∷ 0 ∷ []
+told_test (Err why) = number_of why ∷ place_of why ∷ []
 
 -- a catalogue of these records, and what its tests answer
 naming : List (List ℕ) → ℕ → ℕ → Case

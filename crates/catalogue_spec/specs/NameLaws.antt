@@ -1,6 +1,6 @@
 -- Laws of names and catalogues. Assumes nothing.
 use Prim.Native.Nat.{ℕ, ◌+◌, ◌-◌, ◌*◌, ◌%◌, ◌≤◌, ◌<◌}
-use Rattle.std.specs.Prelude.{◌≡◌, Bool, true, false, cond, ◌&&◌, ◌⊎◌, List, length, get_or, leb, ltb, eqb}
+use Rattle.std.specs.Prelude.{◌≡◌, Bool, true, false, cond, ◌&&◌, ◌⊎◌, List, length, get_or, leb, ltb, eqb, Err}
 use Rattle.std.proofs.Common.{sym, ap, ◌∙◌, subst, inl, inr, ⊎_elim, arith, ltb-true, ltb-false, lt-ltb, le-ltb, eqb-true, leb-true}
 use Rattle.std.proofs.Math.Seq.{length-slice}
 use Rattle.std.proofs.lemmas.Bool.{not-false}
@@ -8,8 +8,6 @@ use Rattle.lists.specs.Tests.{below?, both, neither, clash}
 use Rattle.lists.specs.Lists.{same}
 use Rattle.lists.specs.SameLaws.{same_refl}
 use Rattle.records.specs.declared.refusal.Refusal.TheVariants.{Size, Length, Name, Repeat as Again}
-use Rattle.records.specs.declared.refusal.Tested.{Tested}
-use Rattle.records.specs.declared.refusal.Tested.TheVariants.{Passed, Refused}
 use Rattle.records.specs.Search.{seek}
 use Rattle.records.specs.SearchLaws.{seek-to, seek-passes, seek_before}
 use Rattle.records.specs.SeekingLaws.{none_found}
@@ -17,10 +15,11 @@ use Rattle.sorting_spec.specs.Joined.{name_of}
 use Rattle.sorting_spec.specs.Repeats.{repeats, first_repeat}
 use Rattle.records.specs.TestedLaws.{passed_first, passed-second}
 use Rattle.catalogue_spec.specs.Names.{hidden, non_zero, name_length, zeros_to, is_name, name_count, too_many_names, whole_names, bad_name, wrong_name, wrong_at, names_tested, catalogue_tested}
+use Rattle.records.specs.Answers.{Passed, Tested}
 
 -- what the first bad name and the first that repeats tell of n names: the lower place, at one place 12 before 13
 abbrev pub lower_of : ℕ → ℕ → ℕ → Tested
-lower_of bad again n = cond (ltb again bad) (Refused (Again again)) (cond (ltb bad n) (Refused (Name bad)) Passed)
+lower_of bad again n = cond (ltb again bad) (Err (Again again)) (cond (ltb bad n) (Err (Name bad)) Passed)
 
 -- ---- the search for a first place
 
@@ -47,7 +46,7 @@ module _ (names : List ℕ) where
 
   -- the lower of two places, the first bad name and the first that repeats
   pub tested_parts : (b r : ℕ) → b ≡ seek (bad_name names) 0 (name_count names) → r ≡ first_repeat (name_of names) (name_count names)
-      → names_tested names ≡ cond (ltb r b) (Refused (Again r)) (cond (ltb b (name_count names)) (Refused (Name b)) Passed)
+      → names_tested names ≡ cond (ltb r b) (Err (Again r)) (cond (ltb b (name_count names)) (Err (Name b)) Passed)
   unfolding names_tested
   tested_parts b r p q = go (below? r b) (below? b n)
     where
@@ -67,10 +66,10 @@ module _ (names : List ℕ) where
       right j h k = rw (good j k, new j h)
 
       -- the place is found
-      at : (m : ℕ) → seek (wrong_name names) 0 n ≡ m → names_tested names ≡ cond (ltb m n) (Refused (wrong_at names m)) Passed
-      at m e = ap (λ (x : ℕ). cond (ltb x n) (Refused (wrong_at names x)) Passed) e
+      at : (m : ℕ) → seek (wrong_name names) 0 n ≡ m → names_tested names ≡ cond (ltb m n) (Err (wrong_at names m)) Passed
+      at m e = ap (λ (x : ℕ). cond (ltb x n) (Err (wrong_at names x)) Passed) e
 
-      go : (r < b) ⊎ (b ≤ r) → (b < n) ⊎ (n ≤ b) → names_tested names ≡ cond (ltb r b) (Refused (Again r)) (cond (ltb b n) (Refused (Name b)) Passed)
+      go : (r < b) ⊎ (b ≤ r) → (b < n) ⊎ (n ≤ b) → names_tested names ≡ cond (ltb r b) (Err (Again r)) (cond (ltb b n) (Err (Name b)) Passed)
       go (inl g) k =
           let x : ltb r n ≡ true = lt-ltb r n (omega (arith, high)) in
           let y : bad_name names r ≡ false = good r g in
@@ -132,7 +131,7 @@ passed-names names p = record { good = good; distinct = distinct }
 
 pub passed_catalogue : (names : List ℕ) → catalogue_tested names ≡ Passed → (name_count names ≤ 65536) × (length names % 64 ≡ 0) × Catalogue names
 passed_catalogue names p =
-    let a = passed_first (too_many_names names) Size (cond (whole_names names) (names_tested names) (Refused Length)) p in
+    let a = passed_first (too_many_names names) Size (cond (whole_names names) (names_tested names) (Err Length)) p in
     let b = passed-second (whole_names names) Length (names_tested names) a.1 in
     (ltb-false _ _ a.0, eqb-true _ _ b.0, passed-names names b.1)
 

@@ -1,12 +1,11 @@
 -- Document 01, "Sizes and records": a name is 64 bytes, 1 to 64 bytes from 33 to 126, then zeros. A catalogue is names in a row.
-use Rattle.std.specs.Prelude.{ℕ, ◌-◌, ◌/◌, ◌%◌, Bool, cond, not, ◌&&◌, ◌||◌, List, ◌++◌, length, get_or, replicate, leb, ltb, eqb}
+use Rattle.std.specs.Prelude.{ℕ, ◌-◌, ◌/◌, ◌%◌, Bool, cond, not, ◌&&◌, ◌||◌, List, ◌++◌, length, get_or, replicate, leb, ltb, eqb, Err}
 use Rattle.records.specs.declared.refusal.Refusal.{Refusal}
 use Rattle.records.specs.declared.refusal.Refusal.TheVariants.{Size, Length, Name, Repeat}
-use Rattle.records.specs.declared.refusal.Tested.{Tested}
-use Rattle.records.specs.declared.refusal.Tested.TheVariants.{Passed, Refused}
 use Rattle.records.specs.Search.{seek}
 use Rattle.sorting_spec.specs.Joined.{name_of}
 use Rattle.sorting_spec.specs.Repeats.{repeats}
+use Rattle.records.specs.Answers.{Passed, Tested}
 
 -- ---- one record
 
@@ -70,10 +69,10 @@ unfoldable pub names_tested : List ℕ → Tested
 unfolding seek
 names_tested names =
     let at = seek (wrong_name names) 0 (name_count names) in
-    cond (ltb at (name_count names)) (Refused (wrong_at names at)) Passed
+    cond (ltb at (name_count names)) (Err (wrong_at names at)) Passed
 
 -- a catalogue alone: 1, then 8, then its contents
 abbrev pub catalogue_tested : List ℕ → Tested
 catalogue_tested names =
-    cond (too_many_names names) (Refused Size)
-    (cond (whole_names names) (names_tested names) (Refused Length))
+    cond (too_many_names names) (Err Size)
+    (cond (whole_names names) (names_tested names) (Err Length))

@@ -1,9 +1,8 @@
 -- What is known where the tests passed. Assumes nothing.
-use Rattle.std.specs.Prelude.{ℕ, ◌/◌, ◌≤◌, ◌<◌, ◌≡◌, refl, List, [], ◌∷◌, length, replicate}
+use Rattle.std.specs.Prelude.{ℕ, ◌/◌, ◌≤◌, ◌<◌, ◌≡◌, refl, List, [], ◌∷◌, length, replicate, Ok, Err}
 use Rattle.std.proofs.Common.{sym, ap, ◌∙◌, arith}
 use Rattle.std.proofs.lemmas.List.Edits.{sets}
 use Rattle.records.specs.declared.refusal.Refusal.TheVariants.{Room}
-use Rattle.records.specs.declared.refusal.Counted.TheVariants.{Count, Refused as No}
 use Rattle.records.specs.Outcome.{outcome}
 use Rattle.cover_spec.specs.Cover.{cover_list, listed}
 use Rattle.cover_spec.specs.ListedLaws.{length-cover}
@@ -31,13 +30,13 @@ module _ (bs : List ℕ) (groups : ℕ) (work marks w k : List ℕ) (few : group
   made : length (cover_marks bs groups) ≡ groups
   made = length-cover groups (edges_of bs)
 
-  pub made_all : groups ≤ length marks → outcome (Count groups) (w ∷ k ∷ []) ≡ handed work marks (cover_marks bs groups)
-  made_all h = ap (λ (n : ℕ). outcome (Count n) (w ∷ k ∷ [])) (sym made) ∙ handed-all work marks (cover_marks bs groups) w k (omega (arith, made)) cleared stored (omega (arith, made))
+  pub made_all : groups ≤ length marks → outcome (Ok groups) (w ∷ k ∷ []) ≡ handed work marks (cover_marks bs groups)
+  made_all h = ap (λ (n : ℕ). outcome (Ok n) (w ∷ k ∷ [])) (sym made) ∙ handed-all work marks (cover_marks bs groups) w k (omega (arith, made)) cleared stored (omega (arith, made))
 
-  pub made_short : length marks < groups → outcome (No Room) (w ∷ k ∷ []) ≡ handed work marks (cover_marks bs groups)
+  pub made_short : length marks < groups → outcome (Err Room) (w ∷ k ∷ []) ≡ handed work marks (cover_marks bs groups)
   made_short h = handed_short work marks (cover_marks bs groups) w k (omega (arith, made)) cleared stored (omega (arith, made))
 
 -- no groups have no marks
-pub made_none : (bs : List ℕ) (groups : ℕ) (work marks w : List ℕ) → w ≡ replicate (length work) 0 → groups ≡ 0 → outcome (Count 0) (w ∷ marks ∷ []) ≡ handed work marks (cover_marks bs groups)
+pub made_none : (bs : List ℕ) (groups : ℕ) (work marks w : List ℕ) → w ≡ replicate (length work) 0 → groups ≡ 0 → outcome (Ok 0) (w ∷ marks ∷ []) ≡ handed work marks (cover_marks bs groups)
 unfolding cover_list listed
 made_none bs groups work marks w cleared z = rw z (made_all bs 0 work marks w marks (omega arith) cleared refl (omega arith))

@@ -7,7 +7,6 @@ use Rattle.cover_tests.specs.ReadyLaws.{cover_ready, UpdateReady, update_ready}
 use Rattle.lists.specs.Tests.{below?, both}
 use Rattle.lists.specs.Lists.{bit, count, keep, All}
 use Rattle.lists.specs.KeepLaws.{count-keep, every, keep_same}
-use Rattle.records.specs.declared.refusal.Tested.TheVariants.{Passed}
 use Rattle.cover_spec.specs.Cover.{Edge, group, meta, of_meta, cover, cover_list, same_edge}
 use Rattle.cover_spec.specs.Update.{touched}
 use Rattle.cover_spec.specs.CountLaws.{all-at, count_determined, find}
@@ -23,6 +22,7 @@ use Rattle.cover_edges.specs.EdgeLaws.{edges_under}
 use Rattle.cover.specs.Covering.{cover_marks}
 use Rattle.cover.specs.Updating.{update_marks}
 use Rattle.cover.specs.UpdatingLaws.{mark_of}
+use Rattle.records.specs.Answers.{Passed}
 
 -- ---- Document 01: "Also proved: each meta-peptide with an edge has a marked neighbour, and each marked group, when marked, newly
 -- covered one."

@@ -1,5 +1,5 @@
 -- What is known where the tests of an update passed, and the marks that it hands out. Assumes nothing.
-use Rattle.std.specs.Prelude.{ℕ, zero, suc, ◌+◌, ◌/◌, ◌≤◌, ◌<◌, min, ◌≡◌, true, false, cond, List, [], ◌∷◌, length, get_or, set, replicate, eqb}
+use Rattle.std.specs.Prelude.{ℕ, zero, suc, ◌+◌, ◌/◌, ◌≤◌, ◌<◌, min, ◌≡◌, true, false, cond, List, [], ◌∷◌, length, get_or, set, replicate, eqb, Ok, Err}
 use Rattle.std.proofs.Common.{sym, ap, ◌∙◌, subst, inl, inr, arith, add-zero, length-set, ext_get_or, get_or-set_same, eqb-true}
 use Rattle.std.proofs.Math.Logic.{⊎_elim}
 use Rattle.std.proofs.lemmas.List.Edits.{sets}
@@ -8,8 +8,6 @@ use Rattle.std.proofs.lemmas.Bool.{eqb-false}
 use Rattle.lists.specs.Tests.{below?, truth?}
 use Rattle.lists.specs.Lists.{bit}
 use Rattle.records.specs.declared.refusal.Refusal.TheVariants.{Room}
-use Rattle.records.specs.declared.refusal.Counted.{Counted}
-use Rattle.records.specs.declared.refusal.Counted.TheVariants.{Count, Refused as No}
 use Rattle.records.specs.LeLaws.{get_or-sets_other}
 use Rattle.records.specs.Outcome.{Outcome, outcome}
 use Rattle.records.specs.Room.{fits, fitted, singly}
@@ -23,6 +21,7 @@ use Rattle.cover_touched.specs.Touching.{UpdateSized, Mixed}
 use Rattle.cover_tests.specs.ReadyLaws.{UpdateReady}
 use Rattle.cover.specs.Covering.{cover_marks}
 use Rattle.cover.specs.Updating.{update_marks}
+use Rattle.records.specs.Answers.{Counted}
 
 pub update_sized : {old new given : List ℕ} {groups metas words : ℕ} → UpdateReady old new groups metas given words → 1 ≤ groups → UpdateSized old (length old / 8) new (length new / 8) groups metas words
 update_sized {old} {new} {given} {groups} {metas} {words} r h = record {
@@ -86,7 +85,7 @@ module _ (old new : List ℕ) (groups metas : ℕ) (given : List ℕ) (words : �
       as_sets (update_marks old new groups given) marks marks₂ (lm₂ ∙ lm)
       (λ i h l. mix.here i (omega (arith, updated)) ∙ ap (λ (v : ℕ). cond (touched (edges_of old) (edges_of new) i) v (get_or given i 0)) (ap (λ (t : List ℕ). get_or t i 0) was ∙ cover-at i (omega (arith, updated)) l) ∙ sym (mark_of i (omega (arith, updated))))
       (λ i h. mix.rest i (inr (omega (arith, updated))) ∙ ap (λ (t : List ℕ). get_or t i 0) was ∙ get_or-sets_other (cover_marks new groups) marks 0 i (inr (omega (arith, made, updated)))) in
-      let said : r ≡ cond (fits 1 131072 marks (singly (update_marks old new groups given))) (Count (length (update_marks old new groups given))) (No Room) =
+      let said : r ≡ cond (fits 1 131072 marks (singly (update_marks old new groups given))) (Ok (length (update_marks old new groups given))) (Err Room) =
       ap (λ (o : Outcome Counted). o.answer) e ∙ rw (fits-text 131072 (cover_marks new groups) marks few, fits-text 131072 (update_marks old new groups given) marks few', made, updated) in
       rw (said, z, lw, is ∙ stored-text 131072 (update_marks old new groups given) marks few')
     where

@@ -7,7 +7,7 @@ ghost use Rattle.cover.specs.Covering.{cover_marks, cover_outcome};
 
 use crate::handing::{cover_all, cover_short};
 use cover_tests::cover_tested;
-use records::{Counted, Refusal, Tested, clear};
+use records::{Refusal, clear};
 
 // The cover of edges that are in order.
 pub(crate) fn cover_passed(
@@ -16,33 +16,30 @@ pub(crate) fn cover_passed(
     metas: usize,
     work: &mut [u32],
     marks: &mut [u8],
-) -> Counted
+) -> Result<u32, Refusal>
     requires { CoverReady edges.now groups metas (length work.old) }
     ensures { outcome result (work.new ∷ marks.new ∷ []) ≡ handed work.old marks.old (cover_marks edges.now groups) }
 {
     let n = edges.len() / 8;
     if groups == 0 {
         clear(work);
-        return Counted::Count(0);
+        return Ok(0);
     }
     if marks.len() < groups {
         cover_short(edges, n, groups, metas, marks, work);
-        return Counted::Refused(Refusal::Room);
+        return Err(Refusal::Room);
     }
     let count = groups as u32;
     cover_all(edges, n, groups, metas, marks, work);
-    Counted::Count(count)
+    Ok(count)
 }
 
 // Writes a mark for each group into marks: 1 where the cover of the edge records has it, else 0.
-pub fn cover(edges: &[u8], groups: u32, metas: u32, work: &mut [u32], marks: &mut [u8]) -> Counted
+pub fn cover(edges: &[u8], groups: u32, metas: u32, work: &mut [u32], marks: &mut [u8]) -> Result<u32, Refusal>
     ensures { outcome result (work.new ∷ marks.new ∷ []) ≡ cover_outcome edges.now groups metas work.old marks.old }
 {
     let left = groups as usize;
     let right = metas as usize;
-    let found = cover_tested(edges, left, right, work.len());
-    match found {
-        Tested::Refused(why) => Counted::Refused(why),
-        Tested::Passed => cover_passed(edges, left, right, work, marks),
-    }
+    cover_tested(edges, left, right, work.len())?;
+    cover_passed(edges, left, right, work, marks)
 }

@@ -6,7 +6,7 @@ ghost use Rattle.cover_edges.specs.Edges.{edges_to};
 ghost use Rattle.cover_walk.specs.Tables.{RunFits};
 
 use cover_walk::cover_into;
-use records::put_bytes;
+use records::put_at;
 
 // Room for the marks of all groups: 128 KiB of stack.
 fn all_marks() -> [u8; 131072]
@@ -31,7 +31,7 @@ fn cover_in(
     ensures work_after { work.new ≡ replicate (length work.old) 0 }
 {
     cover_into(edges, n, groups, metas, &mut all[0..groups], work);
-    put_bytes(marks, 0, &all[0..groups]);
+    put_at(marks, 0, &all[0..groups]);
 }
 
 // With less room than groups.

@@ -10,7 +10,7 @@ ghost use Rattle.cover.specs.Updating.{update_marks, update_outcome};
 use crate::covering::cover_passed;
 use cover_tests::update_tested;
 use cover_touched::renew;
-use records::{Counted, Tested, clear};
+use records::{Refusal, clear};
 
 fn least(a: usize, b: usize) -> usize
     ensures { result ≡ min a b }
@@ -51,7 +51,7 @@ fn update_passed(
     given: &[u8],
     work: &mut [u32],
     marks: &mut [u8],
-) -> Counted
+) -> Result<u32, Refusal>
     requires { UpdateReady old.now new.now groups metas given.now (length work.old) }
     ensures { outcome result (work.new ∷ marks.new ∷ []) ≡ handed work.old marks.old (update_marks old.now new.now groups given.now) }
 {
@@ -70,14 +70,11 @@ pub fn update(
     given: &[u8],
     work: &mut [u32],
     marks: &mut [u8],
-) -> Counted
+) -> Result<u32, Refusal>
     ensures { outcome result (work.new ∷ marks.new ∷ []) ≡ update_outcome old.now new.now groups metas given.now work.old marks.old }
 {
     let left = groups as usize;
     let right = metas as usize;
-    let found = update_tested(old, new, left, right, given, work.len());
-    match found {
-        Tested::Refused(why) => Counted::Refused(why),
-        Tested::Passed => update_passed(old, new, left, right, given, work, marks),
-    }
+    update_tested(old, new, left, right, given, work.len())?;
+    update_passed(old, new, left, right, given, work, marks)
 }

@@ -4,14 +4,13 @@ use Rattle.std.proofs.Common.{arith, ltb-false, eqb-true}
 use Rattle.std.proofs.lemmas.Bool.{not-false}
 use Rattle.lists.specs.Tests.{neither}
 use Rattle.records.specs.declared.refusal.Refusal.TheVariants.{Size, Length, Work}
-use Rattle.records.specs.declared.refusal.Tested.TheVariants.{Passed}
 use Rattle.records.specs.TestedLaws.{passed_first, passed-field, passed-both}
 use Rattle.cover_spec.specs.Marks.{work_needed}
 use Rattle.cover_edges.specs.Edges.{first_bad_edge, first_bad_mark}
 use Rattle.cover_edges.specs.RangeLaws.{InRange, in_range, all_bits}
-use Rattle.records.specs.declared.refusal.Tested.{Tested}
 use Rattle.records.specs.Tested.{and_then, field_tested}
 use Rattle.cover_tests.specs.Testing.{too_large, edges_tested, cover_tested, either_too_large, lengths_wrong, update_tested}
+use Rattle.records.specs.Answers.{Passed, Tested}
 
 pub record CoverReady (bs : List ℕ) (groups metas words : ℕ) : Type 0 where
   pub groups-max : groups ≤ 131072

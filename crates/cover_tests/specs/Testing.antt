@@ -1,11 +1,10 @@
 -- What refuses a call of `cover` or of `update` before any mark is made, in document 01's order.
-use Rattle.std.specs.Prelude.{ℕ, ◌%◌, ◌+◌, Bool, cond, not, ◌||◌, List, length, eqb, ltb}
+use Rattle.std.specs.Prelude.{ℕ, ◌%◌, ◌+◌, Bool, cond, not, ◌||◌, List, length, eqb, ltb, Err}
 use Rattle.records.specs.declared.refusal.Refusal.TheVariants.{Size, Length, Work}
-use Rattle.records.specs.declared.refusal.Tested.{Tested}
-use Rattle.records.specs.declared.refusal.Tested.TheVariants.{Refused}
 use Rattle.records.specs.Tested.{field_tested, and_then}
 use Rattle.cover_spec.specs.Marks.{work_needed}
 use Rattle.cover_edges.specs.Edges.{edge_count, first_bad_edge, first_bad_mark}
+use Rattle.records.specs.Answers.{Tested}
 
 -- ---- cover
 
@@ -20,9 +19,9 @@ edges_tested bs groups metas = field_tested (first_bad_edge bs groups metas) (ed
 -- 1, then 8, then 10, then 9
 abbrev pub cover_tested : List ℕ → ℕ → ℕ → ℕ → Tested
 cover_tested bs groups metas words =
-    cond (too_large (edge_count bs) groups metas) (Refused Size)
-    (cond (not (eqb (length bs % 8) 0)) (Refused Length)
-    (cond (ltb words (work_needed groups metas (edge_count bs))) (Refused Work)
+    cond (too_large (edge_count bs) groups metas) (Err Size)
+    (cond (not (eqb (length bs % 8) 0)) (Err Length)
+    (cond (ltb words (work_needed groups metas (edge_count bs))) (Err Work)
     (edges_tested bs groups metas)))
 
 -- ---- update
@@ -43,7 +42,7 @@ contents_tested old new groups metas given =
 -- 1, then 8, then 10 for the old and new edges together, then 9
 abbrev pub update_tested : List ℕ → List ℕ → ℕ → ℕ → List ℕ → ℕ → Tested
 update_tested old new groups metas given words =
-    cond (either_too_large (edge_count old) (edge_count new) groups metas) (Refused Size)
-    (cond (lengths_wrong old new groups given) (Refused Length)
-    (cond (ltb words (work_needed groups metas (edge_count old + edge_count new))) (Refused Work)
+    cond (either_too_large (edge_count old) (edge_count new) groups metas) (Err Size)
+    (cond (lengths_wrong old new groups given) (Err Length)
+    (cond (ltb words (work_needed groups metas (edge_count old + edge_count new))) (Err Work)
     (contents_tested old new groups metas given)))

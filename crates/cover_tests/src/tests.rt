@@ -4,7 +4,7 @@ ghost use Rattle.cover_tests.specs.Testing.{too_large, edges_tested, cover_teste
 ghost use Rattle.cover_spec.specs.Marks.{work_needed};
 
 use cover_edges::first_bad_edge;
-use records::{Refusal, Tested, field_tested};
+use records::{Refusal, field_tested};
 
 pub(crate) fn too_large(n: usize, groups: usize, metas: usize) -> bool
     ensures { result ≡ too_large n groups metas }
@@ -20,7 +20,7 @@ pub(crate) fn work_needed(n: usize, groups: usize, metas: usize) -> usize
 }
 
 // The first record whose group or meta-peptide is not below its count.
-pub(crate) fn edges_tested(edges: &[u8], groups: usize, metas: usize) -> Tested
+pub(crate) fn edges_tested(edges: &[u8], groups: usize, metas: usize) -> Result<(), Refusal>
     requires { length edges.now / 8 ≤ 1048576 }
     ensures { result ≡ edges_tested edges.now groups metas }
 {
@@ -29,18 +29,18 @@ pub(crate) fn edges_tested(edges: &[u8], groups: usize, metas: usize) -> Tested
 }
 
 // The first refusal that applies before the cover is made, where the work slice has so many words.
-pub fn cover_tested(edges: &[u8], groups: usize, metas: usize, words: usize) -> Tested
+pub fn cover_tested(edges: &[u8], groups: usize, metas: usize, words: usize) -> Result<(), Refusal>
     ensures { result ≡ cover_tested edges.now groups metas words }
 {
     let n = edges.len() / 8;
     if too_large(n, groups, metas) {
-        return Tested::Refused(Refusal::Size);
+        return Err(Refusal::Size);
     }
     if edges.len() % 8 != 0 {
-        return Tested::Refused(Refusal::Length);
+        return Err(Refusal::Length);
     }
     if words < work_needed(n, groups, metas) {
-        return Tested::Refused(Refusal::Work);
+        return Err(Refusal::Work);
     }
     edges_tested(edges, groups, metas)
 }

@@ -4,7 +4,7 @@ ghost use Rattle.cover_tests.specs.Testing.{either_too_large, lengths_wrong, con
 
 use crate::tests::{edges_tested, too_large, work_needed};
 use cover_edges::first_bad_mark;
-use records::{Refusal, Tested, and_then, field_tested};
+use records::{Refusal, and_then, field_tested};
 
 fn either_too_large(on: usize, nn: usize, groups: usize, metas: usize) -> bool
     ensures { result ≡ either_too_large on nn groups metas }
@@ -21,7 +21,7 @@ fn lengths_wrong(old: &[u8], new: &[u8], groups: usize, given: &[u8]) -> bool
 }
 
 // The first refusal for what the lists hold.
-fn contents(old: &[u8], new: &[u8], groups: usize, metas: usize, given: &[u8]) -> Tested
+fn contents(old: &[u8], new: &[u8], groups: usize, metas: usize, given: &[u8]) -> Result<(), Refusal>
     requires { (length old.now / 8 ≤ 1048576) × (length new.now / 8 ≤ 1048576) }
     ensures { result ≡ contents_tested old.now new.now groups metas given.now }
 {
@@ -39,19 +39,19 @@ pub fn update_tested(
     metas: usize,
     given: &[u8],
     words: usize,
-) -> Tested
+) -> Result<(), Refusal>
     ensures { result ≡ update_tested old.now new.now groups metas given.now words }
 {
     let on = old.len() / 8;
     let nn = new.len() / 8;
     if either_too_large(on, nn, groups, metas) {
-        return Tested::Refused(Refusal::Size);
+        return Err(Refusal::Size);
     }
     if lengths_wrong(old, new, groups, given) {
-        return Tested::Refused(Refusal::Length);
+        return Err(Refusal::Length);
     }
     if words < work_needed(on + nn, groups, metas) {
-        return Tested::Refused(Refusal::Work);
+        return Err(Refusal::Work);
     }
     contents(old, new, groups, metas, given)
 }

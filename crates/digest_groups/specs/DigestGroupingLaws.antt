@@ -4,7 +4,6 @@ use Rattle.std.proofs.Common.{arith, ltb-true, ltb-false, leb-true, eqb-true}
 use Rattle.std.proofs.lemmas.Bool.{not-false}
 use Rattle.lists.specs.Tests.{both, neither}
 use Rattle.records.specs.declared.refusal.Refusal.TheVariants.{Size, Length, Work, Letter}
-use Rattle.records.specs.declared.refusal.Tested.TheVariants.{Passed}
 use Rattle.records.specs.TestedLaws.{passed-both, passed_first}
 use Rattle.records.specs.SeekingLaws.{none_found, none-tested}
 use Rattle.letters.specs.Letters.{is_letter, no_letter, first_bad}
@@ -16,6 +15,7 @@ use Rattle.enzyme_keep.specs.Digests.{good_record, start_of, end_of, position_in
 use Rattle.digest_groups_spec.specs.DigestGroups.{digest_at}
 use Rattle.digest_groups_words.specs.Tables.{BookLetters, DigestInside, GoodDigests}
 use Rattle.digest_groups_spec.specs.DigestGrouping.{too_large, uneven, needed, good_digest, bad_digest, first_bad_digest, digests_tested, tested}
+use Rattle.records.specs.Answers.{Passed}
 
 -- ---- letters
 

@@ -4,7 +4,7 @@ ghost use Rattle.records.specs.Outcome.{outcome};
 ghost use Rattle.digest_groups_spec.specs.DigestGrouping.{digest_groups_outcome};
 
 use crate::tests::tested;
-use records::{Counted, Tested};
+use records::Refusal;
 
 // Writes a record for each group of digests equal in position, decoy and letters to groups, and the lists of their proteins to
 // proteins. The work memory is zero after acceptance or where a list has no room.
@@ -16,14 +16,9 @@ pub fn group_digests(
     work: &mut [u32],
     groups: &mut [u8],
     proteins: &mut [u32],
-) -> Counted
+) -> Result<u32, Refusal>
     ensures { outcome result (work.new ∷ groups.new ∷ proteins.new ∷ []) ≡ digest_groups_outcome names.now bounds.now letters.now digests.now work.old groups.old proteins.old }
 {
-    let found = tested(names, bounds, letters, digests, work.len());
-    match found {
-        Tested::Refused(why) => Counted::Refused(why),
-        Tested::Passed => {
-            digest_groups_tables::gather(names, bounds, letters, digests, work, groups, proteins)
-        }
-    }
+    tested(names, bounds, letters, digests, work.len())?;
+    digest_groups_tables::gather(names, bounds, letters, digests, work, groups, proteins)
 }

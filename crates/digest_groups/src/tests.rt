@@ -3,7 +3,7 @@ ghost use Rattle.std.specs.Prelude.{◌≡◌, true, false, ◌+◌, ◌-◌, �
 ghost use Rattle.catalogue_spec.specs.Names.{too_many_names, whole_names};
 ghost use Rattle.digest_groups_spec.specs.DigestGrouping.{too_large, uneven, needed, good_digest, first_bad_digest, contents, tested};
 
-use records::{Refusal, Tested, and_then, field_tested};
+use records::{Refusal, and_then, field_tested};
 
 fn too_large(names: &[u8], letters: &[u8], digests: &[u8]) -> bool
     ensures { result ≡ too_large names.now letters.now digests.now }
@@ -67,7 +67,7 @@ fn first_bad_digest(bounds: &[u32], proteins: usize, digests: &[u8]) -> usize
 }
 
 // The contents list by list: names, boundaries, letters, digests.
-fn contents_tested(names: &[u8], bounds: &[u32], letters: &[u8], digests: &[u8]) -> Tested
+fn contents_tested(names: &[u8], bounds: &[u32], letters: &[u8], digests: &[u8]) -> Result<(), Refusal>
     requires { (too_many_names names.now ≡ false) × (whole_names names.now ≡ true) }
     ensures { result ≡ contents names.now bounds.now letters.now digests.now }
 {
@@ -80,17 +80,17 @@ fn contents_tested(names: &[u8], bounds: &[u32], letters: &[u8], digests: &[u8])
 }
 
 // The first refusal that applies before the groups are written.
-pub fn tested(names: &[u8], bounds: &[u32], letters: &[u8], digests: &[u8], words: usize) -> Tested
+pub fn tested(names: &[u8], bounds: &[u32], letters: &[u8], digests: &[u8], words: usize) -> Result<(), Refusal>
     ensures { result ≡ tested names.now bounds.now letters.now digests.now words }
 {
     if too_large(names, letters, digests) {
-        return Tested::Refused(Refusal::Size);
+        return Err(Refusal::Size);
     }
     if is_uneven(names, bounds, digests) {
-        return Tested::Refused(Refusal::Length);
+        return Err(Refusal::Length);
     }
     if words < work_needed(names, digests) {
-        return Tested::Refused(Refusal::Work);
+        return Err(Refusal::Work);
     }
     contents_tested(names, bounds, letters, digests)
 }

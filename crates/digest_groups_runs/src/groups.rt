@@ -41,7 +41,7 @@ fn put_group(digest: &[u8], at: usize, count: usize, out: &mut [u8], g: usize)
     let k = 28 * g;
     let first = at as u32;
     let number = count as u32;
-    records::put_bytes(out, k, digest);
+    records::put_at(out, k, digest);
     records::put_u32(out, k + 20, first);
     records::put_u32(out, k + 24, number);
 }

@@ -1,10 +1,6 @@
 -- What a call of `group_digests` answers, and what its work memory and its two lists hold then.
-use Rattle.std.specs.Prelude.{ℕ, ◌+◌, ◌-◌, ◌*◌, ◌/◌, ◌%◌, ◌≡◌, Bool, cond, not, ◌&&◌, ◌||◌, List, [], ◌∷◌, length, get_or, ltb, leb, eqb}
+use Rattle.std.specs.Prelude.{ℕ, ◌+◌, ◌-◌, ◌*◌, ◌/◌, ◌%◌, ◌≡◌, Bool, cond, not, ◌&&◌, ◌||◌, List, [], ◌∷◌, length, get_or, ltb, leb, eqb, Err}
 use Rattle.records.specs.declared.refusal.Refusal.TheVariants.{Size, Length, Work}
-use Rattle.records.specs.declared.refusal.Tested.{Tested}
-use Rattle.records.specs.declared.refusal.Tested.TheVariants.{Refused}
-use Rattle.records.specs.declared.refusal.Counted.{Counted}
-use Rattle.records.specs.declared.refusal.Counted.TheVariants.{Refused as No}
 use Rattle.records.specs.Outcome.{Outcome, outcome, unless_refused, only}
 use Rattle.records.specs.Tested.{and_then, field_tested}
 use Rattle.records.specs.Search.{seek}
@@ -12,6 +8,7 @@ use Rattle.catalogue_spec.specs.Names.{name_count, too_many_names, whole_names, 
 use Rattle.catalogue_spec.specs.Book.{too_many_letters, bounds_of, bounds_tested, letters_tested}
 use Rattle.enzyme_keep.specs.Digests.{good_record, end_of, protein_in}
 use Rattle.digest_groups_spec.specs.DigestGroups.{digest_at, digests_in, gathered, digests_grouped}
+use Rattle.records.specs.Answers.{Counted, Tested}
 
 -- 1: more than 65,536 names, 2^28 letters or 1,048,576 digests, counted in whole records
 abbrev pub too_large : List ℕ → List ℕ → List ℕ → Bool
@@ -50,14 +47,14 @@ contents names bounds letters ds =
 
 abbrev pub tested : List ℕ → List ℕ → List ℕ → List ℕ → ℕ → Tested
 tested names bounds letters ds words =
-    cond (too_large names letters ds) (Refused Size)
-    (cond (uneven names bounds ds) (Refused Length)
-    (cond (ltb words (needed names ds)) (Refused Work) (contents names bounds letters ds)))
+    cond (too_large names letters ds) (Err Size)
+    (cond (uneven names bounds ds) (Err Length)
+    (cond (ltb words (needed names ds)) (Err Work) (contents names bounds letters ds)))
 
 -- then 11, in `digests_grouped`
 abbrev pub digest_groups_outcome : List ℕ → List ℕ → List ℕ → List ℕ → List ℕ → List ℕ → List ℕ → Outcome Counted
 digest_groups_outcome names bounds letters ds work groups proteins =
-    unless_refused (tested names bounds letters ds (length work)) No (work ∷ groups ∷ proteins ∷ [])
+    unless_refused (tested names bounds letters ds (length work)) Err (work ∷ groups ∷ proteins ∷ [])
     (digests_grouped names (gathered bounds letters (digests_in ds)) work groups proteins)
 
 -- no second answer and no second contents meet the contract of `group_digests`

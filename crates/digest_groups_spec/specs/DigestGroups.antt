@@ -1,10 +1,8 @@
 -- Document 01, "Grouping digests": "Digests equal in position, decoy and letters form a group, groups sorted by these; the
 -- reference is the first in input order, proteins are sorted by name bytes, repeats kept."
-use Rattle.std.specs.Prelude.{ℕ, ◌+◌, ◌-◌, ◌*◌, ◌/◌, Bool, cond, ◌&&◌, List, [], ◌∷◌, ◌++◌, map, length, get_or, take, drop, replicate}
+use Rattle.std.specs.Prelude.{ℕ, ◌+◌, ◌-◌, ◌*◌, ◌/◌, Bool, cond, ◌&&◌, List, [], ◌∷◌, ◌++◌, map, length, get_or, take, drop, replicate, Ok, Err}
 use Rattle.lists.specs.Lists.{up_from, keep, same}
 use Rattle.records.specs.declared.refusal.Refusal.TheVariants.{Room}
-use Rattle.records.specs.declared.refusal.Counted.{Counted}
-use Rattle.records.specs.declared.refusal.Counted.TheVariants.{Count, Refused}
 use Rattle.records.specs.Le.{le}
 use Rattle.records.specs.Outcome.{Outcome, outcome}
 use Rattle.records.specs.Room.{fits, fitted, singly}
@@ -14,6 +12,7 @@ use Rattle.sorting_spec.specs.Sort.{sorted}
 use Rattle.sorting_spec.specs.Lex.{lex_le}
 use Rattle.sorting_spec.specs.Joined.{name_of}
 use Rattle.sorting_spec.specs.Distinct.{distinct}
+use Rattle.records.specs.Answers.{Counted}
 
 -- digest i of a list: the 20 bytes of its record
 abbrev pub digest_at : List ℕ → ℕ → List ℕ
@@ -63,5 +62,5 @@ abbrev pub digests_grouped : List ℕ → List (List (List ℕ)) → List ℕ �
 digests_grouped names mss work groups proteins =
     let rs = groups_from 0 mss in
     let ps = singly (protein_list names mss) in
-    outcome (cond (fits 28 1048576 groups rs && fits 1 1048576 proteins ps) (Count (length rs)) (Refused Room))
+    outcome (cond (fits 28 1048576 groups rs && fits 1 1048576 proteins ps) (Ok (length rs)) (Err Room))
     (replicate (length work) 0 ∷ fitted 28 1048576 groups rs ∷ fitted 1 1048576 proteins ps ∷ [])

@@ -1,5 +1,5 @@
 -- From the runs to what the call leaves. Assumes nothing.
-use Rattle.std.specs.Prelude.{ℕ, zero, suc, ◌+◌, ◌*◌, ◌/◌, ◌≤◌, min, ◌≡◌, refl, Bool, true, false, cond, ◌&&◌, List, [], ◌∷◌, ◌++◌, map, length, take, replicate, leb}
+use Rattle.std.specs.Prelude.{ℕ, zero, suc, ◌+◌, ◌*◌, ◌/◌, ◌≤◌, min, ◌≡◌, refl, Bool, true, false, cond, ◌&&◌, List, [], ◌∷◌, ◌++◌, map, length, take, replicate, leb, Ok, Err}
 use Rattle.std.proofs.Common.{sym, ap, ◌∙◌, subst, arith, length-append, length-take-le}
 use Rattle.std.proofs.lemmas.List.{length-map}
 use Rattle.std.proofs.lemmas.List.Edits.{sets}
@@ -7,8 +7,6 @@ use Rattle.std.proofs.Math.Seq.{slice}
 use Rattle.lists.specs.KeepLaws.{all_both, all_keep}
 use Rattle.lists.specs.Lists.{up_from, keep, same}
 use Rattle.records.specs.declared.refusal.Refusal.TheVariants.{Room}
-use Rattle.records.specs.declared.refusal.Counted.{Counted}
-use Rattle.records.specs.declared.refusal.Counted.TheVariants.{Count, Refused}
 use Rattle.records.specs.Le.{le}
 use Rattle.records.specs.LeLaws.{length-le}
 use Rattle.records.specs.Outcome.{outcome}
@@ -20,6 +18,7 @@ use Rattle.sorting_spec.specs.Runs.{joined, runs_of}
 use Rattle.digest_groups_spec.specs.DigestGroups.{digest_at, digests_in, key_of, gathered, group_of, groups_from, protein_list, digests_grouped}
 use Rattle.digest_groups_runs.specs.Turns.{digest_order, DigestsSorted, RunsGathered}
 use Rattle.digest_groups_runs.specs.TurnLaws.{length-digest}
+use Rattle.records.specs.Answers.{Counted}
 
 -- ---- every record of a group has 28 bytes
 
@@ -101,10 +100,10 @@ module _ (names bounds letters bytes : List ℕ) (n : ℕ) (work w w' groups gro
   numbers : sets proteins 0 (take n w') ≡ fitted 1 1048576 proteins (singly (protein_list names mss))
   numbers = ap (sets proteins 0) list ∙ stored-text 1048576 (protein_list names mss) proteins (omega (arith, wide, s.ready.few))
 
-  pub left_grouped : r ≡ cond (leb g (min (length groups / 28) 1048576) && leb n (min (length proteins / 1) 1048576)) (Count g) (Refused Room)
+  pub left_grouped : r ≡ cond (leb g (min (length groups / 28) 1048576) && leb n (min (length proteins / 1) 1048576)) (Ok g) (Err Room)
       → outcome r (replicate (length w') 0 ∷ groups' ∷ sets proteins 0 (take n w') ∷ []) ≡ digests_grouped names mss work groups proteins
   left_grouped e =
       let z : length w' ≡ length work = d.same_length ∙ same in
       let m : length (singly (protein_list names mss)) ≡ n = length-map (protein_list names mss) (λ (b : ℕ). b ∷ []) ∙ wide in
-      let a : r ≡ cond (fits 28 1048576 groups (groups_from 0 mss) && fits 1 1048576 proteins (singly (protein_list names mss))) (Count (length (groups_from 0 mss))) (Refused Room) = rw m (rw count_grouped at e) in
+      let a : r ≡ cond (fits 28 1048576 groups (groups_from 0 mss) && fits 1 1048576 proteins (singly (protein_list names mss))) (Ok (length (groups_from 0 mss))) (Err Room) = rw m (rw count_grouped at e) in
       rw (records, numbers, z, a)

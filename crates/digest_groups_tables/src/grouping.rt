@@ -7,7 +7,7 @@ ghost use Rattle.digest_groups_runs.specs.Turns.{DigestsSorted};
 
 use digest_groups_runs::gather_runs;
 use digest_groups_words::spell_all;
-use records::{Counted, Refusal};
+use records::Refusal;
 use sorting_texts::By;
 
 // Sorts the numbers of n digests by position, decoy and letters.
@@ -21,16 +21,16 @@ fn arrange(letters: &[u8], bounds: &[u32], digests: &[u8], w: &mut [u32], n: usi
 }
 
 // How many groups there are, or that a list has no room for all.
-fn answer(g: usize, groups: usize, n: usize, proteins: usize) -> Counted
+fn answer(g: usize, groups: usize, n: usize, proteins: usize) -> Result<u32, Refusal>
     requires { (g ≤ 1048576) × (n ≤ 1048576) }
-    ensures { result ≡ cond (leb g (min (groups / 28) 1048576) && leb n (min (proteins / 1) 1048576)) (Counted.Count g) (Counted.Refused Refusal.Room) }
+    ensures { result ≡ cond (leb g (min (groups / 28) 1048576) && leb n (min (proteins / 1) 1048576)) (Ok g) (Err Refusal.Room) }
 {
     let most = records::room_for(groups, 28, 1048576);
     let longest = records::room_for(proteins, 1, 1048576);
     if (g <= most) & (n <= longest) {
-        Counted::Count(g as u32)
+        Ok(g as u32)
     } else {
-        Counted::Refused(Refusal::Room)
+        Err(Refusal::Room)
     }
 }
 
@@ -43,7 +43,7 @@ pub fn gather(
     w: &mut [u32],
     groups: &mut [u8],
     proteins: &mut [u32],
-) -> Counted
+) -> Result<u32, Refusal>
     requires { GoodDigests bounds.now letters.now digests.now (length digests.now / 20) × (5 * (length digests.now / 20) ≤ length w.old) }
     ensures { outcome result (w.new ∷ groups.new ∷ proteins.new ∷ []) ≡ digests_grouped names.now (gathered bounds.now letters.now (digests_in digests.now)) w.old groups.old proteins.old }
 {
@@ -52,7 +52,7 @@ pub fn gather(
     let open = proteins.len();
     arrange(letters, bounds, digests, w, n);
     let g = gather_runs(names, letters, digests, w, n, groups);
-    records::put_numbers(proteins, 0, &w[0..n]);
+    records::put_at(proteins, 0, &w[0..n]);
     records::clear(w);
     answer(g, free, n, open)
 }

@@ -1,5 +1,5 @@
 -- From the offers, one after the other, to what the public statement says. Assumes nothing.
-use Rattle.std.specs.Prelude.{ℕ, ◌+◌, ◌*◌, ◌/◌, ◌≤◌, ◌<◌, Bool, ltb}
+use Rattle.std.specs.Prelude.{ℕ, ◌+◌, ◌*◌, ◌/◌, ◌≤◌, ◌<◌, Bool, ltb, Ok, Err, Some, None}
 use Rattle.std.proofs.Math.Path.{◌≡◌, refl, sym, ap, ap₂}
 use Rattle.std.proofs.Common.{◌∙◌, arith}
 use Rattle.std.proofs.Math.Bool.{true, false}
@@ -17,26 +17,23 @@ use Rattle.enzyme_cuts.specs.declared.kinds.Enzyme.{Enzyme}
 use Rattle.enzyme_cuts.specs.Cutting.{Range, wanted, candidates, digests, kept, occurs}
 use Rattle.enzyme_cuts.specs.Work.{RangesWithin}
 use Rattle.enzyme_cuts.specs.InsideLaws.{inside_append}
-use Rattle.enzyme_keep.specs.declared.offering.Step.{Step}
-use Rattle.enzyme_keep.specs.declared.offering.Step.TheVariants.{Kept, Full}
 use Rattle.enzyme_keep.specs.declared.offering.Terms.{Terms}
 use Rattle.enzyme_keep.specs.Digests.{record_of}
 use Rattle.enzyme_keep.specs.Buffer.{ranges_in}
 use Rattle.enzyme_keep.specs.BufferLaws.{length_record, ranges_more}
-use Rattle.enzyme_keep.specs.Steps.{digest_room, After, after, decided, offered, unless_full, offers, among}
+use Rattle.enzyme_keep.specs.Steps.{Step, digest_room, After, after, decided, offered, unless_full, offers, among}
 use Rattle.enzyme_ways.specs.Ways.{way}
 use Rattle.enzyme_ways.specs.WayLaws.{way_keeps, way_inside, way_tells}
-use Rattle.records.specs.declared.refusal.Counted.{Counted}
-use Rattle.records.specs.declared.refusal.Counted.TheVariants.{Count, Refused}
 use Rattle.enzyme_spec.specs.Digestion.{digest_records}
+use Rattle.records.specs.Answers.{Counted}
 
 -- the answer to a whole run
 abbrev pub run_answer : After → Outcome Counted
 run_answer a = go a.step
   where
     go : Step → Outcome Counted
-    go (Kept count) = outcome (Count count) (a.bytes ∷ [])
-    go Full = outcome (Refused Room) (a.bytes ∷ [])
+    go (Some count) = outcome (Ok count) (a.bytes ∷ [])
+    go None = outcome (Err Room) (a.bytes ∷ [])
 
 -- the record of a range, of which f says how often its letters occur
 abbrev record_by : ℕ → ℕ → (Range → ℕ) → Range → List ℕ
@@ -91,7 +88,7 @@ module _ (run : Run) where
       (stands st.ks [] out count st.bytes st.number st.free)
 
   -- the whole list fits
-  finished : (out : List ℕ) (count : ℕ) → State run [] out count → outcome (Count count) (out ∷ []) ≡ counted 20 1048576 run.old (recs run run.all)
+  finished : (out : List ℕ) (count : ℕ) → State run [] out count → outcome (Ok count) (out ∷ []) ≡ counted 20 1048576 run.old (recs run run.all)
   finished out count st =
       let e : st.ks ++ [] ≡ run.all = append-nil st.ks ∙ st.ahead in
       let x = standing-done 20 1048576 run.old (recs run (st.ks ++ [])) (sized (length run.s) run.terms.protein run.f (st.ks ++ [])) out count (stands st.ks [] out count st.bytes st.number st.free) in
@@ -103,10 +100,10 @@ module _ (run : Run) where
 
     -- the offer, with its two tests as they come out
     onward : (w b : Bool) → wanted run.s run.terms.minimum run.terms.maximum st.ks r ≡ w → ltb count (digest_room run.old) ≡ b
-        → (out' : List ℕ) (count' : ℕ) → after (Kept count') out' ≡ decided w b count out new → State run rest out' count'
+        → (out' : List ℕ) (count' : ℕ) → after (Some count') out' ≡ decided w b count out new → State run rest out' count'
     unfolding new
     onward true true e f out' count' g =
-        let p : Kept count' ≡ Kept (count + 1) = ap (λ (x : After). x.step) g in
+        let p : Some count' ≡ Some (count + 1) = ap (λ (x : After). x.step) g in
         let q : out' ≡ sets out (20 * count) new = ap (λ (x : After). x.bytes) g in
         let c : count' ≡ count + 1 = cc in
         let l : count < digest_room run.old = ltb-true _ _ f in
@@ -126,20 +123,20 @@ module _ (run : Run) where
           ahead = rw e at st.ahead;
         }
     onward true false e f out' count' g =
-        let p : Kept count' ≡ Full = ap (λ (x : After). x.step) g in
+        let p : Some count' ≡ None = ap (λ (x : After). x.step) g in
         let z : ◌≡◌ {A = ℕ} 0 1 = cc in
         absurd (omega arith)
     onward false b e f out' count' g =
-        let p : Kept count' ≡ Kept count = ap (λ (x : After). x.step) g in
+        let p : Some count' ≡ Some count = ap (λ (x : After). x.step) g in
         let q : out' ≡ out = ap (λ (x : After). x.bytes) g in
         let c : count' ≡ count = cc in
         record { ks = st.ks; bytes = q ∙ st.bytes; ranges = ap₂ ranges_in c q ∙ st.ranges; number = c ∙ st.number; free = omega (arith, c, st.free); inside = st.inside; ahead = rw e at st.ahead }
 
     full : (w b : Bool) → wanted run.s run.terms.minimum run.terms.maximum st.ks r ≡ w → ltb count (digest_room run.old) ≡ b
-        → (out' : List ℕ) → after Full out' ≡ decided w b count out new → outcome (Refused Room) (out' ∷ []) ≡ counted 20 1048576 run.old (recs run run.all)
+        → (out' : List ℕ) → after None out' ≡ decided w b count out new → outcome (Err Room) (out' ∷ []) ≡ counted 20 1048576 run.old (recs run run.all)
     unfolding new
     full true true e f out' g =
-        let p : Full ≡ Kept (count + 1) = ap (λ (x : After). x.step) g in
+        let p : None ≡ Some (count + 1) = ap (λ (x : After). x.step) g in
         let z : ◌≡◌ {A = ℕ} 0 1 = cc in
         absurd (omega arith)
     full true false e f out' g =
@@ -150,7 +147,7 @@ module _ (run : Run) where
         (stands st.ks (r ∷ x.0) out count st.bytes st.number st.free) (ltb-false _ _ f) in
         rw (← a, y.1) (rw (q, ← y.0))
     full false b e f out' g =
-        let p : Full ≡ Kept count = ap (λ (x : After). x.step) g in
+        let p : None ≡ Some count = ap (λ (x : After). x.step) g in
         let z : ◌≡◌ {A = ℕ} 0 1 = cc in
         absurd (omega arith)
 
@@ -158,8 +155,8 @@ module _ (run : Run) where
         → ((o : List ℕ) (n : ℕ) → State run rest o n → run_answer (offers run.s run.terms run.f rest n o) ≡ counted 20 1048576 run.old (recs run run.all))
         → run_answer (unless_full (after x o) (offers run.s run.terms run.f rest)) ≡ counted 20 1048576 run.old (recs run run.all)
     unfolding new offered
-    stepped (Kept n) o f ih = ih o n (onward _ _ refl refl o n (rw (st.ranges, same_length (r ∷ rest) out count st) at f))
-    stepped Full o f ih = full _ _ refl refl o (rw (st.ranges, same_length (r ∷ rest) out count st) at f)
+    stepped (Some n) o f ih = ih o n (onward _ _ refl refl o n (rw (st.ranges, same_length (r ∷ rest) out count st) at f))
+    stepped None o f ih = full _ _ refl refl o (rw (st.ranges, same_length (r ∷ rest) out count st) at f)
 
   -- a run from any state ends as the definition says
   run_ends : (rest : List Range) (out : List ℕ) (count : ℕ) → State run rest out count → RangesWithin (length run.s) rest

@@ -6,11 +6,11 @@ ghost use Rattle.letters.specs.Letters.{capitals};
 ghost use Rattle.enzyme_spec.specs.Digestion.{digest_records, digest_outcome};
 
 use enzyme_cuts::Enzyme;
-use enzyme_keep::{Step, Terms};
+use enzyme_keep::Terms;
 use enzyme_spec::Settings;
 use enzyme_tests::tested;
 use letters::LetterSet;
-use records::{Counted, Refusal, Tested};
+use records::Refusal;
 
 // The digests of letters that are in order, as capitals.
 fn digest_passed(
@@ -19,15 +19,15 @@ fn digest_passed(
     missed: u8,
     terms: Terms,
     out: &mut [u8],
-) -> Counted
+) -> Result<u32, Refusal>
     requires { (length letters.now ≤ 65536) × (missed ≤ 16) × (terms.maximum ≤ 65536) }
     ensures { outcome result (out.new ∷ []) ≡ counted 20 1048576 out.old (digest_records enzyme missed terms.minimum terms.maximum terms.protein (capitals letters.now)) }
 {
-    let Step::Kept(k) = enzyme_ways::offer_read(letters, enzyme, missed, terms, out) else {
-        return Counted::Refused(Refusal::Room);
+    let Some(k) = enzyme_ways::offer_read(letters, enzyme, missed, terms, out) else {
+        return Err(Refusal::Room);
     };
     let count = k as u32;
-    Counted::Count(count)
+    Ok(count)
 }
 
 // Writes the digests of a protein as records into out.
@@ -38,19 +38,14 @@ pub fn digest(
     settings: Settings,
     protein: u32,
     out: &mut [u8],
-) -> Counted
+) -> Result<u32, Refusal>
     ensures { outcome result (out.new ∷ []) ≡ digest_outcome letters.now alphabet enzyme settings protein out.old }
 {
-    let found = tested(letters, alphabet, enzyme, settings);
-    match found {
-        Tested::Refused(why) => Counted::Refused(why),
-        Tested::Passed => {
-            let terms = Terms {
-                minimum: settings.minimum,
-                maximum: settings.maximum,
-                protein,
-            };
-            digest_passed(letters, enzyme, settings.missed, terms, out)
-        }
-    }
+    tested(letters, alphabet, enzyme, settings)?;
+    let terms = Terms {
+        minimum: settings.minimum,
+        maximum: settings.maximum,
+        protein,
+    };
+    digest_passed(letters, enzyme, settings.missed, terms, out)
 }

@@ -15,7 +15,7 @@ ghost use Rattle.enzyme_semi.specs.WeightLaws.{weight_of};
 ghost use Rattle.enzyme_semi.specs.SemiLaws.{semi_of};
 
 use enzyme_cuts::Knife;
-use enzyme_keep::{Step, Terms};
+use enzyme_keep::Terms;
 use enzyme_samples::Run;
 
 // Offers all windows, and behind them their parts: those of the first of equal windows for all of them, where the tables are long
@@ -55,16 +55,16 @@ fn offer_semi(
 }
 
 // Writes the protein's number where the links of the records stand.
-fn finish(out: &mut [u8], protein: u32, run: Run) -> Step
+fn finish(out: &mut [u8], protein: u32, run: Run) -> Option<usize>
     requires { 20 * standing (run_step run) out.old ≤ length out.old }
     ensures { (result ≡ run_step run) × (out.new ≡ sealed protein (standing (run_step run) out.old) out.old) }
 {
     if run.full {
         enzyme_keep::seal_all(out, protein);
-        return Step::Full;
+        return None;
     }
     enzyme_keep::seal(out, run.count, protein);
-    Step::Kept(run.count)
+    Some(run.count)
 }
 
 // Offers the ranges, and writes the protein's number where the links stood.
@@ -84,7 +84,7 @@ fn list_semi(
     rank: &mut [u16],
     share: &mut [u8],
     seen: &mut [u8],
-) -> Step
+) -> Option<usize>
     requires { (length letters.now ≤ 65536) × (missed ≤ 16) × Starts knife letters.now starts.now m × Far letters.now far.now × (length order.old ≤ length other.old) × (length order.old ≤ length name.old) × (length order.old ≤ length rank.old) × (length order.old ≤ length share.old) × Zeros share.old }
     ensures { DigestsListed letters.now terms (each_once knife true missed letters.now) out.old result out.new }
 {
@@ -113,7 +113,7 @@ fn semi_over(
     rank: &mut [u16],
     share: &mut [u8],
     seen: &mut [u8],
-) -> Step
+) -> Option<usize>
     requires { (length letters.now ≤ 65536) × (missed ≤ 16) × (length letters.now < length starts.old) × (length letters.now ≤ length far.old) × (0 < length count.old) × (length count.old ≤ 131072) × Zeros count.old × (length order.old ≤ length other.old) × (length order.old ≤ length name.old) × (length order.old ≤ length rank.old) × (length order.old ≤ length share.old) × Zeros share.old }
     ensures { DigestsListed letters.now terms (each_once knife true missed letters.now) out.old result out.new }
 {
@@ -126,7 +126,7 @@ fn semi_over(
 }
 
 // The same with tables of three sizes.
-pub fn semi_small(letters: &[u8], knife: Knife, missed: u8, terms: Terms, out: &mut [u8]) -> Step
+pub fn semi_small(letters: &[u8], knife: Knife, missed: u8, terms: Terms, out: &mut [u8]) -> Option<usize>
     requires { (length letters.now ≤ 1024) × (missed ≤ 16) }
     ensures { DigestsListed letters.now terms (each_once knife true missed letters.now) out.old result out.new }
 {
@@ -159,7 +159,7 @@ pub fn semi_small(letters: &[u8], knife: Knife, missed: u8, terms: Terms, out: &
     )
 }
 
-pub fn semi_middle(letters: &[u8], knife: Knife, missed: u8, terms: Terms, out: &mut [u8]) -> Step
+pub fn semi_middle(letters: &[u8], knife: Knife, missed: u8, terms: Terms, out: &mut [u8]) -> Option<usize>
     requires { (length letters.now ≤ 8192) × (missed ≤ 16) }
     ensures { DigestsListed letters.now terms (each_once knife true missed letters.now) out.old result out.new }
 {
@@ -192,7 +192,7 @@ pub fn semi_middle(letters: &[u8], knife: Knife, missed: u8, terms: Terms, out: 
     )
 }
 
-pub fn semi_large(letters: &[u8], knife: Knife, missed: u8, terms: Terms, out: &mut [u8]) -> Step
+pub fn semi_large(letters: &[u8], knife: Knife, missed: u8, terms: Terms, out: &mut [u8]) -> Option<usize>
     requires { (length letters.now ≤ 65536) × (missed ≤ 16) }
     ensures { DigestsListed letters.now terms (each_once knife true missed letters.now) out.old result out.new }
 {

@@ -1,5 +1,5 @@
 -- Offers write the ranges that are kept, one after the other. Assumes nothing.
-use Rattle.std.specs.Prelude.{ℕ, ◌+◌, ◌*◌, ◌/◌, ◌≤◌, ◌<◌, ◌≡◌, Bool, cond, length}
+use Rattle.std.specs.Prelude.{ℕ, ◌+◌, ◌*◌, ◌/◌, ◌≤◌, ◌<◌, ◌≡◌, Bool, cond, length, Some, None}
 use Rattle.std.proofs.Math.Path.{refl}
 use Rattle.std.proofs.Common.{sym, ap, ◌∙◌, arith, add-one}
 use Rattle.std.proofs.Math.Bool.{true, false}
@@ -10,13 +10,11 @@ use Rattle.std.proofs.Math.Dec.{ltb}
 use borrow.Author.Tests.{ltb-true}
 use Rattle.enzyme_cuts.specs.Cutting.{Range, wanted, kept}
 use Rattle.enzyme_cuts.specs.Work.{RangesWithin}
-use Rattle.enzyme_keep.specs.declared.offering.Step.{Step}
-use Rattle.enzyme_keep.specs.declared.offering.Step.TheVariants.{Kept, Full}
 use Rattle.enzyme_keep.specs.declared.offering.Terms.{Terms}
 use Rattle.enzyme_keep.specs.Digests.{record_of}
 use Rattle.enzyme_keep.specs.Buffer.{ranges_in}
 use Rattle.enzyme_keep.specs.BufferLaws.{ranges_more}
-use Rattle.enzyme_keep.specs.Steps.{digest_room, after, decided, offered, unless_full, offers, puts}
+use Rattle.enzyme_keep.specs.Steps.{Step, digest_room, after, decided, offered, unless_full, offers, puts}
 
 -- ---- two lists of ranges, one after the other
 
@@ -29,8 +27,8 @@ module _ (n p : ℕ) (f : Range → ℕ) where
     where
       go : (x : Step) (o : List ℕ) → ((count : ℕ) (out : List ℕ) → puts n p f (xs ++ ys) count out ≡ unless_full (puts n p f xs count out) (puts n p f ys))
           → unless_full (after x o) (puts n p f (xs ++ ys)) ≡ unless_full (unless_full (after x o) (puts n p f xs)) (puts n p f ys)
-      go (Kept k) o ih = ih k o
-      go Full o ih = refl
+      go (Some k) o ih = ih k o
+      go None o ih = refl
 
   -- a range that may be new, and the rest
   pub puts_one : (w : Bool) (r : Range) (rest : List Range) (count : ℕ) (out : List ℕ)

@@ -1,5 +1,5 @@
 -- Laws of ranges that are offered one after the other. Assumes nothing.
-use Rattle.std.specs.Prelude.{ℕ, ◌+◌, ◌-◌, ◌*◌, ◌/◌, ◌≤◌, ◌<◌, ◌≡◌, Bool, not, ◌&&◌, length}
+use Rattle.std.specs.Prelude.{ℕ, ◌+◌, ◌-◌, ◌*◌, ◌/◌, ◌≤◌, ◌<◌, ◌≡◌, Bool, not, ◌&&◌, length, Some, None}
 use Rattle.std.proofs.Math.Path.{refl}
 use Rattle.std.proofs.Common.{sym, ap, ◌∙◌}
 use Rattle.std.proofs.Math.Bool.{true, false}
@@ -12,13 +12,11 @@ use borrow.Author.Tests.{ltb-true, ltb-false}
 use Rattle.records.specs.Le.{le}
 use Rattle.enzyme_cuts.specs.Cutting.{Range, part, seen_in, within, wanted}
 use Rattle.enzyme_cuts.specs.Work.{RangesWithin}
-use Rattle.enzyme_keep.specs.declared.offering.Step.{Step}
-use Rattle.enzyme_keep.specs.declared.offering.Step.TheVariants.{Kept, Full}
 use Rattle.enzyme_keep.specs.declared.offering.Terms.{Terms}
 use Rattle.enzyme_keep.specs.Digests.{record_of}
 use Rattle.enzyme_keep.specs.Buffer.{range_at, ranges_in, sealed, bared, times_at, retold}
 use Rattle.enzyme_keep.specs.BufferLaws.{length-bared, length-retold, ranges-retold, retold-more, retold-bared}
-use Rattle.enzyme_keep.specs.Steps.{digest_room, After, after, decided, offered, unless_full, offers, standing, untold, View, telling}
+use Rattle.enzyme_keep.specs.Steps.{Step, digest_room, After, after, decided, offered, unless_full, offers, standing, untold, View, telling}
 
 -- ---- two lists of ranges, one after the other
 
@@ -31,24 +29,24 @@ offers_append s t f (r ∷ xs) ys count out =
   where
     go : (x : Step) (o : List ℕ) → ((count : ℕ) (out : List ℕ) → offers s t f (xs ++ ys) count out ≡ unless_full (offers s t f xs count out) (offers s t f ys))
         → unless_full (after x o) (offers s t f (xs ++ ys)) ≡ unless_full (unless_full (after x o) (offers s t f xs)) (offers s t f ys)
-    go (Kept n) o ih = ih n o
-    go Full o ih = refl
+    go (Some n) o ih = ih n o
+    go None o ih = refl
 
-then_kept : (a : After) (f : ℕ → List ℕ → After) (count : ℕ) (out : List ℕ) → after (Kept count) out ≡ a → unless_full a f ≡ f count out
+then_kept : (a : After) (f : ℕ → List ℕ → After) (count : ℕ) (out : List ℕ) → after (Some count) out ≡ a → unless_full a f ≡ f count out
 then_kept a f count out g = rw (sym g)
 
-then_full : (a : After) (f : ℕ → List ℕ → After) (out : List ℕ) → after Full out ≡ a → unless_full a f ≡ after Full out
+then_full : (a : After) (f : ℕ → List ℕ → After) (out : List ℕ) → after None out ≡ a → unless_full a f ≡ after None out
 then_full a f out g = rw (sym g)
 
 -- the first list was passed over or kept, and the second came after
 pub view_then : (s : List ℕ) (t : Terms) (xs ys : List Range) (count : ℕ) (out : List ℕ) (k : ℕ) (o : List ℕ) (r : Step) (o' : List ℕ)
-    → View s t xs count out (Kept k) o → View s t ys k o r o' → View s t (xs ++ ys) count out r o'
+    → View s t xs count out (Some k) o → View s t ys k o r o' → View s t (xs ++ ys) count out r o'
 view_then s t xs ys count out k o r o' x y =
     let old = bared t.protein count out in
     y ∙ sym (offers_append s t untold xs ys count old ∙ then_kept (offers s t untold xs count old) (offers s t untold ys) k (bared t.protein k o) x)
 
 -- there was no room for one of the first
-pub view_full : (s : List ℕ) (t : Terms) (xs ys : List Range) (count : ℕ) (out o : List ℕ) → View s t xs count out Full o → View s t (xs ++ ys) count out Full o
+pub view_full : (s : List ℕ) (t : Terms) (xs ys : List Range) (count : ℕ) (out o : List ℕ) → View s t xs count out None o → View s t (xs ++ ys) count out None o
 view_full s t xs ys count out o x =
     let old = bared t.protein count out in
     sym (offers_append s t untold xs ys count old ∙ then_full (offers s t untold xs count old) (offers s t untold ys) (bared t.protein (digest_room o) o) x)
@@ -59,46 +57,46 @@ pub offers-one : (s : List ℕ) (t : Terms) (f : Range → ℕ) (r : Range) (cou
 offers-one s t f r count out = let a = offered s t f r count out in go a.step a.bytes
   where
     go : (x : Step) (o : List ℕ) → unless_full (after x o) (offers s t f []) ≡ after x o
-    go (Kept n) o = refl
-    go Full o = refl
+    go (Some n) o = refl
+    go None o = refl
 
 -- ---- the records of a run are no more than a list holds
 
-pub offers_capped : (s : List ℕ) (t : Terms) (f : Range → ℕ) (rs : List Range) (count : ℕ) (out : List ℕ) (k : ℕ) (o : List ℕ) → count ≤ 1048576 → after (Kept k) o ≡ offers s t f rs count out → k ≤ 1048576
+pub offers_capped : (s : List ℕ) (t : Terms) (f : Range → ℕ) (rs : List Range) (count : ℕ) (out : List ℕ) (k : ℕ) (o : List ℕ) → count ≤ 1048576 → after (Some k) o ≡ offers s t f rs count out → k ≤ 1048576
 unfolding offered
 offers_capped s t f [] count out k o h e =
-    let d : Kept k ≡ Kept count = ap (λ (x : After). x.step) e in
+    let d : Some k ≡ Some count = ap (λ (x : After). x.step) e in
     let g : k ≡ count = cc in
     omega arith
 offers_capped s t f (r ∷ rs) count out k o h e = go (wanted s t.minimum t.maximum (ranges_in count out) r) (ltb count (digest_room out)) refl e (λ n b. offers_capped s t f rs n b k o)
   where
-    go : (w b : Bool) → ltb count (digest_room out) ≡ b → after (Kept k) o ≡ unless_full (decided w b count out (record_of (length s) t.protein r (f r))) (offers s t f rs)
-        → ((n : ℕ) (b : List ℕ) → n ≤ 1048576 → after (Kept k) o ≡ offers s t f rs n b → k ≤ 1048576) → k ≤ 1048576
+    go : (w b : Bool) → ltb count (digest_room out) ≡ b → after (Some k) o ≡ unless_full (decided w b count out (record_of (length s) t.protein r (f r))) (offers s t f rs)
+        → ((n : ℕ) (b : List ℕ) → n ≤ 1048576 → after (Some k) o ≡ offers s t f rs n b → k ≤ 1048576) → k ≤ 1048576
     go true true g e ih = ih (count + 1) (sets out (20 * count) (record_of (length s) t.protein r (f r))) (omega (arith, ltb-true count (digest_room out) g, min-le_right (length out / 20) 1048576)) e
     go true false g e ih =
-        let h : Kept k ≡ Full = ap (λ (x : After). x.step) e in
+        let h : Some k ≡ None = ap (λ (x : After). x.step) e in
         let z : ◌≡◌ {A = ℕ} 0 1 = cc in
         absurd (omega arith)
     go false b g e ih = ih count out h e
 
 -- ---- nor than there is room for
 
-pub offers-roomy : (s : List ℕ) (t : Terms) (f : Range → ℕ) (rs : List Range) (count : ℕ) (out : List ℕ) (k : ℕ) (o : List ℕ) → count ≤ digest_room out → after (Kept k) o ≡ offers s t f rs count out → k ≤ digest_room o
+pub offers-roomy : (s : List ℕ) (t : Terms) (f : Range → ℕ) (rs : List Range) (count : ℕ) (out : List ℕ) (k : ℕ) (o : List ℕ) → count ≤ digest_room out → after (Some k) o ≡ offers s t f rs count out → k ≤ digest_room o
 unfolding offered
 offers-roomy s t f [] count out k o h e =
-    let d : Kept k ≡ Kept count = ap (λ (x : After). x.step) e in
+    let d : Some k ≡ Some count = ap (λ (x : After). x.step) e in
     let g : k ≡ count = cc in
     let i : o ≡ out = ap (λ (x : After). x.bytes) e in
     rw (g, i) h
 offers-roomy s t f (r ∷ rs) count out k o h e = go (wanted s t.minimum t.maximum (ranges_in count out) r) (ltb count (digest_room out)) refl e (λ n b. offers-roomy s t f rs n b k o)
   where
-    go : (w b : Bool) → ltb count (digest_room out) ≡ b → after (Kept k) o ≡ unless_full (decided w b count out (record_of (length s) t.protein r (f r))) (offers s t f rs)
-        → ((n : ℕ) (b : List ℕ) → n ≤ digest_room b → after (Kept k) o ≡ offers s t f rs n b → k ≤ digest_room o) → k ≤ digest_room o
+    go : (w b : Bool) → ltb count (digest_room out) ≡ b → after (Some k) o ≡ unless_full (decided w b count out (record_of (length s) t.protein r (f r))) (offers s t f rs)
+        → ((n : ℕ) (b : List ℕ) → n ≤ digest_room b → after (Some k) o ≡ offers s t f rs n b → k ≤ digest_room o) → k ≤ digest_room o
     go true true g e ih =
         let new = sets out (20 * count) (record_of (length s) t.protein r (f r)) in
         ih (count + 1) new (rw (length-sets out (20 * count) (record_of (length s) t.protein r (f r))) (omega (arith, ltb-true count (digest_room out) g))) e
     go true false g e ih =
-        let h : Kept k ≡ Full = ap (λ (x : After). x.step) e in
+        let h : Some k ≡ None = ap (λ (x : After). x.step) e in
         let z : ◌≡◌ {A = ℕ} 0 1 = cc in
         absurd (omega arith)
     go false b g e ih = ih count out h e
@@ -110,8 +108,8 @@ pub unless_alike : (a : After) (f g : ℕ → List ℕ → After) → ((count : 
 unless_alike a f g h = go a.step
   where
     go : (x : Step) → unless_full (after x a.bytes) f ≡ unless_full (after x a.bytes) g
-    go (Kept k) = h k a.bytes
-    go Full = refl
+    go (Some k) = h k a.bytes
+    go None = refl
 
 -- that say the same of every range that may be a digest
 pub offers-alike : (s : List ℕ) (t : Terms) (f g : Range → ℕ) (n : ℕ) (rs : List Range) → RangesWithin n rs
@@ -167,5 +165,5 @@ module _ (s : List ℕ) (t : Terms) (f : Range → ℕ) (small : length s ≤ 65
       sym (offers-telling rs i 0 out (omega arith) ∙ ap (telling f) (sym v) ∙ rw (d, e))
     where
       standing-bared : (r : Step) → standing r (bared t.protein (standing r out') out') ≡ standing r out'
-      standing-bared (Kept k) = refl
-      standing-bared Full = rw (length-bared t.protein (digest_room out') out')
+      standing-bared (Some k) = refl
+      standing-bared None = rw (length-bared t.protein (digest_room out') out')

@@ -1,14 +1,16 @@
 -- Ranges that are offered to the buffer one after the other: what a call asks, answers and leaves. The public statement
 -- does not cite this.
-use Rattle.std.specs.Prelude.{ℕ, ◌+◌, ◌*◌, ◌≡◌, Bool, true, cond, List, [], ◌∷◌, length, ltb}
+use Rattle.std.specs.Prelude.{ℕ, ◌+◌, ◌*◌, ◌≡◌, Bool, true, cond, List, [], ◌∷◌, length, ltb, Option, Some, None}
 use Rattle.std.proofs.lemmas.List.Edits.{sets}
 use Rattle.records.specs.Room.{room_of}
 use Rattle.enzyme_cuts.specs.Cutting.{Range, wanted, part, having}
-use Rattle.enzyme_keep.specs.declared.offering.Step.{Step}
-use Rattle.enzyme_keep.specs.declared.offering.Step.TheVariants.{Kept, Full}
 use Rattle.enzyme_keep.specs.declared.offering.Terms.{Terms}
 use Rattle.enzyme_keep.specs.Digests.{record_of}
 use Rattle.enzyme_keep.specs.Buffer.{ranges_in, bared, retold}
+
+-- what it answers, or why not
+abbrev pub Step : Type 0
+Step = Option ℕ
 
 -- a digest takes 20 bytes, and a list holds at most 1,048,576
 abbrev pub digest_room : List ℕ → ℕ
@@ -25,7 +27,7 @@ after r bytes = record { step = r; bytes = bytes }
 -- with the two tests: a wanted range is written where there is room
 abbrev pub decided : Bool → Bool → ℕ → List ℕ → List ℕ → After
 decided want free count out new =
-    cond want (cond free (after (Kept (count + 1)) (sets out (20 * count) new)) (after Full out)) (after (Kept count) out)
+    cond want (cond free (after (Some (count + 1)) (sets out (20 * count) new)) (after None out)) (after (Some count) out)
 
 -- one range, of which f says how often its letters occur
 unfoldable pub offered : List ℕ → Terms → (Range → ℕ) → Range → ℕ → List ℕ → After
@@ -37,17 +39,17 @@ abbrev pub unless_full : After → (ℕ → List ℕ → After) → After
 unless_full a next = go a.step
   where
     go : Step → After
-    go (Kept count) = next count a.bytes
-    go Full = a
+    go (Some count) = next count a.bytes
+    go None = a
 
 -- a list of ranges, one after the other
 abbrev pub offers : List ℕ → Terms → (Range → ℕ) → List Range → ℕ → List ℕ → After
-offers s t f [] count out = after (Kept count) out
+offers s t f [] count out = after (Some count) out
 offers s t f (r ∷ rs) count out = unless_full (offered s t f r count out) (offers s t f rs)
 
 -- the records of all the ranges, one after the other, where there is room; f says how often the letters of each occur
 abbrev pub puts : ℕ → ℕ → (Range → ℕ) → List Range → ℕ → List ℕ → After
-puts n p f [] count out = after (Kept count) out
+puts n p f [] count out = after (Some count) out
 puts n p f (r ∷ rs) count out = unless_full (decided true (ltb count (digest_room out)) count out (record_of n p r (f r))) (puts n p f rs)
 
 -- how many of the ranges rs have the letters of r
@@ -58,8 +60,8 @@ among s rs r = having s rs (part s r)
 
 -- how many records stand
 abbrev pub standing : Step → List ℕ → ℕ
-standing (Kept k) out = k
-standing Full out = digest_room out
+standing (Some k) out = k
+standing None out = digest_room out
 
 -- no number
 abbrev pub untold : Range → ℕ

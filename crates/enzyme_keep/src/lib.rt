@@ -8,6 +8,6 @@ mod record;
 mod sealing;
 
 pub use fields::is_good;
-pub use offering::{Step, Terms, length_within, write_placed, write_range};
+pub use offering::{Terms, length_within, write_placed, write_range};
 pub use record::{position, put_record};
 pub use sealing::{seal, seal_all};

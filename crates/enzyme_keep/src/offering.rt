@@ -7,13 +7,6 @@ ghost use Rattle.enzyme_keep.specs.Steps.{digest_room, after, decided};
 
 use crate::record::{position, put_placed};
 
-// What came of ranges that were offered: the records are now so many, or there was no room for one.
-#[derive(Clone, Copy)]
-pub enum Step {
-    Kept(usize),
-    Full,
-}
-
 // The least and the greatest length of a digest, and the number of its protein.
 #[derive(Clone, Copy)]
 pub struct Terms {
@@ -42,19 +35,19 @@ pub fn write_placed(
     times: u32,
     out: &mut [u8],
     count: usize,
-) -> Step
+) -> Option<usize>
     requires { (a ≤ 65536) × (e ≤ 65536) }
     ensures { after result out.new ≡ decided wanted (ltb count (digest_room out.old)) count out.old (placed_record place last (range a e missed semi) times) }
 {
     if !wanted {
-        return Step::Kept(count);
+        return Some(count);
     }
     if records::room_for(out.len(), 20, 1048576) <= count {
-        return Step::Full;
+        return None;
     }
     put_placed(out, 20 * count, a, e, missed, semi, place, last, times);
     let next = count + 1;
-    Step::Kept(next)
+    Some(next)
 }
 
 // The same of a protein of n letters.
@@ -69,7 +62,7 @@ pub fn write_range(
     times: u32,
     out: &mut [u8],
     count: usize,
-) -> Step
+) -> Option<usize>
     requires { (a ≤ 65536) × (e ≤ 65536) }
     ensures { after result out.new ≡ decided wanted (ltb count (digest_room out.old)) count out.old (record_of n last (range a e missed semi) times) }
 {

@@ -9,7 +9,7 @@ ghost use Rattle.enzyme_lengths.specs.Listing.{chosen_of, Positioned, Measured, 
 
 use crate::telling::{place, times_where};
 use enzyme_blocks::{block_end, fill_least, lesser};
-use enzyme_keep::{Step, Terms};
+use enzyme_keep::Terms;
 use records::wide;
 
 // Writes the new ranges of a length that start from `from` to `to`, all of which have one position.
@@ -26,7 +26,7 @@ fn list_placed(
     to: usize,
     out: &mut [u8],
     count: usize,
-) -> Step
+) -> Option<usize>
     requires { (length letters.now ≤ 65536) × Measured letters.now longest.now × (to + len ≤ length letters.now + 1) × (0 < len) × Told len letters.now longest.now next.now size.now head.old × Positioned (length letters.now) len position from to }
     ensures { (after result out.new ≡ chosen_of letters.now protein (starting len from (to - from)) count out.old) × Told len letters.now longest.now next.now size.now head.new }
 {
@@ -35,7 +35,7 @@ fn list_placed(
     while a < to {
         let new = place(longest[a]) < len;
         let times = times_where(new, letters, longest, next, size, head, a, len);
-        let Step::Kept(x) = enzyme_keep::write_placed(
+        let x = enzyme_keep::write_placed(
             new,
             a,
             a + len,
@@ -46,13 +46,11 @@ fn list_placed(
             times,
             out,
             k,
-        ) else {
-            return Step::Full;
-        };
+        )?;
         k = x;
         a += 1;
     }
-    Step::Kept(k)
+    Some(k)
 }
 
 fn later(x: usize, y: usize) -> usize
@@ -86,16 +84,14 @@ fn list_later(
     to: usize,
     out: &mut [u8],
     count: usize,
-) -> Step
+) -> Option<usize>
     requires { (length letters.now ≤ 65536) × Measured letters.now longest.now × (to + len ≤ length letters.now + 1) × (0 < len) × Told len letters.now longest.now next.now size.now head.old × (0 < from) × (from ≤ to) }
     ensures { (after result out.new ≡ chosen_of letters.now protein (starting len from (to - from)) count out.old) × Told len letters.now longest.now next.now size.now head.new }
 {
     let end = inner_end(letters.len(), len, from, to);
-    let Step::Kept(k) = list_placed(
+    let k = list_placed(
         letters, longest, next, size, head, len, 3, protein, from, end, out, count,
-    ) else {
-        return Step::Full;
-    };
+    )?;
     list_placed(
         letters, longest, next, size, head, len, 1, protein, end, to, out, k,
     )
@@ -114,20 +110,18 @@ fn list_starts(
     to: usize,
     out: &mut [u8],
     count: usize,
-) -> Step
+) -> Option<usize>
     requires { (length letters.now ≤ 65536) × Measured letters.now longest.now × (to + len ≤ length letters.now + 1) × (0 < len) × Told len letters.now longest.now next.now size.now head.old }
     ensures { (after result out.new ≡ chosen_of letters.now protein (starting len from (to - from)) count out.old) × Told len letters.now longest.now next.now size.now head.new }
 {
     if to <= from {
-        return Step::Kept(count);
+        return Some(count);
     }
     let second = later(from, 1);
     let position = enzyme_keep::position(0, len, letters.len());
-    let Step::Kept(k) = list_placed(
+    let k = list_placed(
         letters, longest, next, size, head, len, position, protein, from, second, out, count,
-    ) else {
-        return Step::Full;
-    };
+    )?;
     list_later(
         letters, longest, next, size, head, len, protein, second, to, out, k,
     )
@@ -147,12 +141,12 @@ fn list_block(
     to: usize,
     out: &mut [u8],
     count: usize,
-) -> Step
+) -> Option<usize>
     requires { (length letters.now ≤ 65536) × Measured letters.now longest.now × (to + len ≤ length letters.now + 1) × Above longest.now from (min to (length letters.now)) least × (0 < len) × Told len letters.now longest.now next.now size.now head.old }
     ensures { (after result out.new ≡ chosen_of letters.now protein (starting len from (to - from)) count out.old) × Told len letters.now longest.now next.now size.now head.new }
 {
     if len <= least {
-        return Step::Kept(count);
+        return Some(count);
     }
     list_starts(
         letters, longest, next, size, head, len, protein, from, to, out, count,
@@ -173,7 +167,7 @@ fn list_blocks(
     to: usize,
     out: &mut [u8],
     count: usize,
-) -> Step
+) -> Option<usize>
     requires { (length letters.now ≤ 65536) × Measured letters.now longest.now × (to + len ≤ length letters.now + 1) × Blocked (length letters.now) longest.now least.now × (from % 64 ≡ 0) × (0 < len) × Told len letters.now longest.now next.now size.now head.old }
     ensures { (after result out.new ≡ chosen_of letters.now protein (starting len from (to - from)) count out.old) × Told len letters.now longest.now next.now size.now head.new }
 {
@@ -182,15 +176,13 @@ fn list_blocks(
     while a < to {
         let end = block_end(a, 64, to);
         let floor = wide(least[a / 64]);
-        let Step::Kept(x) = list_block(
+        let x = list_block(
             letters, longest, next, size, head, floor, len, protein, a, end, out, k,
-        ) else {
-            return Step::Full;
-        };
+        )?;
         k = x;
         a += 64;
     }
-    Step::Kept(k)
+    Some(k)
 }
 
 // The same of a great block: with a length up to its least none is new, and none of its blocks is looked at.
@@ -207,13 +199,13 @@ fn list_great(
     to: usize,
     out: &mut [u8],
     count: usize,
-) -> Step
+) -> Option<usize>
     requires { (length letters.now ≤ 65536) × Measured letters.now longest.now × (to + len ≤ length letters.now + 1) × Blocked (length letters.now) longest.now least.now × (from % 4096 ≡ 0) × (from < to) × (to ≤ from + 4096) × (0 < len) × Told len letters.now longest.now next.now size.now head.old }
     ensures { (after result out.new ≡ chosen_of letters.now protein (starting len from (to - from)) count out.old) × Told len letters.now longest.now next.now size.now head.new }
 {
     let floor = wide(least[1024 + from / 4096]);
     if len <= floor {
-        return Step::Kept(count);
+        return Some(count);
     }
     list_blocks(
         letters, longest, next, size, head, least, len, protein, from, to, out, count,
@@ -232,7 +224,7 @@ fn list_length(
     protein: u32,
     out: &mut [u8],
     count: usize,
-) -> Step
+) -> Option<usize>
     requires { (length letters.now ≤ 65536) × (len ≤ length letters.now) × Measured letters.now longest.now × Blocked (length letters.now) longest.now least.now × (0 < len) × Told len letters.now longest.now next.now size.now head.old }
     ensures { (after result out.new ≡ chosen_of letters.now protein (of_length (length letters.now) len) count out.old) × Told len letters.now longest.now next.now size.now head.new }
 {
@@ -241,15 +233,13 @@ fn list_length(
     let mut k = count;
     while a < starts {
         let to = block_end(a, 4096, starts);
-        let Step::Kept(x) = list_great(
+        let x = list_great(
             letters, longest, next, size, head, least, len, protein, a, to, out, k,
-        ) else {
-            return Step::Full;
-        };
+        )?;
         k = x;
         a += 4096;
     }
-    Step::Kept(k)
+    Some(k)
 }
 
 // Of no letters there is no new range.
@@ -269,7 +259,7 @@ fn list_lengths(
     least: &[u32],
     terms: Terms,
     out: &mut [u8],
-) -> Step
+) -> Option<usize>
     requires { (length letters.now ≤ 65536) × (terms.maximum ≤ 65536) × Measured letters.now longest.now × Blocked (length letters.now) longest.now least.now × Told terms.minimum letters.now longest.now next.now size.now head.old }
     ensures { after result out.new ≡ chosen_of letters.now terms.protein (none_sites (length letters.now) terms.minimum terms.maximum) 0 out.old }
 {
@@ -278,7 +268,7 @@ fn list_lengths(
     let mut len = first_length(terms.minimum);
     let mut k = 0;
     while len <= top {
-        let Step::Kept(x) = list_length(
+        let x = list_length(
             letters,
             longest,
             next,
@@ -289,13 +279,11 @@ fn list_lengths(
             terms.protein,
             out,
             k,
-        ) else {
-            return Step::Full;
-        };
+        )?;
         k = x;
         len += 1;
     }
-    Step::Kept(k)
+    Some(k)
 }
 
 // Writes the digests of "none". longest has for each start the longest stretch that it shares with an earlier one; next, size and head
@@ -309,7 +297,7 @@ pub fn list_measured(
     terms: Terms,
     out: &mut [u8],
     least: &mut [u32],
-) -> Step
+) -> Option<usize>
     requires { (length letters.now ≤ 65536) × (terms.maximum ≤ 65536) × (length letters.now ≤ length longest.now) × (length letters.now ≤ length next.now) × (length letters.now ≤ length size.now) × (length letters.now ≤ length head.old) × (1040 ≤ length least.old) × Longests letters.now longest.now × TellsFrom terms.minimum letters.now longest.now next.now size.now head.old }
     ensures { after result out.new ≡ offers letters.now terms (among letters.now (none_sites (length letters.now) terms.minimum terms.maximum)) (none_sites (length letters.now) terms.minimum terms.maximum) 0 out.old }
 {

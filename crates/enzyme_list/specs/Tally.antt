@@ -1,18 +1,16 @@
 -- How often letters were offered, and what the records say of it. The public statement does not cite this.
-use Rattle.std.specs.Prelude.{ℕ, ◌+◌, ◌-◌, ◌*◌, ◌%◌, ◌<◌, ◌≡◌, Bool, true, false, cond, ◌&&◌, List}
+use Rattle.std.specs.Prelude.{ℕ, ◌+◌, ◌-◌, ◌*◌, ◌%◌, ◌<◌, ◌≡◌, Bool, true, false, cond, ◌&&◌, List, Some, None}
 use Rattle.std.proofs.lemmas.List.Edits.{sets}
 use Rattle.lists.specs.Lists.{same}
 use Rattle.records.specs.Le.{le, number_at}
 use Rattle.enzyme_cuts.specs.Cutting.{Range, part, seen_in, within}
-use Rattle.enzyme_keep.specs.declared.offering.Step.{Step}
-use Rattle.enzyme_keep.specs.declared.offering.Step.TheVariants.{Kept, Full}
 use Rattle.enzyme_keep.specs.declared.offering.Terms.{Terms}
 use Rattle.enzyme_keep.specs.Buffer.{range_at, ranges_in, bared, times_at}
-use Rattle.enzyme_keep.specs.Steps.{After, after, standing}
+use Rattle.enzyme_keep.specs.Steps.{Step, After, after, standing}
 
 -- there are count records, or there was no room for one more
 abbrev pub step_at : ℕ → Bool → Step
-step_at count full = cond full Full (Kept count)
+step_at count full = cond full None (Some count)
 
 -- the records, but for links and numbers
 abbrev pub seen_at : Terms → ℕ → Bool → List ℕ → After

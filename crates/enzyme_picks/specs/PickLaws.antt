@@ -1,5 +1,5 @@
 -- The windows of the tables with a weight are those that are kept, and the weight is how many have their letters. Assumes nothing.
-use Rattle.std.specs.Prelude.{ℕ, zero, suc, ◌+◌, ◌-◌, ◌≤◌, ◌<◌, ◌≡◌, refl, Bool, true, false, cond, ◌&&◌, ◌⊎◌, length, take, drop, get_or, ltb, leb}
+use Rattle.std.specs.Prelude.{ℕ, zero, suc, ◌+◌, ◌-◌, ◌≤◌, ◌<◌, ◌≡◌, refl, Bool, true, false, cond, ◌&&◌, ◌⊎◌, length, take, drop, get_or, ltb, leb, Some, None}
 use Rattle.std.proofs.Common.{sym, ap, ◌∙◌, inl, inr, arith, add-one, lt-ltb, le-ltb, le-leb, length-append, take-append-drop, take-add}
 use mathlib.Core.List.{List, [], ◌++◌, foldl, append-nil}
 use Rattle.std.proofs.lemmas.Bool.{lt-leb}
@@ -8,10 +8,8 @@ use Rattle.enzyme_cuts.specs.declared.kinds.Knife.{Knife}
 use Rattle.enzyme_cuts.specs.Cutting.{Range, range, windows, windows_from, within, kept}
 use Rattle.enzyme_cuts.specs.Work.{RangesWithin}
 use Rattle.enzyme_keep.specs.declared.offering.Terms.{Terms}
-use Rattle.enzyme_keep.specs.declared.offering.Step.{Step}
-use Rattle.enzyme_keep.specs.declared.offering.Step.TheVariants.{Kept, Full}
 use Rattle.enzyme_keep.specs.Digests.{record_of}
-use Rattle.enzyme_keep.specs.Steps.{digest_room, After, after, decided, unless_full, offers, among, puts}
+use Rattle.enzyme_keep.specs.Steps.{Step, digest_room, After, after, decided, unless_full, offers, among, puts}
 use Rattle.enzyme_windows.specs.Pieces.{pieces, end_to_end, places_from}
 use Rattle.enzyme_windows.specs.Shared.{shared_sites, unshared, picked_from}
 use Rattle.enzyme_windows.specs.Weights.{same_count, class_weight}
@@ -49,19 +47,19 @@ module _ (n p : ℕ) (starts : List ℕ) (w : ℕ → ℕ) (mn mx missed i m e :
       rw (g, this, add-one i)
 
   pub turn-kept : {whole : After} → windows_put n p starts w mn mx missed i (suc m - e) count out ≡ whole → (k : ℕ)
-      → after (Kept k) o ≡ decided (ltb 0 times) (ltb count (digest_room out)) count out (record_of n p (range a b missed 0) times)
+      → after (Some k) o ≡ decided (ltb 0 times) (ltb count (digest_room out)) count out (record_of n p (range a b missed 0) times)
       → windows_put n p starts w mn mx missed (i + 1) (suc m - (e + 1)) k o ≡ whole
   turn-kept inv k y = sym (first ∙ rw (← y)) ∙ inv
 
   pub turn_full : {whole : After} → windows_put n p starts w mn mx missed i (suc m - e) count out ≡ whole
-      → after Full o ≡ decided (ltb 0 times) (ltb count (digest_room out)) count out (record_of n p (range a b missed 0) times) → after Full o ≡ whole
+      → after None o ≡ decided (ltb 0 times) (ltb count (digest_room out)) count out (record_of n p (range a b missed 0) times) → after None o ≡ whole
   turn_full inv y = sym (first ∙ rw (← y)) ∙ inv
 
 pub put-start : (n p : ℕ) (starts : List ℕ) (w : ℕ → ℕ) (mn mx missed m e count : ℕ) (out : List ℕ) → e ≡ missed + 1
     → windows_put n p starts w mn mx missed 0 (suc m - e) count out ≡ windows_put n p starts w mn mx missed 0 (m - missed) count out
 put-start n p starts w mn mx missed m e count out f = let g : suc m - e ≡ m - missed = omega arith in rw g
 
-pub put_end : (n p : ℕ) (starts : List ℕ) (w : ℕ → ℕ) (mn mx missed i m e count : ℕ) (out : List ℕ) → m < e → windows_put n p starts w mn mx missed i (suc m - e) count out ≡ after (Kept count) out
+pub put_end : (n p : ℕ) (starts : List ℕ) (w : ℕ → ℕ) (mn mx missed i m e count : ℕ) (out : List ℕ) → m < e → windows_put n p starts w mn mx missed i (suc m - e) count out ≡ after (Some count) out
 put_end n p starts w mn mx missed i m e count out h = let g : suc m - e ≡ 0 = omega arith in rw g
 
 -- weights that agree write the same
@@ -80,11 +78,11 @@ module _ (n p : ℕ) (starts : List ℕ) (w : ℕ → ℕ → ℕ) (mn mx m miss
   sizes-on h = let g : suc top - missed ≡ suc (suc top - (missed + 1)) = omega arith in rw (g, add-one missed)
 
   pub sizes-kept : {whole : After} → sizes_put n p starts w mn mx m missed (suc top - missed) count out ≡ whole → missed ≤ top → (o : List ℕ) (k : ℕ)
-      → after (Kept k) o ≡ windows_put n p starts (w missed) mn mx missed 0 (m - missed) count out → sizes_put n p starts w mn mx m (missed + 1) (suc top - (missed + 1)) k o ≡ whole
+      → after (Some k) o ≡ windows_put n p starts (w missed) mn mx missed 0 (m - missed) count out → sizes_put n p starts w mn mx m (missed + 1) (suc top - (missed + 1)) k o ≡ whole
   sizes-kept inv h o k e = sym (sizes-on h ∙ rw (← e)) ∙ inv
 
   pub sizes_full : {whole : After} → sizes_put n p starts w mn mx m missed (suc top - missed) count out ≡ whole → missed ≤ top → (o : List ℕ)
-      → after Full o ≡ windows_put n p starts (w missed) mn mx missed 0 (m - missed) count out → after Full o ≡ whole
+      → after None o ≡ windows_put n p starts (w missed) mn mx missed 0 (m - missed) count out → after None o ≡ whole
   sizes_full inv h o e = sym (sizes-on h ∙ rw (← e)) ∙ inv
 
   -- the last size
@@ -94,8 +92,8 @@ module _ (n p : ℕ) (starts : List ℕ) (w : ℕ → ℕ → ℕ) (mn mx m miss
       sym (sizes-on (omega arith) ∙ rw (← e) (go r)) ∙ inv
     where
       go : (r : Step) → unless_full (after r o) (sizes_put n p starts w mn mx m (missed + 1) (suc top - (missed + 1))) ≡ after r o
-      go (Kept k) = let z : suc top - (missed + 1) ≡ 0 = omega arith in rw z
-      go Full = refl
+      go (Some k) = let z : suc top - (missed + 1) ≡ 0 = omega arith in rw z
+      go None = refl
 
 -- ---- starts rise
 

@@ -4,7 +4,7 @@ ghost use Rattle.enzyme_keep.specs.Steps.{after};
 ghost use Rattle.enzyme_weights.specs.Weights.{weight_in};
 ghost use Rattle.enzyme_picks.specs.Picks.{StartsRise, windows_put};
 
-use enzyme_keep::{Step, Terms};
+use enzyme_keep::Terms;
 
 // A number as an index.
 fn wide(x: u8) -> usize
@@ -56,7 +56,7 @@ pub fn list_size(
     terms: Terms,
     out: &mut [u8],
     count: usize,
-) -> Step
+) -> Option<usize>
     requires { (missed ≤ 16) × (g ≤ 65536) × (g ≤ length order.now) × (g ≤ length runs.now) × (m ≤ length rank.now) × (m ≤ length share.now) × StartsRise starts.now m }
     ensures { after result out.new ≡ windows_put n terms.protein starts.now (weight_in order.now runs.now rank.now share.now g (suc missed)) terms.minimum terms.maximum missed 0 (m - missed) count out.old }
 {
@@ -70,7 +70,7 @@ pub fn list_size(
         let fits = enzyme_keep::length_within(to - from, terms.minimum, terms.maximum);
         let times = times_of(fits, order, runs, rank, share, g, sites, i);
         let new = 0 < times;
-        let Step::Kept(x) = enzyme_keep::write_range(
+        let x = enzyme_keep::write_range(
             new,
             from,
             to,
@@ -81,12 +81,10 @@ pub fn list_size(
             times,
             out,
             k,
-        ) else {
-            return Step::Full;
-        };
+        )?;
         k = x;
         i += 1;
         e += 1;
     }
-    Step::Kept(k)
+    Some(k)
 }

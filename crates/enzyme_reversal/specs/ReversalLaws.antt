@@ -1,14 +1,13 @@
 -- Laws of reversal. Assumes nothing.
-use Rattle.std.specs.Prelude.{ℕ, ◌+◌, ◌-◌, ◌≤◌, ◌<◌, ◌≡◌, refl, Bool, true, false, cond, ◌||◌, ◌⊎◌, List, length, get_or, set, ltb, eqb}
+use Rattle.std.specs.Prelude.{ℕ, ◌+◌, ◌-◌, ◌≤◌, ◌<◌, ◌≡◌, refl, Bool, true, false, cond, ◌||◌, ◌⊎◌, List, length, get_or, set, ltb, eqb, Err}
 use Rattle.std.proofs.Common.{sym, ap, ◌∙◌, inl, inr, ⊎_elim, arith, length-set, get_or-set_same, get_or-set_other, ext_get_or}
 use Rattle.std.proofs.lemmas.Bool.{eqb-false}
 use Rattle.lists.specs.Tests.{below?, same?}
 use Rattle.records.specs.declared.refusal.Refusal.TheVariants.{Size}
-use Rattle.records.specs.declared.refusal.Tested.{Tested}
-use Rattle.records.specs.declared.refusal.Tested.TheVariants.{Passed, Refused}
 use Rattle.letters.specs.Reversal.{reversed}
 use Rattle.letters.specs.ReversalLaws.{length-reversed, reversed-first, reversed-last, reversed_inner}
 use Rattle.enzyme_spec.specs.Reversal.{stretch_tested}
+use Rattle.records.specs.Answers.{Passed, Tested}
 
 -- ---- reversal in place: the places before i and from j on hold the reversed letters, those between them the old ones
 
@@ -84,6 +83,6 @@ flipped_end s i j out f h = ext_get_or 0 out (reversed s) (f.same_length ∙ sym
 pub stretch-passed : (s : List ℕ) → stretch_tested s ≡ Passed → 0 < length s
 stretch-passed s e = go (eqb (length s) 0) (ltb 65536 (length s)) _ refl e
   where
-    go : (a b : Bool) (rest : Tested) → eqb (length s) 0 ≡ a → cond (a || b) (Refused Size) rest ≡ Passed → 0 < length s
+    go : (a b : Bool) (rest : Tested) → eqb (length s) 0 ≡ a → cond (a || b) (Err Size) rest ≡ Passed → 0 < length s
     go true b rest f e = let z : ◌≡◌ {A = ℕ} 0 1 = cc in absurd (omega arith)
     go false b rest f e = ⊎_elim (λ (h : 0 < length s). h) (λ (h : length s ≤ 0). absurd (eqb-false (length s) 0 f (omega arith))) (below? 0 (length s))

@@ -1,17 +1,16 @@
 -- Laws of the letters of a digest record. Assumes nothing.
-use Rattle.std.specs.Prelude.{ℕ, suc, ◌+◌, ◌≤◌, ◌<◌, ◌≡◌, refl, Bool, true, false, cond, ◌&&◌, List, [], ◌∷◌, length, drop, get_or, set, ltb, leb, eqb}
+use Rattle.std.specs.Prelude.{ℕ, suc, ◌+◌, ◌≤◌, ◌<◌, ◌≡◌, refl, Bool, true, false, cond, ◌&&◌, List, [], ◌∷◌, length, drop, get_or, set, ltb, leb, eqb, Ok, Err}
 use Rattle.std.proofs.Common.{ap, arith, one-mul, add-one, drop_of_length-le, drop-cons, ltb-true, ltb-false, leb-true}
 use Rattle.lists.specs.Tests.{both}
 use Rattle.records.specs.declared.refusal.Refusal.TheVariants.{Size, Letter, Length, Field, Room}
-use Rattle.records.specs.declared.refusal.Tested.TheVariants.{Passed, Refused as RefusedBy}
 use Rattle.records.specs.Le.{number_at}
 use Rattle.records.specs.Outcome.{outcome}
 use Rattle.records.specs.Room.{room_of, singly, counted}
 use Rattle.records.specs.RoomLaws.{Sized, Standing, standing-none, standing-more, standing-done, standing_full, standing-length}
 use Rattle.letters.specs.Letters.{first_bad}
-use Rattle.records.specs.declared.refusal.Counted.TheVariants.{Count, Refused}
 use Rattle.enzyme_keep.specs.Digests.{good_record}
 use Rattle.enzyme_spec.specs.Reversal.{spelling_tested}
+use Rattle.records.specs.Answers.{Passed}
 
 -- ---- the letters written one after the other
 
@@ -38,12 +37,12 @@ module _ (old text : List ℕ) where
       let x = standing-more 1 65536 old (singly text) (sized text) (get_or text i 0 ∷ []) (singly (drop (suc i) text)) out i (rw (ahead i h) at s) g in
       rw (add-one i) (rw (one-mul i, add-one i) at x)
 
-  pub spelling_full : (i : ℕ) (out : List ℕ) → Spelling i out → i < length text → room_of 1 65536 old ≤ i → outcome (Refused Room) (out ∷ []) ≡ counted 1 65536 old (singly text)
+  pub spelling_full : (i : ℕ) (out : List ℕ) → Spelling i out → i < length text → room_of 1 65536 old ≤ i → outcome (Err Room) (out ∷ []) ≡ counted 1 65536 old (singly text)
   spelling_full i out s h g =
       let x = standing_full 1 65536 old (singly text) (sized text) (get_or text i 0 ∷ []) (singly (drop (suc i) text)) out i (rw (ahead i h) at s) g in
       rw x.1 (rw (← x.0))
 
-  pub spelling_done : (i : ℕ) (out : List ℕ) → Spelling i out → length text ≤ i → outcome (Count i) (out ∷ []) ≡ counted 1 65536 old (singly text)
+  pub spelling_done : (i : ℕ) (out : List ℕ) → Spelling i out → length text ≤ i → outcome (Ok i) (out ∷ []) ≡ counted 1 65536 old (singly text)
   spelling_done i out s h =
       let x = standing-done 1 65536 old (singly text) (sized text) out i (rw (drop_of_length-le text h) at s) in
       rw (x.1, ← x.2) (rw (← x.0))
@@ -54,7 +53,7 @@ pub spelling_passed : (s r : List ℕ) → spelling_tested s r ≡ Passed → (l
 spelling_passed s r e = go (ltb 65536 (length s)) (eqb (length r) 20) (ltb (first_bad s) (length s)) (good_record r && leb (number_at 4 r 4) (length s)) refl refl e
   where
     go : (a b c d : Bool) → ltb 65536 (length s) ≡ a → (good_record r && leb (number_at 4 r 4) (length s)) ≡ d
-        → cond a (RefusedBy Size) (cond b (cond c (RefusedBy (Letter (first_bad s))) (cond d Passed (RefusedBy (Field 0)))) (RefusedBy Length)) ≡ Passed
+        → cond a (Err Size) (cond b (cond c (Err (Letter (first_bad s))) (cond d Passed (Err (Field 0)))) (Err Length)) ≡ Passed
         → (length s ≤ 65536) × (number_at 4 r 0 ≤ number_at 4 r 4) × (number_at 4 r 4 ≤ length s)
     go true b c d f g e = let z : ◌≡◌ {A = ℕ} 0 1 = cc in absurd (omega arith)
     go false false c d f g e = let z : ◌≡◌ {A = ℕ} 0 1 = cc in absurd (omega arith)

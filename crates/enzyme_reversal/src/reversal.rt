@@ -5,7 +5,7 @@ ghost use Rattle.letters.specs.Reversal.{reversed};
 ghost use Rattle.enzyme_spec.specs.Reversal.{stretch_tested, record_tested, reverse_outcome, reverse_record_outcome};
 
 use enzyme_keep::is_good;
-use records::{Refusal, Tested};
+use records::Refusal;
 
 // Reverses all letters but the first and the last.
 fn flip(letters: &mut [u8])
@@ -25,58 +25,48 @@ fn flip(letters: &mut [u8])
     }
 }
 
-fn stretch_tested(letters: &[u8]) -> Tested
+fn stretch_tested(letters: &[u8]) -> Result<(), Refusal>
     ensures { result ≡ stretch_tested letters.now }
 {
     let n = letters.len();
     if (n == 0) | (65536 < n) {
-        return Tested::Refused(Refusal::Size);
+        return Err(Refusal::Size);
     }
     let bad = letters::first_bad(letters);
     if bad < n {
-        return Tested::Refused(Refusal::Letter(bad));
+        return Err(Refusal::Letter(bad));
     }
-    Tested::Passed
+    Ok(())
 }
 
 // Reverses all letters of a digest but the first and the last, and makes them capitals.
-pub fn reverse_letters(letters: &mut [u8]) -> Tested
+pub fn reverse_letters(letters: &mut [u8]) -> Result<(), Refusal>
     ensures { outcome result (letters.new ∷ []) ≡ reverse_outcome letters.old }
 {
-    let found = stretch_tested(letters);
-    match found {
-        Tested::Refused(why) => Tested::Refused(why),
-        Tested::Passed => {
-            letters::raise_all(letters);
-            flip(letters);
-            Tested::Passed
-        }
-    }
+    stretch_tested(letters)?;
+    letters::raise_all(letters);
+    flip(letters);
+    Ok(())
 }
 
-fn record_tested(bytes: &[u8]) -> Tested
+fn record_tested(bytes: &[u8]) -> Result<(), Refusal>
     ensures { result ≡ record_tested bytes.now }
 {
     if bytes.len() != 20 {
-        return Tested::Refused(Refusal::Length);
+        return Err(Refusal::Length);
     }
     if is_good(bytes) {
-        Tested::Passed
+        Ok(())
     } else {
-        Tested::Refused(Refusal::Field(0))
+        Err(Refusal::Field(0))
     }
 }
 
 // Makes a digest record a decoy; a decoy stays as it was.
-pub fn reverse_record(bytes: &mut [u8]) -> Tested
+pub fn reverse_record(bytes: &mut [u8]) -> Result<(), Refusal>
     ensures { outcome result (bytes.new ∷ []) ≡ reverse_record_outcome bytes.old }
 {
-    let found = record_tested(bytes);
-    match found {
-        Tested::Refused(why) => Tested::Refused(why),
-        Tested::Passed => {
-            records::put_byte(bytes, 11, 1);
-            Tested::Passed
-        }
-    }
+    record_tested(bytes)?;
+    records::put_byte(bytes, 11, 1);
+    Ok(())
 }

@@ -6,10 +6,10 @@ ghost use Rattle.records.specs.Room.{counted, singly};
 ghost use Rattle.enzyme_spec.specs.Reversal.{spelling_tested, letters_outcome};
 
 use enzyme_keep::is_good;
-use records::{Counted, Refusal, Tested};
+use records::Refusal;
 
 // Writes a range's letters as capitals, a decoy's reversed, as far as there is room.
-fn spell(part: &[u8], decoy: bool, out: &mut [u8]) -> Counted
+fn spell(part: &[u8], decoy: bool, out: &mut [u8]) -> Result<u32, Refusal>
     requires { length part.now ≤ 65536 }
     ensures { outcome result (out.new ∷ []) ≡ counted 1 65536 out.old (singly (letters_of decoy part.now)) }
 {
@@ -17,50 +17,45 @@ fn spell(part: &[u8], decoy: bool, out: &mut [u8]) -> Counted
     let mut i = 0;
     while i < part.len() {
         if room <= i {
-            return Counted::Refused(Refusal::Room);
+            return Err(Refusal::Room);
         }
         let letter = letters::letter_at(part, decoy, i);
         out[i] = letter;
         i += 1;
     }
     let count = i as u32;
-    Counted::Count(count)
+    Ok(count)
 }
 
-fn spelling_tested(letters: &[u8], bytes: &[u8]) -> Tested
+fn spelling_tested(letters: &[u8], bytes: &[u8]) -> Result<(), Refusal>
     ensures { result ≡ spelling_tested letters.now bytes.now }
 {
     let n = letters.len();
     if 65536 < n {
-        return Tested::Refused(Refusal::Size);
+        return Err(Refusal::Size);
     }
     if bytes.len() != 20 {
-        return Tested::Refused(Refusal::Length);
+        return Err(Refusal::Length);
     }
     let bad = letters::first_bad(letters);
     if bad < n {
-        return Tested::Refused(Refusal::Letter(bad));
+        return Err(Refusal::Letter(bad));
     }
     let end = records::u32_at(bytes, 4) as usize;
     if is_good(bytes) & (end <= n) {
-        Tested::Passed
+        Ok(())
     } else {
-        Tested::Refused(Refusal::Field(0))
+        Err(Refusal::Field(0))
     }
 }
 
 // Writes the letters of a digest record, whose range counts from the protein's first letter, as capitals into out.
-pub fn digest_letters(letters: &[u8], bytes: &[u8], out: &mut [u8]) -> Counted
+pub fn digest_letters(letters: &[u8], bytes: &[u8], out: &mut [u8]) -> Result<u32, Refusal>
     ensures { outcome result (out.new ∷ []) ≡ letters_outcome letters.now bytes.now out.old }
 {
-    let found = spelling_tested(letters, bytes);
-    match found {
-        Tested::Refused(why) => Counted::Refused(why),
-        Tested::Passed => {
-            let start = records::u32_at(bytes, 0) as usize;
-            let end = records::u32_at(bytes, 4) as usize;
-            let decoy = records::byte_at(bytes, 11) == 1;
-            spell(&letters[start..end], decoy, out)
-        }
-    }
+    spelling_tested(letters, bytes)?;
+    let start = records::u32_at(bytes, 0) as usize;
+    let end = records::u32_at(bytes, 4) as usize;
+    let decoy = records::byte_at(bytes, 11) == 1;
+    spell(&letters[start..end], decoy, out)
 }

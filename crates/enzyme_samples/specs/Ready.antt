@@ -2,10 +2,9 @@
 use Rattle.std.specs.Prelude.{ℕ, ◌+◌, ◌-◌, ◌≤◌, ◌≡◌, true, false, List, [], ◌∷◌, ◌++◌, length, get_or}
 use Rattle.enzyme_cuts.specs.Cutting.{Range, site, part}
 use Rattle.enzyme_cuts.specs.Work.{RangesWithin}
-use Rattle.enzyme_keep.specs.declared.offering.Step.{Step}
 use Rattle.enzyme_keep.specs.declared.offering.Terms.{Terms}
 use Rattle.enzyme_keep.specs.Buffer.{ranges_in}
-use Rattle.enzyme_keep.specs.Steps.{After, digest_room, unless_full, offers, untold}
+use Rattle.enzyme_keep.specs.Steps.{Step, After, digest_room, unless_full, offers, untold}
 use Rattle.enzyme_words.specs.Words.{Far}
 use Rattle.enzyme_once.specs.DistinctLaws.{NoRangeTwice}
 use Rattle.enzyme_list.specs.Tally.{step_at, seen_at, added_by, Tally}

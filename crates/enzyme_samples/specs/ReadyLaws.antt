@@ -1,5 +1,5 @@
 -- Laws of ranges that are each offered once. Assumes nothing.
-use Rattle.std.specs.Prelude.{ℕ, ◌+◌, ◌-◌, ◌≤◌, ◌<◌, ◌≡◌, refl, Bool, true, false, ◌⊎◌, List, [], ◌∷◌, ◌++◌, length, get_or}
+use Rattle.std.specs.Prelude.{ℕ, ◌+◌, ◌-◌, ◌≤◌, ◌<◌, ◌≡◌, refl, Bool, true, false, ◌⊎◌, List, [], ◌∷◌, ◌++◌, length, get_or, Some, None}
 use Rattle.std.proofs.Common.{sym, ap, ◌∙◌, inl, inr, ⊎_elim, append_assoc, arith}
 use Rattle.lists.specs.Tests.{same?, truth?}
 use Rattle.lists.specs.Lists.{same}
@@ -7,11 +7,9 @@ use Rattle.lists.specs.SameLaws.{same_refl, same-eq, same_short}
 use Rattle.enzyme_cuts.specs.Cutting.{Range, site, part, seen_in}
 use Rattle.enzyme_cuts.specs.InsideLaws.{part_length}
 use Rattle.enzyme_cuts.specs.Work.{RangesWithin}
-use Rattle.enzyme_keep.specs.declared.offering.Step.{Step}
-use Rattle.enzyme_keep.specs.declared.offering.Step.TheVariants.{Kept, Full}
 use Rattle.enzyme_keep.specs.declared.offering.Terms.{Terms}
 use Rattle.enzyme_keep.specs.Buffer.{ranges_in}
-use Rattle.enzyme_keep.specs.Steps.{After, after, unless_full, offers, untold}
+use Rattle.enzyme_keep.specs.Steps.{Step, After, after, unless_full, offers, untold}
 use Rattle.enzyme_keep.specs.StepLaws.{offers_append}
 use Rattle.enzyme_once.specs.ThinLaws.{Hit, hit_left, hit_right, hit_either}
 use Rattle.enzyme_once.specs.DistinctLaws.{NoRangeTwice}
@@ -135,15 +133,15 @@ unless_append : (s : List ℕ) (t : Terms) (xs ys : List Range) (a : After) → 
 unless_append s t xs ys a = go a.step
   where
     go : (x : Step) → unless_full (unless_full (after x a.bytes) (offers s t untold xs)) (offers s t untold ys) ≡ unless_full (after x a.bytes) (offers s t untold (xs ++ ys))
-    go (Kept k) = sym (offers_append s t untold xs ys k a.bytes)
-    go Full = refl
+    go (Some k) = sym (offers_append s t untold xs ys k a.bytes)
+    go None = refl
 
 unless_none : (s : List ℕ) (t : Terms) (a : After) → a ≡ unless_full a (offers s t untold [])
 unless_none s t a = go a.step
   where
     go : (x : Step) → after x a.bytes ≡ unless_full (after x a.bytes) (offers s t untold [])
-    go (Kept k) = refl
-    go Full = refl
+    go (Some k) = refl
+    go None = refl
 
 module _ {s f : List ℕ} {t : Terms} {run : Run} {out marks : List ℕ} where
   pub offers-none : Offers s f t [] run out marks run out marks

@@ -7,7 +7,7 @@ ghost use Rattle.enzyme_sites.specs.Starts.{Starts};
 
 use crate::windows::list_windows;
 use enzyme_cuts::Knife;
-use enzyme_keep::{Step, Terms};
+use enzyme_keep::Terms;
 
 // Lists the windows of m sites, with tables of three sizes.
 fn few_sites(
@@ -19,7 +19,7 @@ fn few_sites(
     starts: &[u32],
     m: usize,
     seen: &mut [u8],
-) -> Step
+) -> Option<usize>
     requires { (length letters.now ≤ 65536) × (missed ≤ 16) × Starts knife letters.now starts.now m × (m ≤ 1024) }
     ensures { DigestsListed letters.now terms (each_once knife false missed letters.now) out.old result out.new }
 {
@@ -43,7 +43,7 @@ fn some_sites(
     starts: &[u32],
     m: usize,
     seen: &mut [u8],
-) -> Step
+) -> Option<usize>
     requires { (length letters.now ≤ 65536) × (missed ≤ 16) × Starts knife letters.now starts.now m × (m ≤ 8192) }
     ensures { DigestsListed letters.now terms (each_once knife false missed letters.now) out.old result out.new }
 {
@@ -67,7 +67,7 @@ fn many_sites(
     starts: &[u32],
     m: usize,
     seen: &mut [u8],
-) -> Step
+) -> Option<usize>
     requires { (length letters.now ≤ 65536) × (missed ≤ 16) × Starts knife letters.now starts.now m × (m ≤ 65536) }
     ensures { DigestsListed letters.now terms (each_once knife false missed letters.now) out.old result out.new }
 {
@@ -94,7 +94,7 @@ fn sites_within(
     starts: &[u32],
     m: usize,
     seen: &mut [u8],
-) -> Step
+) -> Option<usize>
     requires { (length letters.now ≤ 65536) × (missed ≤ 16) × Starts knife letters.now starts.now m × (m ≤ 65536) × (1 ≤ room) × (room ≤ 524288) }
     ensures { DigestsListed letters.now terms (each_once knife false missed letters.now) out.old result out.new }
 {
@@ -129,7 +129,7 @@ fn windows_over(
     out: &mut [u8],
     starts: &mut [u32],
     seen: &mut [u8],
-) -> Step
+) -> Option<usize>
     requires { (length letters.now ≤ 65536) × (missed ≤ 16) × (length letters.now < length starts.old) }
     ensures { DigestsListed letters.now terms (each_once knife false missed letters.now) out.old result out.new }
 {
@@ -138,7 +138,7 @@ fn windows_over(
 }
 
 // The same with tables of three sizes.
-pub fn windows_small(letters: &[u8], knife: Knife, missed: u8, terms: Terms, out: &mut [u8]) -> Step
+pub fn windows_small(letters: &[u8], knife: Knife, missed: u8, terms: Terms, out: &mut [u8]) -> Option<usize>
     requires { (length letters.now ≤ 1024) × (missed ≤ 16) }
     ensures { DigestsListed letters.now terms (each_once knife false missed letters.now) out.old result out.new }
 {
@@ -153,7 +153,7 @@ pub fn windows_middle(
     missed: u8,
     terms: Terms,
     out: &mut [u8],
-) -> Step
+) -> Option<usize>
     requires { (length letters.now ≤ 8192) × (missed ≤ 16) }
     ensures { DigestsListed letters.now terms (each_once knife false missed letters.now) out.old result out.new }
 {
@@ -162,7 +162,7 @@ pub fn windows_middle(
     windows_over(letters, knife, missed, terms, out, &mut starts, &mut seen)
 }
 
-pub fn windows_large(letters: &[u8], knife: Knife, missed: u8, terms: Terms, out: &mut [u8]) -> Step
+pub fn windows_large(letters: &[u8], knife: Knife, missed: u8, terms: Terms, out: &mut [u8]) -> Option<usize>
     requires { (length letters.now ≤ 65536) × (missed ≤ 16) }
     ensures { DigestsListed letters.now terms (each_once knife false missed letters.now) out.old result out.new }
 {

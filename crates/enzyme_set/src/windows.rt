@@ -10,7 +10,7 @@ ghost use Rattle.enzyme_levels.specs.Levels.{LevelRanked};
 ghost use Rattle.enzyme_picks.specs.Picks.{sizes_put};
 
 use enzyme_cuts::Knife;
-use enzyme_keep::{Step, Terms};
+use enzyme_keep::Terms;
 
 fn wide(x: u8) -> usize
     ensures { result ≡ x }
@@ -33,7 +33,7 @@ fn list_levels(
     missed: u8,
     terms: Terms,
     out: &mut [u8],
-) -> Step
+) -> Option<usize>
     requires { (length letters.now ≤ 65536) × (missed ≤ 16) × LevelRanked (pieces knife letters.now) letters.now starts.now order.old other.old name.now rank.old share.old 1 first m × (m ≤ length order.old) × (m ≤ length other.old) × (m ≤ length rank.old) × (m ≤ length share.old) }
     ensures { after result out.new ≡ sizes_put (length letters.now) terms.protein starts.now (λ (y i : ℕ). class_weight (pieces knife letters.now) (suc y) i) terms.minimum terms.maximum m 0 (suc missed) 0 out.old }
 {
@@ -42,11 +42,9 @@ fn list_levels(
     let mut over = 0u8;
     let mut k = 0;
     while over < missed {
-        let Step::Kept(x) = enzyme_picks::list_size(
+        let x = enzyme_picks::list_size(
             starts, order, other, rank, share, g, m, over, n, terms, out, k,
-        ) else {
-            return Step::Full;
-        };
+        )?;
         k = x;
         over += 1;
         let sites = wide(over);
@@ -75,7 +73,7 @@ pub(crate) fn list_windows(
     rank: &mut [u16],
     share: &mut [u8],
     seen: &mut [u8],
-) -> Step
+) -> Option<usize>
     requires { (length letters.now ≤ 65536) × (missed ≤ 16) × Starts knife letters.now starts.now m × (m ≤ length order.old) × (m ≤ length other.old) × (m ≤ length name.old) × (m ≤ length rank.old) × (m ≤ length share.old) }
     ensures { DigestsListed letters.now terms (each_once knife false missed letters.now) out.old result out.new }
 {

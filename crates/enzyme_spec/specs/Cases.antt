@@ -1,10 +1,8 @@
 -- Document 01, "Examples": P1, P3, P4, P5 and further cases, proved of the definitions. A case is the answer's numbers and then
 -- each lent slice.
-use Rattle.std.specs.Prelude.{ℕ, refl, Bool, true, false, take, replicate}
+use Rattle.std.specs.Prelude.{ℕ, refl, Bool, true, false, take, replicate, Ok, Err}
 use mathlib.Core.List.{List, [], ◌∷◌, ◌++◌, flatten}
 use Rattle.records.specs.Refusals.{number_of, place_of}
-use Rattle.records.specs.declared.refusal.Tested.{Tested}
-use Rattle.records.specs.declared.refusal.Tested.TheVariants.{Passed, Refused as RefusedBy}
 use Rattle.records.specs.Le.{le, number_at}
 use Rattle.records.specs.Outcome.{Outcome}
 use Rattle.records.specs.Cases.{Case, Hold, answered, refused_as, told}
@@ -21,6 +19,7 @@ use Rattle.enzyme_keep.specs.Digests.{position_of, record_of}
 use Rattle.enzyme_spec.specs.declared.settings.Settings.{Settings}
 use Rattle.enzyme_spec.specs.Digestion.{digest_outcome}
 use Rattle.enzyme_spec.specs.Reversal.{reverse_outcome, reverse_record_outcome, letters_outcome}
+use Rattle.records.specs.Answers.{Passed, Tested}
 
 set : ℕ → LetterSet
 set mask = record { mask = mask }
@@ -111,8 +110,8 @@ told_tested : Outcome Tested → List (List ℕ)
 told_tested o = go o.answer ∷ o.lent
   where
     go : Tested → List ℕ
-    go Passed = passed
-    go (RefusedBy why) = refused_as (number_of why) (place_of why)
+    go (Ok _) = passed
+    go (Err why) = refused_as (number_of why) (place_of why)
 
 reversing : List ℕ → List ℕ → List ℕ → Case
 reversing letters answer after = record { got = told_tested (reverse_outcome letters); want = answer ∷ after ∷ [] }

@@ -5,7 +5,7 @@ ghost use Rattle.enzyme_spec.specs.Digestion.{too_large, in_alphabet, cleave_of,
 use enzyme_cuts::{Enzyme, Kind};
 use enzyme_spec::Settings;
 use letters::LetterSet;
-use records::{Refusal, Tested};
+use records::Refusal;
 
 fn too_large(letters: &[u8], settings: Settings) -> bool
     ensures { result ≡ too_large letters.now settings }
@@ -42,18 +42,18 @@ fn bad_sets(enzyme: Enzyme, alphabet: LetterSet) -> bool
 }
 
 // The first refusal that applies before the digests are written.
-pub fn tested(letters: &[u8], alphabet: LetterSet, enzyme: Enzyme, settings: Settings) -> Tested
+pub fn tested(letters: &[u8], alphabet: LetterSet, enzyme: Enzyme, settings: Settings) -> Result<(), Refusal>
     ensures { result ≡ tested letters.now alphabet enzyme settings }
 {
     if too_large(letters, settings) {
-        return Tested::Refused(Refusal::Size);
+        return Err(Refusal::Size);
     }
     if bad_sets(enzyme, alphabet) {
-        return Tested::Refused(Refusal::Alphabet);
+        return Err(Refusal::Alphabet);
     }
     let bad = letters::first_bad(letters);
     if bad < letters.len() {
-        return Tested::Refused(Refusal::Letter(bad));
+        return Err(Refusal::Letter(bad));
     }
-    Tested::Passed
+    Ok(())
 }

@@ -5,10 +5,10 @@ use Rattle.enzyme_cuts.specs.declared.kinds.Kind.{Kind}
 use Rattle.enzyme_cuts.specs.declared.kinds.Kind.TheVariants.{None, End, Set}
 use Rattle.enzyme_cuts.specs.declared.kinds.Enzyme.{Enzyme}
 use Rattle.enzyme_cuts.specs.Cutting.{Range, site, knife, none_sites, meant}
-use Rattle.enzyme_keep.specs.declared.offering.Step.{Step}
 use Rattle.enzyme_keep.specs.declared.offering.Terms.{Terms}
 use Rattle.enzyme_tables.specs.Listed.{DigestsListed}
 use Rattle.enzyme_once.specs.Once.{each_once}
+use Rattle.enzyme_keep.specs.Steps.{Step}
 
 -- all of "none", the whole protein of "end", or each different range of a set once: in none of them a range stands twice
 abbrev pub way_of : Kind → Enzyme → ℕ → ℕ → ℕ → List ℕ → List Range

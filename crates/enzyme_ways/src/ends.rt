@@ -3,9 +3,9 @@ ghost use Rattle.std.specs.Prelude.{[], ◌∷◌, ◌≤◌, length};
 ghost use Rattle.enzyme_cuts.specs.Cutting.{site};
 ghost use Rattle.enzyme_tables.specs.Listed.{DigestsListed};
 
-use enzyme_keep::{Step, Terms};
+use enzyme_keep::Terms;
 
-pub(crate) fn offer_end(letters: &[u8], terms: Terms, out: &mut [u8]) -> Step
+pub(crate) fn offer_end(letters: &[u8], terms: Terms, out: &mut [u8]) -> Option<usize>
     requires { length letters.now ≤ 65536 }
     ensures { DigestsListed letters.now terms (site 0 (length letters.now) ∷ []) out.old result out.new }
 {

@@ -5,7 +5,7 @@ ghost use Rattle.enzyme_ways.specs.Ways.{DigestsRead};
 
 use crate::ways::offer_all;
 use enzyme_cuts::Enzyme;
-use enzyme_keep::{Step, Terms};
+use enzyme_keep::Terms;
 
 // Copies letters as capitals to the front of a table.
 fn copy_raised(letters: &[u8], table: &mut [u8])
@@ -27,7 +27,7 @@ fn offer_over(
     terms: Terms,
     out: &mut [u8],
     table: &mut [u8],
-) -> Step
+) -> Option<usize>
     requires { (length letters.now ≤ 65536) × (missed ≤ 16) × (terms.maximum ≤ 65536) × (length letters.now ≤ length table.old) }
     ensures { DigestsRead letters.now enzyme missed terms out.old result out.new }
 {
@@ -37,7 +37,7 @@ fn offer_over(
 }
 
 // The same with tables of three sizes.
-fn raised_small(letters: &[u8], enzyme: Enzyme, missed: u8, terms: Terms, out: &mut [u8]) -> Step
+fn raised_small(letters: &[u8], enzyme: Enzyme, missed: u8, terms: Terms, out: &mut [u8]) -> Option<usize>
     requires { (length letters.now ≤ 1024) × (missed ≤ 16) × (terms.maximum ≤ 65536) }
     ensures { DigestsRead letters.now enzyme missed terms out.old result out.new }
 {
@@ -45,7 +45,7 @@ fn raised_small(letters: &[u8], enzyme: Enzyme, missed: u8, terms: Terms, out: &
     offer_over(letters, enzyme, missed, terms, out, &mut table)
 }
 
-fn raised_middle(letters: &[u8], enzyme: Enzyme, missed: u8, terms: Terms, out: &mut [u8]) -> Step
+fn raised_middle(letters: &[u8], enzyme: Enzyme, missed: u8, terms: Terms, out: &mut [u8]) -> Option<usize>
     requires { (length letters.now ≤ 8192) × (missed ≤ 16) × (terms.maximum ≤ 65536) }
     ensures { DigestsRead letters.now enzyme missed terms out.old result out.new }
 {
@@ -53,7 +53,7 @@ fn raised_middle(letters: &[u8], enzyme: Enzyme, missed: u8, terms: Terms, out: 
     offer_over(letters, enzyme, missed, terms, out, &mut table)
 }
 
-fn raised_large(letters: &[u8], enzyme: Enzyme, missed: u8, terms: Terms, out: &mut [u8]) -> Step
+fn raised_large(letters: &[u8], enzyme: Enzyme, missed: u8, terms: Terms, out: &mut [u8]) -> Option<usize>
     requires { (length letters.now ≤ 65536) × (missed ≤ 16) × (terms.maximum ≤ 65536) }
     ensures { DigestsRead letters.now enzyme missed terms out.old result out.new }
 {
@@ -70,7 +70,7 @@ fn offer_raised(
     missed: u8,
     terms: Terms,
     out: &mut [u8],
-) -> Step
+) -> Option<usize>
     requires { (length letters.now ≤ 65536) × (missed ≤ 16) × (terms.maximum ≤ 65536) × (1 ≤ room) × (room ≤ 524288) }
     ensures { DigestsRead letters.now enzyme missed terms out.old result out.new }
 {
@@ -87,7 +87,7 @@ fn offer_raised(
 }
 
 // Writes what is kept of the sites of an enzyme in letters that are read as capitals.
-pub fn offer_read(letters: &[u8], enzyme: Enzyme, missed: u8, terms: Terms, out: &mut [u8]) -> Step
+pub fn offer_read(letters: &[u8], enzyme: Enzyme, missed: u8, terms: Terms, out: &mut [u8]) -> Option<usize>
     requires { (length letters.now ≤ 65536) × (missed ≤ 16) × (terms.maximum ≤ 65536) }
     ensures { DigestsRead letters.now enzyme missed terms out.old result out.new }
 {

@@ -6,7 +6,7 @@ ghost use Rattle.enzyme_ways.specs.Ways.{everywhere, way};
 
 use crate::ends::offer_end;
 use enzyme_cuts::{Enzyme, Kind, Knife};
-use enzyme_keep::{Step, Terms};
+use enzyme_keep::Terms;
 use letters::LetterSet;
 
 // The enzyme that cuts everywhere.
@@ -41,7 +41,7 @@ pub(crate) fn offer_all(
     missed: u8,
     terms: Terms,
     out: &mut [u8],
-) -> Step
+) -> Option<usize>
     requires { (length letters.now ≤ 65536) × (missed ≤ 16) × (terms.maximum ≤ 65536) }
     ensures { DigestsListed letters.now terms (way enzyme missed terms.minimum terms.maximum letters.now) out.old result out.new }
 {

@@ -1,9 +1,7 @@
 -- Document 02, [1]: "a line starting with `>` opens an entry, its name is what follows up to the first blank or line end, and the
 -- other lines up to the next such line are its letters."
-use Rattle.std.specs.Prelude.{ℕ, ◌+◌, ◌≡◌, Bool, cond, ◌&&◌, List, [], ◌∷◌, length, take, drop, ltb, leb, eqb}
+use Rattle.std.specs.Prelude.{ℕ, ◌+◌, ◌≡◌, Bool, cond, ◌&&◌, List, [], ◌∷◌, length, take, drop, ltb, leb, eqb, Err}
 use Rattle.records.specs.declared.refusal.Refusal.TheVariants.{Letter, Field, Room, Name, Stray}
-use Rattle.records.specs.declared.refusal.Tested.{Tested}
-use Rattle.records.specs.declared.refusal.Tested.TheVariants.{Passed, Refused as Bad}
 use Rattle.records.specs.Refusals.{number_of, place_of}
 use Rattle.records.specs.Outcome.{Outcome, outcome, unless_refused, only}
 use Rattle.records.specs.Room.{fits, fitted, singly}
@@ -13,6 +11,7 @@ use Rattle.fasta_lines.specs.declared.runs.Run.TheVariants.{Ends, Line, Word, Le
 use Rattle.fasta_lines.specs.Lines.{run_of, together, entry_length}
 use Rattle.fasta.specs.declared.entry.Read.{Read}
 use Rattle.fasta.specs.declared.entry.Read.TheVariants.{Found, Nothing, Long, Refused}
+use Rattle.records.specs.Answers.{Passed, Tested}
 
 -- ---- an entry: the bytes behind its `>`
 
@@ -47,8 +46,8 @@ good_letters e = run_of Letters (entry_lines e)
 abbrev pub entry_tested : ℕ → List ℕ → Tested
 entry_tested q e =
     cond (good_name (entry_name e))
-    (cond (ltb (good_letters e) (length (entry_lines e))) (Bad (Letter (q + 1 + run_of Line e + good_letters e))) Passed)
-    (Bad (Name (q + 1)))
+    (cond (ltb (good_letters e) (length (entry_lines e))) (Err (Letter (q + 1 + run_of Line e + good_letters e))) Passed)
+    (Err (Name (q + 1)))
 
 -- ---- what reading answers, and what the two buffers hold then
 

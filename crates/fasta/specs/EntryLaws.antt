@@ -1,5 +1,5 @@
 -- What the code of reading shows, in the words of the definitions. Assumes nothing.
-use Rattle.std.specs.Prelude.{ℕ, zero, suc, ◌+◌, ◌-◌, ◌≤◌, ◌<◌, ◌≡◌, refl, true, false, cond, ◌&&◌, List, [], ◌∷◌, ◌++◌, length, take, drop, get_or, set, replicate, ltb, leb, eqb}
+use Rattle.std.specs.Prelude.{ℕ, zero, suc, ◌+◌, ◌-◌, ◌≤◌, ◌<◌, ◌≡◌, refl, true, false, cond, ◌&&◌, List, [], ◌∷◌, ◌++◌, length, take, drop, get_or, set, replicate, ltb, leb, eqb, Err}
 use Rattle.std.proofs.Common.{sym, ap, ◌∙◌, ⊎_elim, arith, add-one, drop_of_length-le, length-append, drop-cons, drop-drop, lt-ltb, le-ltb, le-leb, leb-true, ltb-false, eq-eqb, ne_eqb}
 use Rattle.std.proofs.Math.Nat.{add-sub_cancel_left}
 use Rattle.std.proofs.lemmas.List.{length-map, length-replicate}
@@ -9,7 +9,6 @@ use Rattle.lists.specs.Tests.{below?, both}
 use Rattle.lists.specs.FrameLaws.{zeros_at}
 use Rattle.records.specs.declared.refusal.Refusal.{Refusal}
 use Rattle.records.specs.declared.refusal.Refusal.TheVariants.{Letter, Field, Room, Name, Stray}
-use Rattle.records.specs.declared.refusal.Tested.TheVariants.{Passed, Refused as Bad}
 use Rattle.records.specs.Outcome.{outcome}
 use Rattle.records.specs.Room.{fits, fitted, singly}
 use Rattle.records.specs.TestedLaws.{passed_first, passed-second}
@@ -23,6 +22,7 @@ use Rattle.fasta_lines.specs.Lines.{run_of, entry_length}
 use Rattle.fasta_lines.specs.LineLaws.{run-bound}
 use Rattle.fasta.specs.declared.entry.Read.TheVariants.{Found, Nothing, Long, Refused}
 use Rattle.fasta.specs.Entries.{entry_name, entry_lines, entry_letters, too_long, good_name, good_letters, entry_tested, given_outcome, entry_outcome, opened_outcome, read_outcome}
+use Rattle.records.specs.Answers.{Passed}
 
 -- ---- a text as a record
 
@@ -51,11 +51,11 @@ pub lines_part : (e : List ℕ) (h : ℕ) → h ≡ run_of Line e → take (leng
 lines_part e h p = rest_all h e ∙ ap (λ (z : ℕ). drop z e) p
 
 module _ (q : ℕ) (e : List ℕ) where
-  pub tested_12 : good_name (entry_name e) ≡ false → Bad (Name (q + 1)) ≡ entry_tested q e
+  pub tested_12 : good_name (entry_name e) ≡ false → Err (Name (q + 1)) ≡ entry_tested q e
   tested_12 b = rw b
 
   module _ (b : good_name (entry_name e) ≡ true) where
-    pub tested_2 : ltb (good_letters e) (length (entry_lines e)) ≡ true → (h k : ℕ) → h ≡ run_of Line e → k ≡ good_letters e → Bad (Letter (q + 1 + h + k)) ≡ entry_tested q e
+    pub tested_2 : ltb (good_letters e) (length (entry_lines e)) ≡ true → (h k : ℕ) → h ≡ run_of Line e → k ≡ good_letters e → Err (Letter (q + 1 + h + k)) ≡ entry_tested q e
     tested_2 t h k i j = rw (b, t) (cc)
 
     pub tested-passed : ltb (good_letters e) (length (entry_lines e)) ≡ false → Passed ≡ entry_tested q e
@@ -65,7 +65,7 @@ module _ (q : ℕ) (e : List ℕ) where
   module _ (p : entry_tested q e ≡ Passed) where
     tests : (good_name (entry_name e) ≡ true) × (ltb (good_letters e) (length (entry_lines e)) ≡ false)
     tests =
-        let n = passed-second (good_name (entry_name e)) (Name (q + 1)) (cond (ltb (good_letters e) (length (entry_lines e))) (Bad (Letter (q + 1 + run_of Line e + good_letters e))) Passed) p in
+        let n = passed-second (good_name (entry_name e)) (Name (q + 1)) (cond (ltb (good_letters e) (length (entry_lines e))) (Err (Letter (q + 1 + run_of Line e + good_letters e))) Passed) p in
         (n.0, (passed_first (ltb (good_letters e) (length (entry_lines e))) (Letter (q + 1 + run_of Line e + good_letters e)) Passed n.1).0)
 
     pub passed_good : good_name (entry_name e) ≡ true
@@ -112,7 +112,7 @@ module _ (q : ℕ) (e name letters : List ℕ) where
   pub entry_1 : too_long e ≡ true → outcome (Long q) (name ∷ letters ∷ []) ≡ entry_outcome q e name letters
   entry_1 h = rw h
 
-  pub entry-refused : too_long e ≡ false → (why : Refusal) → entry_tested q e ≡ Bad why → outcome (Refused why) (name ∷ letters ∷ []) ≡ entry_outcome q e name letters
+  pub entry-refused : too_long e ≡ false → (why : Refusal) → entry_tested q e ≡ Err why → outcome (Refused why) (name ∷ letters ∷ []) ≡ entry_outcome q e name letters
   entry-refused h why p = rw (h, p)
 
   pub entry_given : too_long e ≡ false → entry_tested q e ≡ Passed → given_outcome q e name letters ≡ entry_outcome q e name letters

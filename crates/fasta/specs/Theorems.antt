@@ -1,7 +1,7 @@
 -- What an entry that was found is: it lies behind the place read at and within the file, its name is a name of a catalogue, and its
 -- letters are letters. And a file may be read in pieces. Assumes nothing.
 use Prim.Native.Nat.{ℕ, suc, ◌+◌, ◌-◌, ◌≤◌, ◌<◌}
-use Rattle.std.specs.Prelude.{◌≡◌, refl, Bool, true, cond, ◌&&◌, ◌||◌, List, [], ◌∷◌, take, drop, get_or, ltb, leb, eqb}
+use Rattle.std.specs.Prelude.{◌≡◌, refl, Bool, true, cond, ◌&&◌, ◌||◌, List, [], ◌∷◌, take, drop, get_or, ltb, leb, eqb, Ok, Err}
 use Rattle.std.proofs.Common.{sym, ap, subst, ◌∙◌, arith, length-take, length-drop, take_at, take_all, ltb-true, ltb-false, lt-ltb, le-ltb, leb-true, eqb-true}
 use Rattle.std.proofs.Math.Bool.{false}
 use Rattle.std.proofs.Math.Logic.{⊎_elim}
@@ -12,8 +12,6 @@ use Rattle.lists.specs.Lists.{All}
 use Rattle.lists.specs.Tests.{below?, both, clash}
 use Rattle.records.specs.declared.refusal.Refusal.{Refusal}
 use Rattle.records.specs.declared.refusal.Refusal.TheVariants.{Field, Room, Stray}
-use Rattle.records.specs.declared.refusal.Tested.{Tested}
-use Rattle.records.specs.declared.refusal.Tested.TheVariants.{Passed, Refused as Bad}
 use Rattle.records.specs.Outcome.{Outcome, outcome, unless_refused}
 use Rattle.records.specs.Room.{fits, fitted, singly}
 use Rattle.records.specs.RoomLaws.{stored-text, fits-text, stored_one, full_one}
@@ -30,6 +28,7 @@ use Rattle.fasta.specs.declared.entry.Read.{Read}
 use Rattle.fasta.specs.declared.entry.Read.TheVariants.{Found, Nothing, Long, Refused}
 use Rattle.fasta.specs.Entries.{entry_name, entry_lines, entry_letters, too_long, good_name, entry_tested, given_outcome, entry_outcome, opened_outcome, file_outcome, read_outcome}
 use Rattle.fasta.specs.EntryLaws.{length-padded, padded-at, passed_good, passed_name, passed-letters}
+use Rattle.records.specs.Answers.{Passed, Tested}
 
 -- ---- an entry that was found is no other answer
 
@@ -65,8 +64,8 @@ module _ (f : Entry) (k : List (List ℕ)) (n l : List ℕ) where
           → outcome (Found f) k ≡ cond t (outcome (Long q) (n ∷ l ∷ [])) (unless_refused u Refused (n ∷ l ∷ []) (given_outcome q e n l))
           → (too_long e ≡ false) × (entry_tested q e ≡ Passed) × (outcome (Found f) k ≡ given_outcome q e n l)
       go true u a b g = not_long f q (answered g)
-      go false (Bad why) a b g = not-refused f why (answered g)
-      go false Passed a b g = (a, b, g)
+      go false (Err why) a b g = not-refused f why (answered g)
+      go false (Ok _) a b g = (a, b, g)
 
   opened_passed : (q : ℕ) (s : List ℕ) → outcome (Found f) k ≡ opened_outcome q s n l
       → (e : List ℕ) × (suc (length e) ≤ length s) × (too_long e ≡ false) × (entry_tested q e ≡ Passed) × (outcome (Found f) k ≡ given_outcome q e n l)

@@ -3,27 +3,27 @@ ghost use Rattle.std.specs.Prelude.{◌≡◌, [], ◌∷◌, ◌+◌, ◌<◌, 
 ghost use Rattle.records.specs.Outcome.{outcome};
 ghost use Rattle.fasta_lines.specs.Lines.{run_of};
 ghost use Rattle.fasta_lines.specs.declared.runs.Run.TheVariants.{Line, Word};
-ghost use Rattle.records.specs.declared.refusal.Tested.TheVariants.{Passed};
+ghost use Rattle.records.specs.Answers.{Passed};
 ghost use Rattle.fasta.specs.Entries.{entry_letters, entry_tested, given_outcome, entry_outcome, read_outcome};
 
 use crate::entry::{Entry, Read};
 use crate::naming::{is_good_name, put_name};
 use fasta_lines::{Run, entry_len, has_bad, is_too_long, put_letters, run_len};
-use records::{Refusal, Tested};
+use records::Refusal;
 
 // What is wrong with an entry, whose `>` stands at q, whose first line has `head` bytes and whose name `word`: 12, then 2.
-fn entry_tested(e: &[u8], q: usize, head: usize, word: usize) -> Tested
+fn entry_tested(e: &[u8], q: usize, head: usize, word: usize) -> Result<(), Refusal>
     requires { (head ≡ run_of Line e.now) × (head ≤ length e.now) × (word ≡ run_of Word e.now) × (word ≤ length e.now) × (q + 1 + length e.now < 2 ^ 64) }
     ensures { result ≡ entry_tested q e.now }
 {
     if is_good_name(&e[..word]) {
         if has_bad(&e[head..]) {
             let good = run_len(Run::Letters, &e[head..]);
-            return Tested::Refused(Refusal::Letter(q + 1 + head + good));
+            return Err(Refusal::Letter(q + 1 + head + good));
         }
-        return Tested::Passed;
+        return Ok(());
     }
-    Tested::Refused(Refusal::Name(q + 1))
+    Err(Refusal::Name(q + 1))
 }
 
 // Hands out an entry that passed: 11 if either buffer is short.
@@ -57,8 +57,8 @@ fn read_behind(e: &[u8], q: usize, name: &mut [u8], letters: &mut [u8]) -> Read
     }
     let word = run_len(Run::Word, e);
     match entry_tested(e, q, head, word) {
-        Tested::Passed => give(e, q, head, word, name, letters),
-        Tested::Refused(why) => Read::Refused(why),
+        Ok(()) => give(e, q, head, word, name, letters),
+        Err(why) => Read::Refused(why),
     }
 }
 

@@ -5,7 +5,7 @@ use fasta::{Read, read_entry};
 use fasta_listing_names::{Reading, Step, is_named, name, name_table, read_names, say, too_large};
 use fasta_listing_windows::{Found, Window, buffer, next_piece};
 use letters::LetterSet;
-use records::{Counted, Refusal};
+use records::Refusal;
 use std::fs;
 use std::io::Read as ReadBytes;
 use std::rt::Files;
@@ -45,8 +45,8 @@ fn list_entry(
     let enzyme = request.enzyme;
     let settings = request.settings;
     match enzyme::digest(letters, LetterSet::ALL, enzyme, settings, number, out) {
-        Counted::Refused(why) => refuse(rt, entry, why),
-        Counted::Count(count) => {
+        Err(why) => refuse(rt, entry, why),
+        Ok(count) => {
             print!(rt; ">")?;
             name(rt, entry)?;
             println!(rt)?;

@@ -15,7 +15,7 @@ mod listing;
 
 use fasta_listing_names::say;
 use letters::LetterSet;
-use records::Tested;
+use records::;
 use std::env::FillError;
 use std::rt::{Env, Files};
 use text_digests::Request;
@@ -73,8 +73,8 @@ fn run<R: Env + Files + Print + Eprint>(rt: &R, line: &[u8]) -> std::io::Result<
     let request = text_digests::read_request(line);
     let none = [0u8; 0];
     match enzyme::tested(&none, LetterSet::ALL, request.enzyme, request.settings) {
-        Tested::Passed => list_arguments(rt, request),
-        Tested::Refused(why) => text_digests::refusal(rt, why),
+        Ok(()) => list_arguments(rt, request),
+        Err(why) => text_digests::refusal(rt, why),
     }
 }
 

@@ -6,7 +6,7 @@ use crate::steps::Step;
 use crate::tables::{place_at, place_table, put_place};
 use fasta::{Read, read_entry};
 use fasta_listing_windows::{Found, Window, next_piece, sum};
-use records::{Refusal, Tested};
+use records::Refusal;
 use std::io::Read as ReadBytes;
 use std::rt::Files;
 use std::{fs, io};
@@ -127,8 +127,8 @@ fn refuse(rt: &impl Print, names: &[u8], places: &[u64], why: Refusal) -> io::Re
 fn tested(rt: &impl Print, names: &[u8], count: u32, places: &[u64]) -> io::Result<Reading> {
     let n = up_to(64 * count as usize, names);
     match catalogue::names_tested(&names[..n]) {
-        Tested::Passed => Ok(Reading::Names(count)),
-        Tested::Refused(why) => {
+        Ok(()) => Ok(Reading::Names(count)),
+        Err(why) => {
             refuse(rt, names, places, why)?;
             Ok(Reading::Refused)
         }

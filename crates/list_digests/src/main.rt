@@ -15,7 +15,7 @@ mod text;
 ghost use Rattle.std.specs.Prelude.{◌≡◌, length};
 
 use letters::LetterSet;
-use records::{Counted, Refusal};
+use records::Refusal;
 use std::io;
 
 fn input() -> [u8; 131072]
@@ -58,8 +58,8 @@ fn list(rt: &impl Print, letters: &[u8], line: &[u8], out: &mut [u8]) -> io::Res
         out,
     );
     match answer {
-        Counted::Count(count) => text_digests::print_all(rt, out, count),
-        Counted::Refused(why) => refuse(rt, why),
+        Ok(count) => text_digests::print_all(rt, out, count),
+        Err(why) => refuse(rt, why),
     }
 }
 

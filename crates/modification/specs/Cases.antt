@@ -1,6 +1,6 @@
 -- Worked cases of rule texts and of reading a record of a list of rules, proved of the definitions: refusal 0 is none, and then come
 -- kind and letter, of a record also id and limit.
-use Rattle.std.specs.Prelude.{ℕ, refl, replicate}
+use Rattle.std.specs.Prelude.{ℕ, refl, replicate, Ok, Err}
 use mathlib.Core.List.{List, [], ◌∷◌, ◌++◌, flatten}
 use Rattle.records.specs.Cases.{Case, Hold, refused_as}
 use Rattle.records.specs.CaseLaws.{joined}
@@ -8,11 +8,9 @@ use Rattle.records.specs.Search.{seek}
 use Rattle.records.specs.Le.{number_at}
 use Rattle.records.specs.Refusals.{number_of, place_of}
 use Rattle.letters.specs.Letters.{is_capital, capital, is_letter, bit_set, has}
-use Rattle.modification_rules.specs.declared.rule.Read.{Read}
 use Rattle.modification_kinds.specs.Specificities.{kind_of, letter_of}
-use Rattle.modification_texts.specs.declared.text.Parsed.{Parsed}
-use Rattle.modification_texts.specs.Texts.{first_wide, parsed, text_of}
-use Rattle.modification_rules.specs.Rules.{good_rule, read_rule}
+use Rattle.modification_texts.specs.Texts.{Parsed, first_wide, parsed, text_of}
+use Rattle.modification_rules.specs.Rules.{Read, good_rule, read_rule}
 
 -- M with id 1, at most twice
 on_m : List ℕ
@@ -23,8 +21,8 @@ bare : List ℕ
 bare = 0 ∷ 0 ∷ 1 ∷ 0 ∷ 2 ∷ 0 ∷ 0 ∷ 0 ∷ []
 
 said : Read → List ℕ
-said (Read.Rule q) = 0 ∷ 0 ∷ kind_of q.on ∷ letter_of q.on ∷ q.id ∷ q.limit ∷ []
-said (Read.Refused why) = refused_as (number_of why) (place_of why)
+said (Ok q) = 0 ∷ 0 ∷ kind_of q.on ∷ letter_of q.on ∷ q.id ∷ q.limit ∷ []
+said (Err why) = refused_as (number_of why) (place_of why)
 
 reading : List ℕ → ℕ → List ℕ → Case
 reading rules r want = record { got = said (read_rule rules r) ∷ []; want = want ∷ [] }
@@ -33,8 +31,8 @@ reading rules r want = record { got = said (read_rule rules r) ∷ []; want = wa
 
 -- the kind and the letter, and the text that is written back
 told : Parsed → List (List ℕ)
-told (Parsed.Rule s) = (0 ∷ 0 ∷ kind_of s ∷ letter_of s ∷ []) ∷ text_of s ∷ []
-told (Parsed.Refused why) = refused_as (number_of why) (place_of why) ∷ []
+told (Ok s) = (0 ∷ 0 ∷ kind_of s ∷ letter_of s ∷ []) ∷ text_of s ∷ []
+told (Err why) = refused_as (number_of why) (place_of why) ∷ []
 
 parsing : ℕ → List ℕ → List (List ℕ) → Case
 parsing mask text want = record { got = told (parsed text (record { mask = mask })); want = want }

@@ -1,16 +1,19 @@
 -- Document 01, the rule record, 8 bytes: "kind u8, letter u8, id u8 (not 0), zero, limit u32 (all ones: no limit; always so
 -- in a fixed rule)".
-use Rattle.std.specs.Prelude.{ℕ, ◌+◌, ◌*◌, ◌/◌, ◌%◌, Bool, true, false, cond, not, ◌&&◌, ◌||◌, List, [], ◌∷◌, length, get_or, ltb, eqb}
+use Rattle.std.specs.Prelude.{ℕ, ◌+◌, ◌*◌, ◌/◌, ◌%◌, Bool, true, false, cond, not, ◌&&◌, ◌||◌, List, [], ◌∷◌, length, get_or, ltb, eqb, Result, Ok, Err}
 use Rattle.records.specs.declared.refusal.Refusal.TheVariants.{Size, Length, Field, Room}
-use Rattle.records.specs.declared.refusal.Tested.{Tested}
 use Rattle.records.specs.Le.{le, number_at}
 use Rattle.records.specs.Tested.{and_then, field_tested}
 use Rattle.records.specs.Search.{seek}
 use Rattle.records.specs.Outcome.{Outcome, outcome}
 use Rattle.records.specs.Room.{fits, fitted}
 use Rattle.modification_rules.specs.declared.rule.Rule.{Rule}
-use Rattle.modification_rules.specs.declared.rule.Read.{Read}
 use Rattle.modification_kinds.specs.Specificities.{kind_of, letter_of, specificity, sound}
+use Rattle.records.specs.Answers.{Passed, Tested}
+
+-- what it answers, or why not
+abbrev pub Read : Type 0
+Read = Result Rule Refusal
 
 abbrev pub no_limit : ℕ
 no_limit = 4294967295
@@ -47,22 +50,22 @@ most_rules fixed = cond fixed 32 16
 -- 1: more than 16 variable rules or 32 fixed ones; 8: no whole records
 abbrev pub tested_length : Bool → List ℕ → Tested
 tested_length fixed rules =
-    cond (ltb (most_rules fixed) (length rules / 8)) (Tested.Refused Size)
-    (cond (eqb (length rules % 8) 0) Tested.Passed (Tested.Refused Length))
+    cond (ltb (most_rules fixed) (length rules / 8)) (Err Size)
+    (cond (eqb (length rules % 8) 0) Passed (Err Length))
 
 -- then 9: the first that is no rule
 unfoldable pub tested_rules : Bool → List ℕ → Tested
 tested_rules fixed rules = and_then (tested_length fixed rules) (field_tested (first_bad_rule fixed rules) (length rules / 8))
 
 abbrev pub read_or : Tested → Read → Read
-read_or Tested.Passed found = found
-read_or (Tested.Refused why) found = Read.Refused why
+read_or (Ok _) found = found
+read_or (Err why) found = Err why
 
 -- record r of a list of either kind, so of at most 32: 1, 8, then 9: it is no rule, or there is no such record
 unfoldable pub read_rule : List ℕ → ℕ → Read
 read_rule rules r =
     read_or (tested_length true rules)
-    (cond (ltb r (length rules / 8) && good_rule false rules r) (Read.Rule (rule_at rules r)) (Read.Refused (Field r)))
+    (cond (ltb r (length rules / 8) && good_rule false rules r) (Ok (rule_at rules r)) (Err (Field r)))
 
 -- a rule that a record may hold
 abbrev pub sound_rule : Rule → Bool
@@ -75,5 +78,5 @@ rule_bytes q = kind_of q.on ∷ letter_of q.on ∷ q.id ∷ 0 ∷ le 4 q.limit
 unfoldable pub write_rule_outcome : Rule → List ℕ → Outcome Tested
 write_rule_outcome q old =
     cond (sound_rule q)
-    (outcome (cond (fits 8 1 old (rule_bytes q ∷ [])) Tested.Passed (Tested.Refused Room)) (fitted 8 1 old (rule_bytes q ∷ []) ∷ []))
-    (outcome (Tested.Refused (Field 0)) (old ∷ []))
+    (outcome (cond (fits 8 1 old (rule_bytes q ∷ [])) Passed (Err Room)) (fitted 8 1 old (rule_bytes q ∷ []) ∷ []))
+    (outcome (Err (Field 0)) (old ∷ []))

@@ -6,19 +6,13 @@ ghost use Rattle.records.specs.Outcome.{outcome};
 ghost use Rattle.modification_rules.specs.Rules.{good_rule, rule_at, read_rule, first_bad_rule, most_rules, tested_length, tested_rules, write_rule_outcome};
 
 use modification_kinds::Specificity;
-use records::{Refusal, Tested};
+use records::Refusal;
 
 #[derive(Clone, Copy)]
 pub struct Rule {
     pub on: Specificity,
     pub id: u8,
     pub limit: u32,
-}
-
-#[derive(Clone, Copy)]
-pub enum Read {
-    Rule(Rule),
-    Refused(Refusal),
 }
 
 // Whether record r is a rule.
@@ -60,43 +54,39 @@ fn most_rules(fixed: bool) -> usize
 }
 
 // Whether a list has at most as many rules as it may, in whole records.
-fn test_length(rules: &[u8], fixed: bool) -> Tested
+fn test_length(rules: &[u8], fixed: bool) -> Result<(), Refusal>
     ensures { result ≡ tested_length fixed rules.now }
 {
     if most_rules(fixed) < rules.len() / 8 {
-        return Tested::Refused(Refusal::Size);
+        return Err(Refusal::Size);
     }
     if rules.len() % 8 == 0 {
-        Tested::Passed
+        Ok(())
     } else {
-        Tested::Refused(Refusal::Length)
+        Err(Refusal::Length)
     }
 }
 
 // Tests a list of variable rules, at most 16, or of fixed ones, at most 32.
-pub fn test_rules(rules: &[u8], fixed: bool) -> Tested
+pub fn test_rules(rules: &[u8], fixed: bool) -> Result<(), Refusal>
     ensures { result ≡ tested_rules fixed rules.now }
 {
-    if let Tested::Refused(why) = test_length(rules, fixed) {
-        return Tested::Refused(why);
-    }
+    test_length(rules, fixed)?;
     let bad = first_bad_rule(rules, fixed);
     records::field_tested(bad, rules.len() / 8)
 }
 
 // Reads record r of a list of variable or of fixed rules.
-pub fn read_rule(rules: &[u8], r: usize) -> Read
+pub fn read_rule(rules: &[u8], r: usize) -> Result<Rule, Refusal>
     ensures { result ≡ read_rule rules.now r }
 {
-    if let Tested::Refused(why) = test_length(rules, true) {
-        return Read::Refused(why);
-    }
+    test_length(rules, true)?;
     if r < rules.len() / 8 {
         if is_good(rules, r, false) {
-            return Read::Rule(rule_at(rules, r));
+            return Ok(rule_at(rules, r));
         }
     }
-    Read::Refused(Refusal::Field(r))
+    Err(Refusal::Field(r))
 }
 
 // What record r says.
@@ -127,7 +117,7 @@ fn put_rule(out: &mut [u8], kind: u8, letter: u8, id: u8, limit: u32)
 }
 
 // Writes a rule as a record.
-pub fn write_rule(rule: Rule, out: &mut [u8]) -> Tested
+pub fn write_rule(rule: Rule, out: &mut [u8]) -> Result<(), Refusal>
     ensures { outcome result (out.new ∷ []) ≡ write_rule_outcome rule out.old }
 {
     let on = rule.on;
@@ -136,10 +126,10 @@ pub fn write_rule(rule: Rule, out: &mut [u8]) -> Tested
     let id = rule.id;
     if modification_kinds::is_sound(kind, letter) & !(id == 0) {
         if out.len() < 8 {
-            return Tested::Refused(Refusal::Room);
+            return Err(Refusal::Room);
         }
         put_rule(out, kind, letter, id, rule.limit);
-        return Tested::Passed;
+        return Ok(());
     }
-    Tested::Refused(Refusal::Field(0))
+    Err(Refusal::Field(0))
 }

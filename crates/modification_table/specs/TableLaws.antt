@@ -1,5 +1,5 @@
 -- Floats that are no number, and what the tests of the table come to. Assumes nothing.
-use Rattle.std.specs.Prelude.{ℕ, ◌+◌, ◌*◌, ◌/◌, ◌≤◌, ◌<◌, ◌≡◌, refl, true, false, List, [], ◌∷◌, length, ltb, Float}
+use Rattle.std.specs.Prelude.{ℕ, ◌+◌, ◌*◌, ◌/◌, ◌≤◌, ◌<◌, ◌≡◌, refl, true, false, List, [], ◌∷◌, length, ltb, Float, Ok, Err}
 use Rattle.std.proofs.Common.{sym, ◌∙◌, true≢false, arith, ⊎_elim}
 use Rattle.std.proofs.lemmas.List.Edits.{sets}
 use Rattle.std.specs.Float.{nan, inf, fin, binary32}
@@ -9,10 +9,9 @@ use borrow.Author.Tests.{lt-ltb, le-ltb, le-leb, lt-leb, eq-eqb, ne_eqb}
 use Rattle.lists.specs.Tests.{below?}
 use Rattle.records.specs.declared.refusal.Refusal.{Refusal}
 use Rattle.records.specs.declared.refusal.Refusal.TheVariants.{Size, TableFull, Length, Room}
-use Rattle.records.specs.declared.refusal.Tested.{Tested}
 use Rattle.records.specs.Outcome.{outcome, only}
-use Rattle.modification_table.specs.declared.table.Entered.{Entered}
-use Rattle.modification_table.specs.Tables.{same_mass, first_equal, tested_table, entry_bytes, entered_outcome, insert_outcome}
+use Rattle.modification_table.specs.Tables.{Entered, same_mass, first_equal, tested_table, entry_bytes, entered_outcome, insert_outcome}
+use Rattle.records.specs.Answers.{Passed, Tested}
 
 nan_left : (x y : Float) → is_nan x ≡ true → eq x y ≡ false
 unfolding is_nan eq
@@ -47,33 +46,33 @@ same-zero = refl
 -- ---- the tests, one after the other
 
 module _ (table : List ℕ) (count : ℕ) where
-  pub table-tested-size : 255 < count → Tested.Refused Size ≡ tested_table table count
+  pub table-tested-size : 255 < count → Err Size ≡ tested_table table count
   unfolding tested_table
   table-tested-size h = rw (lt-ltb 255 count h)
 
   module _ (few : count ≤ 255) where
-    pub table-tested-length : length table / 8 < count → Tested.Refused Length ≡ tested_table table count
+    pub table-tested-length : length table / 8 < count → Err Length ≡ tested_table table count
     unfolding tested_table
     table-tested-length h = rw (le-ltb 255 count few, lt-ltb (length table / 8) count h)
 
-    pub table-tested-passed : count ≤ length table / 8 → Tested.Passed ≡ tested_table table count
+    pub table-tested-passed : count ≤ length table / 8 → Passed ≡ tested_table table count
     unfolding tested_table
     table-tested-passed h = rw (le-ltb 255 count few, le-ltb (length table / 8) count h)
 
   -- a table that passed its tests is small
-  pub passed_few : Tested.Passed ≡ tested_table table count → count ≤ 255
+  pub passed_few : Passed ≡ tested_table table count → count ≤ 255
   passed_few e = ⊎_elim large (λ (h : count ≤ 255). h) (below? 255 count)
     where
       large : 255 < count → count ≤ 255
       large h =
-          let f : Tested.Passed ≡ Tested.Refused Size = e ∙ sym (table-tested-size h) in
+          let f : Passed ≡ Err Size = e ∙ sym (table-tested-size h) in
           let z : ◌≡◌ {A = ℕ} 0 1 = cc in
           absurd (omega arith)
 
 -- ---- the entry, once tested
 
 module _ (table : List ℕ) (count mass name at : ℕ) (first : at ≡ first_equal table mass name count) where
-  pub entered_found : at < count → outcome (Entered.Id (at + 1)) (table ∷ []) ≡ entered_outcome table count mass name
+  pub entered_found : at < count → outcome (Ok (at + 1)) (table ∷ []) ≡ entered_outcome table count mass name
   unfolding entered_outcome
   entered_found h = rw (first, lt-ltb (first_equal table mass name count) count (rw first at h))
 
@@ -81,27 +80,27 @@ module _ (table : List ℕ) (count mass name at : ℕ) (first : at ≡ first_equ
     is_new : ltb (first_equal table mass name count) count ≡ false
     is_new = le-ltb (first_equal table mass name count) count (rw first at new)
 
-    pub entered_full : count ≡ 255 → outcome (Entered.Refused TableFull) (table ∷ []) ≡ entered_outcome table count mass name
+    pub entered_full : count ≡ 255 → outcome (Err TableFull) (table ∷ []) ≡ entered_outcome table count mass name
     unfolding entered_outcome
     entered_full h = rw (is_new, eq-eqb count 255 h)
 
     module _ (some : count ≡ 255 → ⊥) where
-      pub entered_room : length table / 8 ≤ count → outcome (Entered.Refused Room) (table ∷ []) ≡ entered_outcome table count mass name
+      pub entered_room : length table / 8 ≤ count → outcome (Err Room) (table ∷ []) ≡ entered_outcome table count mass name
       unfolding entered_outcome
       entered_room h = rw (is_new, ne_eqb count 255 some, le-leb (length table / 8) count h)
 
-      pub entered_new : count < length table / 8 → (out : List ℕ) → out ≡ sets table (count * 8) (entry_bytes mass name) → outcome (Entered.Id (count + 1)) (out ∷ []) ≡ entered_outcome table count mass name
+      pub entered_new : count < length table / 8 → (out : List ℕ) → out ≡ sets table (count * 8) (entry_bytes mass name) → outcome (Ok (count + 1)) (out ∷ []) ≡ entered_outcome table count mass name
       unfolding entered_outcome
       entered_new h out e = rw (e, is_new, ne_eqb count 255 some, lt-leb (length table / 8) count h)
 
 -- ---- the whole
 
 module _ (table : List ℕ) (count mass name : ℕ) where
-  pub insert-refused : (r : Refusal) → Tested.Refused r ≡ tested_table table count → outcome (Entered.Refused r) (table ∷ []) ≡ insert_outcome table count mass name
+  pub insert-refused : (r : Refusal) → Err r ≡ tested_table table count → outcome (Err r) (table ∷ []) ≡ insert_outcome table count mass name
   unfolding insert_outcome
   insert-refused r e = rw (← e)
 
-  pub insert-passed : Tested.Passed ≡ tested_table table count → entered_outcome table count mass name ≡ insert_outcome table count mass name
+  pub insert-passed : Passed ≡ tested_table table count → entered_outcome table count mass name ≡ insert_outcome table count mass name
   unfolding insert_outcome
   insert-passed e = rw (← e)
 

@@ -3,4 +3,4 @@
 
 mod table;
 
-pub use table::{Entered, insert};
+pub use table::{insert};

@@ -6,13 +6,7 @@ ghost use Rattle.std.specs.Float.Ieee.{nan_bits};
 ghost use Rattle.records.specs.Outcome.{outcome};
 ghost use Rattle.modification_table.specs.Tables.{same_mass, first_equal, tested_table, entry_bytes, entered_outcome, insert_outcome};
 
-use records::{Refusal, Tested};
-
-#[derive(Clone, Copy)]
-pub enum Entered {
-    Id(u32),
-    Refused(Refusal),
-}
+use records::Refusal;
 
 // A bit pattern of a not-a-number.
 fn is_nan(a: u32) -> bool
@@ -51,17 +45,17 @@ fn first_equal(table: &[u8], mass: u32, name: u32, count: usize) -> usize
 }
 
 // The tests before the table is searched.
-fn test_table(table: &[u8], count: u32) -> Tested
+fn test_table(table: &[u8], count: u32) -> Result<(), Refusal>
     ensures { result ≡ tested_table table.now count }
 {
     if 255 < count {
-        return Tested::Refused(Refusal::Size);
+        return Err(Refusal::Size);
     }
     let n = count as usize;
     if table.len() / 8 < n {
-        Tested::Refused(Refusal::Length)
+        Err(Refusal::Length)
     } else {
-        Tested::Passed
+        Ok(())
     }
 }
 
@@ -75,7 +69,7 @@ fn put_entry(table: &mut [u8], at: usize, mass: u32, name: u32)
 }
 
 // The id of the first equal record, or of a new one.
-fn enter(table: &mut [u8], count: u32, mass: u32, name: u32) -> Entered
+fn enter(table: &mut [u8], count: u32, mass: u32, name: u32) -> Result<u32, Refusal>
     requires { count ≤ 255 }
     ensures { outcome result (table.new ∷ []) ≡ entered_outcome table.old count mass name }
 {
@@ -83,24 +77,22 @@ fn enter(table: &mut [u8], count: u32, mass: u32, name: u32) -> Entered
     let at = first_equal(table, mass, name, n);
     if at < n {
         let id = at as u32;
-        return Entered::Id(id + 1);
+        return Ok(id + 1);
     }
     if n == 255 {
-        return Entered::Refused(Refusal::TableFull);
+        return Err(Refusal::TableFull);
     }
     if table.len() / 8 <= n {
-        return Entered::Refused(Refusal::Room);
+        return Err(Refusal::Room);
     }
     put_entry(table, n * 8, mass, name);
-    Entered::Id(count + 1)
+    Ok(count + 1)
 }
 
 // The id of a modification among the first count records of the table, to which it is appended where it is new.
-pub fn insert(table: &mut [u8], count: u32, mass: u32, name: u32) -> Entered
+pub fn insert(table: &mut [u8], count: u32, mass: u32, name: u32) -> Result<u32, Refusal>
     ensures { outcome result (table.new ∷ []) ≡ insert_outcome table.old count mass name }
 {
-    if let Tested::Refused(why) = test_table(table, count) {
-        return Entered::Refused(why);
-    }
+    test_table(table, count)?;
     enter(table, count, mass, name)
 }

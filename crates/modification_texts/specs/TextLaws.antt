@@ -1,6 +1,6 @@
 -- The two round trips of document 01 between rules and their texts, and what a stored text leaves. Assumes nothing.
 use Prim.Native.Nat.{ℕ, suc, ◌+◌, ◌≤◌, ◌<◌}
-use Rattle.std.specs.Prelude.{◌≡◌, Bool, cond, not, ◌&&◌, ◌||◌, ◌⊎◌, get_or, leb, ltb, eqb}
+use Rattle.std.specs.Prelude.{◌≡◌, Bool, cond, not, ◌&&◌, ◌||◌, ◌⊎◌, get_or, leb, ltb, eqb, Ok, Err}
 use Rattle.std.proofs.Math.Path.{refl, ap, subst}
 use Rattle.std.proofs.Common.{sym, ap₂, ◌∙◌, true≢false, inl, inr, ⊎_elim, arith}
 use Rattle.std.proofs.Math.Bool.{true, false}
@@ -23,18 +23,17 @@ use Rattle.records.specs.Outcome.{outcome, only}
 use Rattle.records.specs.RoomLaws.{stored-text, fits-text}
 use Rattle.modification_kinds.specs.declared.specificity.Specificity.{Specificity}
 use Rattle.modification_kinds.specs.declared.specificity.Specificity.TheVariants.{Residue, PeptideN, PeptideC, ProteinN, ProteinC}
-use Rattle.modification_texts.specs.declared.text.Parsed.{Parsed}
-use Rattle.records.specs.declared.refusal.Counted.{Counted}
 use Rattle.modification_kinds.specs.Specificities.{kind_of, letter_of, specificity, sound}
-use Rattle.modification_texts.specs.Texts.{first_wide, mark_of, mark_byte, letter_place, parsed_letter, parsed, text_of, write_outcome}
+use Rattle.modification_texts.specs.Texts.{Parsed, first_wide, mark_of, mark_byte, letter_place, parsed_letter, parsed, text_of, write_outcome}
+use Rattle.records.specs.Answers.{Counted}
 
 -- ---- a text of at most two bytes in a buffer
 
 module _ (t old out : List ℕ) (h : length t ≤ 2) (e : out ≡ sets old 0 t) where
-  pub text_short : length old < length t → outcome (Counted.Refused Room) (out ∷ []) ≡ counted 1 2 old (singly t)
+  pub text_short : length old < length t → outcome (Err Room) (out ∷ []) ≡ counted 1 2 old (singly t)
   text_short g = rw (e, stored-text 2 t old h, fits-text 2 t old h, lt-leb (length t) (length old) g)
 
-  pub text_long : length t ≤ length old → outcome (Counted.Count (length t)) (out ∷ []) ≡ counted 1 2 old (singly t)
+  pub text_long : length t ≤ length old → outcome (Ok (length t)) (out ∷ []) ≡ counted 1 2 old (singly t)
   text_long g = rw (e, stored-text 2 t old h, fits-text 2 t old h, le-leb (length t) (length old) g, length-map t (λ (b : ℕ). b ∷ []))
 
 -- ---- the text of a sound rule
@@ -126,21 +125,21 @@ sound-capital k b h l = go (is_capital b) refl (both (leb k 4) _ h).1
     go false p q = absurd (letter_some b l (eqb-true b 0 (both (eqb b 0) (not (eqb k 0)) q).0))
 
 module _ (alphabet : LetterSet) where
-  parse_letter_text : (b : ℕ) → is_capital b ≡ true → has alphabet b ≡ true → parsed (b ∷ []) alphabet ≡ Parsed.Rule (Residue b)
+  parse_letter_text : (b : ℕ) → is_capital b ≡ true → has alphabet b ≡ true → parsed (b ∷ []) alphabet ≡ Ok (Residue b)
   unfolding parsed first_wide seek
   parse_letter_text b c h = rw (letter_plain b c, letter_no_mark b c, h, capital-same b c)
 
   module _ (k m : ℕ) (x : Mark k m) where
-    parse_mark : parsed (m ∷ []) alphabet ≡ Parsed.Rule (specificity k 0)
+    parse_mark : parsed (m ∷ []) alphabet ≡ Ok (specificity k 0)
     unfolding parsed first_wide seek
     parse_mark = rw (x.plain, x.reads, x.behind)
 
-    parse_both : (b : ℕ) → is_capital b ≡ true → has alphabet b ≡ true → parsed (m ∷ b ∷ []) alphabet ≡ Parsed.Rule (specificity k b)
+    parse_both : (b : ℕ) → is_capital b ≡ true → has alphabet b ≡ true → parsed (m ∷ b ∷ []) alphabet ≡ Ok (specificity k b)
     unfolding parsed first_wide seek
     parse_both b c h = rw (x.plain, letter_plain b c, x.reads, x.behind, h, capital-same b c)
 
     -- the text of the mark with a letter or none
-    marked : (b : ℕ) → sound k b ≡ true → (b ≡ 0) ⊎ (has alphabet b ≡ true) → parsed (cond (eqb b 0) (m ∷ []) (m ∷ b ∷ [])) alphabet ≡ Parsed.Rule (specificity k b)
+    marked : (b : ℕ) → sound k b ≡ true → (b ≡ 0) ⊎ (has alphabet b ≡ true) → parsed (cond (eqb b 0) (m ∷ []) (m ∷ b ∷ [])) alphabet ≡ Ok (specificity k b)
     marked b s (inl e) = rw e parse_mark
     marked b s (inr h) =
         let l = has_letter alphabet b h in
@@ -152,7 +151,7 @@ no_letter b e h = true≢false (sym (subst (λ (x : ℕ). sound 0 x ≡ true) e 
 
 -- writing then reading gives kind and letter back, where the alphabet has the letter, if any
 pub write_then_parse : (s : Specificity) (alphabet : LetterSet) → sound (kind_of s) (letter_of s) ≡ true
-    → (letter_of s ≡ 0) ⊎ (has alphabet (letter_of s) ≡ true) → parsed (text_of s) alphabet ≡ Parsed.Rule s
+    → (letter_of s ≡ 0) ⊎ (has alphabet (letter_of s) ≡ true) → parsed (text_of s) alphabet ≡ Ok s
 write_then_parse (Residue b) alphabet h (inl e) = absurd (no_letter b e h)
 write_then_parse (Residue b) alphabet h (inr g) = parse_letter_text alphabet b (sound-capital 0 b h (has_letter alphabet b g)) g
 write_then_parse (PeptideN b) alphabet h way = marked alphabet 1 94 caret b h way
@@ -163,53 +162,53 @@ write_then_parse (ProteinC b) alphabet h way = marked alphabet 4 93 closing b h 
 -- ---- reading, then writing
 
 -- what a refusal is not
-refused_no_rule : (r : Refusal) (s : Specificity) → Parsed.Refused r ≡ Parsed.Rule s → ⊥
+refused_no_rule : (r : Refusal) (s : Specificity) → Err r ≡ Ok s → ⊥
 refused_no_rule r s e = let z : ◌≡◌ {A = ℕ} 0 1 = cc in omega arith
 
 module _ (alphabet : LetterSet) (s : Specificity) where
   -- a letter at its place was read
-  read_letter : (text : List ℕ) (k at : ℕ) → (eqb (length text) at ≡ false) → parsed_letter text k at alphabet ≡ Parsed.Rule s → (has alphabet (get_or text at 0) ≡ true) × (specificity k (capital (get_or text at 0)) ≡ s)
+  read_letter : (text : List ℕ) (k at : ℕ) → (eqb (length text) at ≡ false) → parsed_letter text k at alphabet ≡ Ok s → (has alphabet (get_or text at 0) ≡ true) × (specificity k (capital (get_or text at 0)) ≡ s)
   read_letter text k at n e = go (has alphabet (get_or text at 0)) refl (rw n at e)
     where
-      go : (x : Bool) → has alphabet (get_or text at 0) ≡ x → cond x (Parsed.Rule (specificity k (capital (get_or text at 0)))) (Parsed.Refused (Outside at)) ≡ Parsed.Rule s → (has alphabet (get_or text at 0) ≡ true) × (specificity k (capital (get_or text at 0)) ≡ s)
+      go : (x : Bool) → has alphabet (get_or text at 0) ≡ x → cond x (Ok (specificity k (capital (get_or text at 0)))) (Err (Outside at)) ≡ Ok s → (has alphabet (get_or text at 0) ≡ true) × (specificity k (capital (get_or text at 0)) ≡ s)
       go true p q = (p, cc)
       go false p q = absurd (refused_no_rule (Outside at) s q)
 
   -- a text that is read has no wide byte, and is not too long
-  read_plain : (text : List ℕ) → (eqb (length text) 0 ≡ false) → parsed text alphabet ≡ Parsed.Rule s
-      → (ltb (letter_place (mark_of (get_or text 0 0)) + 1) (length text) ≡ false) × (parsed_letter text (mark_of (get_or text 0 0)) (letter_place (mark_of (get_or text 0 0))) alphabet ≡ Parsed.Rule s)
+  read_plain : (text : List ℕ) → (eqb (length text) 0 ≡ false) → parsed text alphabet ≡ Ok s
+      → (ltb (letter_place (mark_of (get_or text 0 0)) + 1) (length text) ≡ false) × (parsed_letter text (mark_of (get_or text 0 0)) (letter_place (mark_of (get_or text 0 0))) alphabet ≡ Ok s)
   unfolding parsed
   read_plain text n e = first (ltb (first_wide text) (length text)) (rw n at e)
     where
       k : ℕ
       k = mark_of (get_or text 0 0)
 
-      second : (y : Bool) → ltb (letter_place (mark_of (get_or text 0 0)) + 1) (length text) ≡ y → cond y (Parsed.Refused LongText) (parsed_letter text (mark_of (get_or text 0 0)) (letter_place (mark_of (get_or text 0 0))) alphabet) ≡ Parsed.Rule s
-          → (ltb (letter_place (mark_of (get_or text 0 0)) + 1) (length text) ≡ false) × (parsed_letter text (mark_of (get_or text 0 0)) (letter_place (mark_of (get_or text 0 0))) alphabet ≡ Parsed.Rule s)
+      second : (y : Bool) → ltb (letter_place (mark_of (get_or text 0 0)) + 1) (length text) ≡ y → cond y (Err LongText) (parsed_letter text (mark_of (get_or text 0 0)) (letter_place (mark_of (get_or text 0 0))) alphabet) ≡ Ok s
+          → (ltb (letter_place (mark_of (get_or text 0 0)) + 1) (length text) ≡ false) × (parsed_letter text (mark_of (get_or text 0 0)) (letter_place (mark_of (get_or text 0 0))) alphabet ≡ Ok s)
       second true p q = absurd (refused_no_rule LongText s q)
       second false p q = (p, q)
 
-      first : (x : Bool) → cond x (Parsed.Refused (Letter (first_wide text))) (cond (ltb (letter_place (mark_of (get_or text 0 0)) + 1) (length text)) (Parsed.Refused LongText) (parsed_letter text (mark_of (get_or text 0 0)) (letter_place (mark_of (get_or text 0 0))) alphabet)) ≡ Parsed.Rule s
-          → (ltb (letter_place (mark_of (get_or text 0 0)) + 1) (length text) ≡ false) × (parsed_letter text (mark_of (get_or text 0 0)) (letter_place (mark_of (get_or text 0 0))) alphabet ≡ Parsed.Rule s)
+      first : (x : Bool) → cond x (Err (Letter (first_wide text))) (cond (ltb (letter_place (mark_of (get_or text 0 0)) + 1) (length text)) (Err LongText) (parsed_letter text (mark_of (get_or text 0 0)) (letter_place (mark_of (get_or text 0 0))) alphabet)) ≡ Ok s
+          → (ltb (letter_place (mark_of (get_or text 0 0)) + 1) (length text) ≡ false) × (parsed_letter text (mark_of (get_or text 0 0)) (letter_place (mark_of (get_or text 0 0))) alphabet ≡ Ok s)
       first true q = absurd (refused_no_rule (Letter (first_wide text)) s q)
       first false q = second (ltb (letter_place (mark_of (get_or text 0 0)) + 1) (length text)) refl q
 
   -- behind a mark, or first
-  read_at : (text : List ℕ) (m k at : ℕ) → m ≡ k → letter_place k ≡ at → parsed_letter text m (letter_place m) alphabet ≡ Parsed.Rule s → parsed_letter text k at alphabet ≡ Parsed.Rule s
+  read_at : (text : List ℕ) (m k at : ℕ) → m ≡ k → letter_place k ≡ at → parsed_letter text m (letter_place m) alphabet ≡ Ok s → parsed_letter text k at alphabet ≡ Ok s
   read_at text m k at e f q =
-      let q' : parsed_letter text k (letter_place k) alphabet ≡ Parsed.Rule s = subst (λ (x : ℕ). parsed_letter text x (letter_place x) alphabet ≡ Parsed.Rule s) e q in
-      subst (λ (x : ℕ). parsed_letter text k x alphabet ≡ Parsed.Rule s) f q'
+      let q' : parsed_letter text k (letter_place k) alphabet ≡ Ok s = subst (λ (x : ℕ). parsed_letter text x (letter_place x) alphabet ≡ Ok s) e q in
+      subst (λ (x : ℕ). parsed_letter text k x alphabet ≡ Ok s) f q'
 
-  write_one : (a : ℕ) → parsed_letter (a ∷ []) (mark_of a) (letter_place (mark_of a)) alphabet ≡ Parsed.Rule s → ((k : ℕ) × Mark k a) ⊎ (mark_of a ≡ 0) → text_of s ≡ capitals (a ∷ [])
+  write_one : (a : ℕ) → parsed_letter (a ∷ []) (mark_of a) (letter_place (mark_of a)) alphabet ≡ Ok s → ((k : ℕ) × Mark k a) ⊎ (mark_of a ≡ 0) → text_of s ≡ capitals (a ∷ [])
   write_one a q (inl (k, x)) =
-      let r : Parsed.Rule (specificity k 0) ≡ Parsed.Rule s = read_at (a ∷ []) (mark_of a) k 1 x.reads x.behind q in
+      let r : Ok (specificity k 0) ≡ Ok s = read_at (a ∷ []) (mark_of a) k 1 x.reads x.behind q in
       let e : specificity k 0 ≡ s = cc in
       ap text_of (sym e) ∙ mark-text k a x 0 ∙ ap (λ (b : ℕ). b ∷ []) (sym x.itself)
   write_one a q (inr z) =
       let e = read_letter (a ∷ []) 0 0 refl (read_at (a ∷ []) (mark_of a) 0 0 z refl q) in
       ap text_of (sym e.1)
 
-  write_two : (a b : ℕ) → ltb (letter_place (mark_of a) + 1) 2 ≡ false → parsed_letter (a ∷ b ∷ []) (mark_of a) (letter_place (mark_of a)) alphabet ≡ Parsed.Rule s
+  write_two : (a b : ℕ) → ltb (letter_place (mark_of a) + 1) 2 ≡ false → parsed_letter (a ∷ b ∷ []) (mark_of a) (letter_place (mark_of a)) alphabet ≡ Ok s
       → ((k : ℕ) × Mark k a) ⊎ (mark_of a ≡ 0) → text_of s ≡ capitals (a ∷ b ∷ [])
   write_two a b p q (inl (k, x)) =
       let e = read_letter (a ∷ b ∷ []) k 1 refl (read_at (a ∷ b ∷ []) (mark_of a) k 1 x.reads x.behind q) in
@@ -218,7 +217,7 @@ module _ (alphabet : LetterSet) (s : Specificity) where
   write_two a b p q (inr z) = absurd (true≢false (subst (λ (x : ℕ). ltb (letter_place x + 1) 2 ≡ false) z p))
 
   -- reading then writing gives the text back, with its letter as a capital
-  pub parse_then_write : (text : List ℕ) → parsed text alphabet ≡ Parsed.Rule s → text_of s ≡ capitals text
+  pub parse_then_write : (text : List ℕ) → parsed text alphabet ≡ Ok s → text_of s ≡ capitals text
   unfolding parsed
   parse_then_write [] e = absurd (refused_no_rule EmptyText s e)
   parse_then_write (a ∷ []) e = write_one a (read_plain (a ∷ []) refl e).1 (mark? a)
@@ -230,12 +229,12 @@ module _ (alphabet : LetterSet) (s : Specificity) where
 -- ---- the tests of `parse`, one after the other
 
 module _ (text : List ℕ) (alphabet : LetterSet) where
-  pub parsed-empty : length text ≡ 0 → Parsed.Refused EmptyText ≡ parsed text alphabet
+  pub parsed-empty : length text ≡ 0 → Err EmptyText ≡ parsed text alphabet
   unfolding parsed
   parsed-empty h = rw (eq-eqb (length text) 0 h)
 
   module _ (some : length text ≡ 0 → ⊥) (w : ℕ) (is : w ≡ first_wide text) where
-    pub parsed-wide : w < length text → Parsed.Refused (Letter w) ≡ parsed text alphabet
+    pub parsed-wide : w < length text → Err (Letter w) ≡ parsed text alphabet
     unfolding parsed
     parsed-wide h = rw (is, ne_eqb (length text) 0 some, lt-ltb (first_wide text) (length text) (rw is at h))
 
@@ -246,7 +245,7 @@ module _ (text : List ℕ) (alphabet : LetterSet) where
       at_place : at ≡ letter_place (mark_of (get_or text 0 0))
       at_place = place ∙ ap letter_place kind
 
-      pub parsed_long : at + 1 < length text → Parsed.Refused LongText ≡ parsed text alphabet
+      pub parsed_long : at + 1 < length text → Err LongText ≡ parsed text alphabet
       unfolding parsed
       parsed_long h =
           let g : letter_place (mark_of (get_or text 0 0)) + 1 < length text = omega (arith, at_place) in
@@ -266,7 +265,7 @@ module _ (s : Specificity) (old : List ℕ) (k l : ℕ) (ek : k ≡ kind_of s) (
   is_sound : (x : Bool) → sound k l ≡ x → sound (kind_of s) (letter_of s) ≡ x
   is_sound x h = subst (λ (m : ℕ). sound m (letter_of s) ≡ x) ek (subst (λ (m : ℕ). sound k m ≡ x) el h)
 
-  pub write_bad : sound k l ≡ false → outcome (Counted.Refused (Field 0)) (old ∷ []) ≡ write_outcome s old
+  pub write_bad : sound k l ≡ false → outcome (Err (Field 0)) (old ∷ []) ≡ write_outcome s old
   unfolding write_outcome
   write_bad h = rw (is_sound false h)
 

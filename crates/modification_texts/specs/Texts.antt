@@ -1,7 +1,7 @@
 -- Document 01, "Rules and the table": "A rule text is `^`, `$`, `[` or `]` with at most one letter, or one letter alone."
 -- Of its refusals the order is 4, 2, 6, 5.
 -- Document 02, [2]: "A rule is always written with a capital, so a written-back text equals the accepted text up to capitals."
-use Rattle.std.specs.Prelude.{ℕ, ◌+◌, Bool, cond, not, List, [], ◌∷◌, length, get_or, ltb, eqb}
+use Rattle.std.specs.Prelude.{ℕ, ◌+◌, Bool, cond, not, List, [], ◌∷◌, length, get_or, ltb, eqb, Result, Ok, Err}
 use Rattle.letters.specs.declared.letter_set.LetterSet.{LetterSet}
 use Rattle.letters.specs.Letters.{capital, has}
 use Rattle.records.specs.declared.refusal.Refusal.TheVariants.{Letter, EmptyText, Outside, LongText, Field}
@@ -9,9 +9,12 @@ use Rattle.records.specs.Search.{seek}
 use Rattle.records.specs.Outcome.{Outcome, outcome}
 use Rattle.records.specs.Room.{singly, counted}
 use Rattle.modification_kinds.specs.declared.specificity.Specificity.{Specificity}
-use Rattle.modification_texts.specs.declared.text.Parsed.{Parsed}
-use Rattle.records.specs.declared.refusal.Counted.{Counted}
 use Rattle.modification_kinds.specs.Specificities.{kind_of, letter_of, specificity, sound}
+use Rattle.records.specs.Answers.{Counted}
+
+-- what it answers, or why not
+abbrev pub Parsed : Type 0
+Parsed = Result Specificity Refusal
 
 -- ---- reading
 
@@ -35,17 +38,17 @@ letter_place kind = cond (eqb kind 0) 0 1
 -- the rule of a kind, whose letter, if any, stands at a place and reads as a capital; 5: a letter not in the alphabet, its index
 abbrev pub parsed_letter : List ℕ → ℕ → ℕ → LetterSet → Parsed
 parsed_letter text kind at alphabet =
-    cond (eqb (length text) at) (Parsed.Rule (specificity kind 0))
-    (cond (has alphabet (get_or text at 0)) (Parsed.Rule (specificity kind (capital (get_or text at 0))))
-    (Parsed.Refused (Outside at)))
+    cond (eqb (length text) at) (Ok (specificity kind 0))
+    (cond (has alphabet (get_or text at 0)) (Ok (specificity kind (capital (get_or text at 0))))
+    (Err (Outside at)))
 
 -- 4: an empty text; 2: a byte of 128 or more; 6: more than a mark and a letter, or than a letter
 unfoldable pub parsed : List ℕ → LetterSet → Parsed
 unfolding first_wide
 parsed text alphabet =
-    cond (eqb (length text) 0) (Parsed.Refused EmptyText)
-    (cond (ltb (first_wide text) (length text)) (Parsed.Refused (Letter (first_wide text)))
-    (cond (ltb (letter_place (mark_of (get_or text 0 0)) + 1) (length text)) (Parsed.Refused LongText)
+    cond (eqb (length text) 0) (Err EmptyText)
+    (cond (ltb (first_wide text) (length text)) (Err (Letter (first_wide text)))
+    (cond (ltb (letter_place (mark_of (get_or text 0 0)) + 1) (length text)) (Err LongText)
     (parsed_letter text (mark_of (get_or text 0 0)) (letter_place (mark_of (get_or text 0 0))) alphabet)))
 
 -- ---- writing
@@ -62,4 +65,4 @@ text_of s =
 
 -- 9: a kind with a letter that no rule has; 11: a text's record is a byte
 unfoldable pub write_outcome : Specificity → List ℕ → Outcome Counted
-write_outcome s old = cond (sound (kind_of s) (letter_of s)) (counted 1 2 old (singly (text_of s))) (outcome (Counted.Refused (Field 0)) (old ∷ []))
+write_outcome s old = cond (sound (kind_of s) (letter_of s)) (counted 1 2 old (singly (text_of s))) (outcome (Err (Field 0)) (old ∷ []))

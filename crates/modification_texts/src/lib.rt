@@ -3,4 +3,4 @@
 
 mod text;
 
-pub use text::{Parsed, parse, write};
+pub use text::{parse, write};

@@ -6,13 +6,7 @@ ghost use Rattle.modification_texts.specs.Texts.{first_wide, mark_of, mark_byte,
 
 use letters::LetterSet;
 use modification_kinds::Specificity;
-use records::{Counted, Refusal};
-
-#[derive(Clone, Copy)]
-pub enum Parsed {
-    Rule(Specificity),
-    Refused(Refusal),
-}
+use records::Refusal;
 
 // The index of the first byte of 128 or more, or the length.
 fn first_wide(text: &[u8]) -> usize
@@ -56,35 +50,35 @@ fn letter_place(kind: u8) -> usize
 }
 
 // The rule of a kind whose letter, if any, stands at a place: it is a capital.
-fn parse_letter(text: &[u8], kind: u8, at: usize, alphabet: LetterSet) -> Parsed
+fn parse_letter(text: &[u8], kind: u8, at: usize, alphabet: LetterSet) -> Result<Specificity, Refusal>
     ensures { result ≡ parsed_letter text.now kind at alphabet }
 {
     if text.len() == at {
-        return Parsed::Rule(modification_kinds::specificity_of(kind, 0));
+        return Ok(modification_kinds::specificity_of(kind, 0));
     }
     let letter = records::byte_at(text, at);
     if alphabet.contains(letter) {
-        Parsed::Rule(modification_kinds::specificity_of(kind, letters::capital(letter)))
+        Ok(modification_kinds::specificity_of(kind, letters::capital(letter)))
     } else {
-        Parsed::Refused(Refusal::Outside(at))
+        Err(Refusal::Outside(at))
     }
 }
 
 // Reads a rule text against an alphabet.
-pub fn parse(text: &[u8], alphabet: LetterSet) -> Parsed
+pub fn parse(text: &[u8], alphabet: LetterSet) -> Result<Specificity, Refusal>
     ensures { result ≡ parsed text.now alphabet }
 {
     if text.len() == 0 {
-        return Parsed::Refused(Refusal::EmptyText);
+        return Err(Refusal::EmptyText);
     }
     let wide = first_wide(text);
     if wide < text.len() {
-        return Parsed::Refused(Refusal::Letter(wide));
+        return Err(Refusal::Letter(wide));
     }
     let kind = mark_of(records::byte_at(text, 0));
     let at = letter_place(kind);
     if at + 1 < text.len() {
-        return Parsed::Refused(Refusal::LongText);
+        return Err(Refusal::LongText);
     }
     parse_letter(text, kind, at, alphabet)
 }
@@ -105,31 +99,31 @@ fn mark_byte(kind: u8) -> u8
     93
 }
 
-fn put_one(out: &mut [u8], a: u8) -> Counted
+fn put_one(out: &mut [u8], a: u8) -> Result<u32, Refusal>
     ensures { outcome result (out.new ∷ []) ≡ counted 1 2 out.old (singly (a ∷ [])) }
 {
     let room = out.len();
     records::put_byte(out, 0, a);
     if room < 1 {
-        return Counted::Refused(Refusal::Room);
+        return Err(Refusal::Room);
     }
-    Counted::Count(1)
+    Ok(1)
 }
 
-fn put_two(out: &mut [u8], a: u8, b: u8) -> Counted
+fn put_two(out: &mut [u8], a: u8, b: u8) -> Result<u32, Refusal>
     ensures { outcome result (out.new ∷ []) ≡ counted 1 2 out.old (singly (a ∷ b ∷ [])) }
 {
     let room = out.len();
     records::put_byte(out, 0, a);
     records::put_byte(out, 1, b);
     if room < 2 {
-        return Counted::Refused(Refusal::Room);
+        return Err(Refusal::Room);
     }
-    Counted::Count(2)
+    Ok(2)
 }
 
 // Writes a rule as a text.
-pub fn write(rule: Specificity, out: &mut [u8]) -> Counted
+pub fn write(rule: Specificity, out: &mut [u8]) -> Result<u32, Refusal>
     ensures { outcome result (out.new ∷ []) ≡ write_outcome rule out.old }
 {
     let kind = rule.kind();
@@ -143,5 +137,5 @@ pub fn write(rule: Specificity, out: &mut [u8]) -> Counted
         }
         return put_two(out, mark_byte(kind), letter);
     }
-    Counted::Refused(Refusal::Field(0))
+    Err(Refusal::Field(0))
 }

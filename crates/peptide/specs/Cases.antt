@@ -1,21 +1,19 @@
 -- Document 01, P6: "MAM, variable M without limit, combination limit 2: four forms; cap 3: the first three; cap 0: one." Then
 -- cases of the slips: a later fixed rule, `^M` and `^`, a rule's own limit, a slot used twice, protein rules off their end;
 -- room, and each refusal of `forms`, alone and before a later one. Behind them, peptides made of a form, and of digests.
-use Rattle.std.specs.Prelude.{ℕ, ◌-◌, ◌*◌, refl, true, false, cond, length, take, replicate, pos, Float}
+use Rattle.std.specs.Prelude.{ℕ, ◌-◌, ◌*◌, refl, true, false, cond, length, take, replicate, pos, Float, Ok, Err}
 use mathlib.Core.List.{List, [], ◌∷◌, ◌++◌, flatten}
 use Rattle.std.specs.Int.Count.{count_trailing_zeros}
 use Rattle.std.specs.Float.{fin}
 use Rattle.std.specs.Float.Ieee.{span, climb, size, odd, units, round, sum, add, eq, to_unsigned}
-use Rattle.peptide_mass.specs.declared.mass.Weighed.{Weighed}
 use Rattle.peptide_listing.specs.FormTests.{tested_form, tested_lists}
-use Rattle.peptide_mass.specs.Masses.{add_all, no_mass}
+use Rattle.peptide_mass.specs.Masses.{Weighed, add_all, no_mass}
 use Rattle.peptide_digests.specs.DigestTests.{unfit, first_unfit, tested_digest}
 use Rattle.records.specs.Le.{le, number_at}
 use Rattle.records.specs.Cases.{Case, Hold, answered, refused_as, told}
 use Rattle.records.specs.CaseLaws.{joined}
 use Rattle.records.specs.Refusals.{number_of, place_of}
 use Rattle.records.specs.Room.{written}
-use Rattle.records.specs.declared.refusal.Tested.{Tested}
 use Rattle.records.specs.Search.{seek}
 use Rattle.letters.specs.Letters.{capital, is_letter, first_bad}
 use Rattle.modification_rules.specs.Rules.{good_rule, first_bad_rule}
@@ -28,6 +26,7 @@ use Rattle.peptide.specs.Peptides.{residues_of, clear, tested_contents, peptide_
 use Rattle.peptide.specs.Digested.{digested, made_of_digest, weighed_digest}
 use Rattle.peptide.specs.Sites.{rule_sites, passes, filled}
 use Rattle.peptide.specs.Forms.{tested_forms, choices, form_of, forms_of, forms_outcome}
+use Rattle.records.specs.Answers.{Passed, Tested}
 
 abbrev MAM : List ℕ
 MAM = 77 ∷ 65 ∷ 77 ∷ []
@@ -83,8 +82,8 @@ abbrev shown : Made → List ℕ
 shown made = go made.tested made.peptide
   where
     go : Tested → Peptide → List ℕ
-    go Tested.Passed p = 0 ∷ 0 ∷ p.len ∷ p.nterm ∷ p.cterm ∷ take 3 p.ids
-    go (Tested.Refused why) p = refused_as (number_of why) (place_of why)
+    go (Ok _) p = 0 ∷ 0 ∷ p.len ∷ p.nterm ∷ p.cterm ∷ take 3 p.ids
+    go (Err why) p = refused_as (number_of why) (place_of why)
 
 -- letters with a form and a position
 abbrev making : List ℕ → List ℕ → ℕ → List ℕ → Case
@@ -186,13 +185,13 @@ abbrev cut : Made → List ℕ
 cut made = go made.tested made.peptide
   where
     go : Tested → Peptide → List ℕ
-    go Tested.Passed p = 0 ∷ 0 ∷ p.position ∷ cond p.decoy 1 0 ∷ residues_of p
-    go (Tested.Refused why) p = refused_as (number_of why) (place_of why)
+    go (Ok _) p = 0 ∷ 0 ∷ p.position ∷ cond p.decoy 1 0 ∷ residues_of p
+    go (Err why) p = refused_as (number_of why) (place_of why)
 
 -- or the mass, a whole number
 abbrev mass : Weighed → List ℕ
-mass (Weighed.Mass m) = 0 ∷ 0 ∷ to_unsigned 32 m ∷ []
-mass (Weighed.Refused why) = refused_as (number_of why) (place_of why)
+mass (Ok m) = 0 ∷ 0 ∷ to_unsigned 32 m ∷ []
+mass (Err why) = refused_as (number_of why) (place_of why)
 
 abbrev cutting : List ℕ → List ℕ → List Float → List ℕ → List ℕ → Case
 cutting letters bytes table peptide weight =

@@ -2,8 +2,7 @@
 -- end of the protein, passed to .. peptide making." Of a digest's record: "With decoy 1 its letters are the range's, all but
 -- first and last reversed."
 use Rattle.std.specs.Prelude.{ℕ, ◌-◌, Bool, false, cond, List, [], take, drop, Float}
-use Rattle.peptide_mass.specs.declared.mass.Weighed.{Weighed}
-use Rattle.peptide_mass.specs.Masses.{add_all, weighed_or}
+use Rattle.peptide_mass.specs.Masses.{Weighed, add_all, weighed_or}
 use Rattle.enzyme_keep.specs.Digests.{start_of, end_of, position_in, is_decoy}
 use Rattle.peptide_digests.specs.DigestTests.{tested_digest}
 use Rattle.peptide.specs.declared.making.Peptide.{Peptide}

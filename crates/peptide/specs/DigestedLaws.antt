@@ -1,6 +1,6 @@
 -- That the other entries take the peptide that is made of a digest. Assumes nothing.
 use Prim.Native.Nat.{ℕ, suc, ◌+◌, ◌-◌, ◌≤◌, ◌<◌}
-use Rattle.std.specs.Prelude.{◌≡◌, Bool, true, not, ◌⊎◌, get_or, drop, replicate, Float}
+use Rattle.std.specs.Prelude.{◌≡◌, Bool, true, not, ◌⊎◌, get_or, drop, replicate, Float, Err}
 use Rattle.std.proofs.Math.Path.{refl, sym, ap}
 use Rattle.std.proofs.Common.{◌∙◌, true≢false, inl, inr, ⊎_elim, arith, length-append, length-drop, get_or-take, get_or-drop, get_or-append-add, length-take-le}
 use Rattle.std.proofs.Math.Bool.{false}
@@ -8,14 +8,12 @@ use mathlib.Core.List.{List, [], ◌∷◌, ◌++◌}
 use Rattle.std.proofs.Math.ListN.{length, get_or-append}
 use Rattle.std.proofs.lemmas.List.{length-replicate, get_or-replicate, length-map}
 use borrow.Author.Tests.{le-leb, le-ltb, ne_eqb}
-use Rattle.peptide_mass.specs.declared.mass.Weighed.{Weighed}
-use Rattle.peptide_mass.specs.Masses.{wrong_size, add_all, no_mass, first_no_mass, tested_letters, weighed, weighed_or}
+use Rattle.peptide_mass.specs.Masses.{Weighed, wrong_size, add_all, no_mass, first_no_mass, tested_letters, weighed, weighed_or}
 use Rattle.peptide_mass.specs.MassLaws.{no_mass_at, has-mass_letter, no_mass-capital, letters-passed, weighed-passed}
 use Rattle.enzyme_keep.specs.Digests.{start_of, end_of, position_in, is_decoy}
 use Rattle.peptide_digests.specs.DigestTests.{tested_digest}
 use Rattle.lists.specs.Tests.{below?}
 use Rattle.records.specs.declared.refusal.Refusal.{Refusal}
-use Rattle.records.specs.declared.refusal.Tested.{Tested}
 use Rattle.records.specs.Search.{seek}
 use Rattle.records.specs.SearchLaws.{seek-passes}
 use Rattle.letters.specs.Letters.{capital, capitals, is_letter, no_letter, first_bad}
@@ -29,6 +27,7 @@ use Rattle.peptide.specs.declared.making.Made.{Made}
 use Rattle.peptide.specs.Peptides.{residues_of, clear, tested_peptide, peptide_from, no_peptide, made_or, reversed_peptide}
 use Rattle.peptide.specs.PeptideLaws.{contents-clear, peptide_tested-on, tested_of}
 use Rattle.peptide.specs.Digested.{of_range, digested, made_of_digest, weighed_digest}
+use Rattle.records.specs.Answers.{Passed, Tested}
 
 -- ---- letters in a peptide's array
 
@@ -90,12 +89,12 @@ module _ (part : List ℕ) (some : 1 ≤ length part) (fits : length part ≤ 64
 -- ---- the peptide of a range
 
 -- a peptide of letters that lies clear passes its tests
-passes_of : (q : Peptide) → 1 ≤ q.len → q.len ≤ 64 → length (residues_of q) ≡ q.len → ((k : ℕ) → k < q.len → no_letter (residues_of q) k ≡ false) → clear q ≡ true → tested_peptide q ≡ Tested.Passed
+passes_of : (q : Peptide) → 1 ≤ q.len → q.len ≤ 64 → length (residues_of q) ≡ q.len → ((k : ℕ) → k < q.len → no_letter (residues_of q) k ≡ false) → clear q ≡ true → tested_peptide q ≡ Passed
 unfolding first_bad
 passes_of q a b l h e =
     let low = none_found (no_letter (residues_of q)) (length (residues_of q)) (λ k g. h k (omega arith)) in
     let sized : wrong_size q.len ≡ false = rw (ne_eqb q.len 0 (λ x. omega arith), le-ltb 64 q.len b) in
-    sym (peptide_tested-on q Tested.Passed sized (contents-clear q (first_bad (residues_of q)) refl (omega arith) e))
+    sym (peptide_tested-on q Passed sized (contents-clear q (first_bad (residues_of q)) refl (omega arith) e))
 
 clear_of : (q : Peptide) → length q.letters ≡ 64 → length q.ids ≡ 64 → ZeroFrom q.len q.letters → ZeroFrom q.len q.ids → q.position ≤ 3 → clear q ≡ true
 unfolding clear
@@ -142,12 +141,12 @@ module _ (part : List ℕ) (some : 1 ≤ length part) (fits : length part ≤ 64
       (mirror-past (length part) letters some fits (held-length part some fits) (held-past part some fits))
       (mirror-past (length part) (window 64 2 []) some fits refl no_ids) h
 
-  pub range-passes : position ≤ 3 → ((k : ℕ) → k < length part → no_letter part k ≡ false) → (decoy : Bool) → tested_peptide (of_range part position decoy) ≡ Tested.Passed
+  pub range-passes : position ≤ 3 → ((k : ℕ) → k < length part → no_letter part k ≡ false) → (decoy : Bool) → tested_peptide (of_range part position decoy) ≡ Passed
   range-passes h l false = passes_of plain some fits (range_length false) (range-each (λ (b : ℕ). not (is_letter b)) (λ b. ap not (letter_capital b)) l false) (range_clear h false)
   range-passes h l true = passes_of (reversed_peptide plain) some fits (range_length true) (range-each (λ (b : ℕ). not (is_letter b)) (λ b. ap not (letter_capital b)) l true) (range_clear h true)
 
   module _ (masses : List Float) (whole : length masses ≡ 26) where
-    pub range-weighed : ((k : ℕ) → k < length part → no_mass masses (get_or part k 0) ≡ false) → (decoy : Bool) → Tested.Passed ≡ tested_letters (residues_of (of_range part position decoy)) masses
+    pub range-weighed : ((k : ℕ) → k < length part → no_mass masses (get_or part k 0) ≡ false) → (decoy : Bool) → Passed ≡ tested_letters (residues_of (of_range part position decoy)) masses
     unfolding first_no_mass
     range-weighed h decoy =
         let q : List ℕ = residues_of (of_range part position decoy) in
@@ -158,7 +157,7 @@ module _ (part : List ℕ) (some : 1 ≤ length part) (fits : length part ≤ 64
 
 -- ---- the peptide of a digest that passed
 
-module _ (s r : List ℕ) (masses : List Float) (h : tested_digest s r masses ≡ Tested.Passed) where
+module _ (s r : List ℕ) (masses : List Float) (h : tested_digest s r masses ≡ Passed) where
   d : Digestible s r masses
   d = passed_digestible s r masses h
 
@@ -178,7 +177,7 @@ module _ (s r : List ℕ) (masses : List Float) (h : tested_digest s r masses �
   letters_in k g = ap not (has-mass_letter masses (get_or (range_in s r masses) k 0) (masses_in k g))
 
   -- reversal and forms take it
-  pub digested-passes : tested_peptide (digested s r) ≡ Tested.Passed
+  pub digested-passes : tested_peptide (digested s r) ≡ Passed
   unfolding digested
   digested-passes = range-passes (range_in s r masses) some range-fits (position_in r) d.placed letters_in (is_decoy r)
 
@@ -194,10 +193,10 @@ module _ (s r : List ℕ) (masses : List Float) where
   unfolding made_of_digest
   made-tested m e = ap (λ (x : Made). x.tested) e ∙ tested_of (tested_digest s r masses) (digested s r) no_peptide
 
-  pub made-digested : tested_digest s r masses ≡ Tested.Passed → (m : Made) → m ≡ made_of_digest s r masses → m.peptide ≡ digested s r
+  pub made-digested : tested_digest s r masses ≡ Passed → (m : Made) → m ≡ made_of_digest s r masses → m.peptide ≡ digested s r
   unfolding made_of_digest
   made-digested h m e = ap (λ (x : Made). x.peptide) e ∙ ap (λ (t : Tested). (made_or t (digested s r) no_peptide).peptide) h
 
-  pub mass-refused : (water : Float) (why : Refusal) → tested_digest s r masses ≡ Tested.Refused why → Weighed.Refused why ≡ weighed_digest s r masses water
+  pub mass-refused : (water : Float) (why : Refusal) → tested_digest s r masses ≡ Err why → Err why ≡ weighed_digest s r masses water
   unfolding weighed_digest
   mass-refused water why e = rw e

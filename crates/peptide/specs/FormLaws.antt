@@ -1,6 +1,6 @@
 -- What the tests of forms come to, from what was written to the answer, and the laws that document 01 asks of the forms.
 -- Assumes nothing.
-use Rattle.std.specs.Prelude.{ℕ, ◌%◌, ◌≤◌, ◌≡◌, refl, Bool, true, false, cond, ◌&&◌, List, [], ◌∷◌, map, length, get_or, replicate, eqb}
+use Rattle.std.specs.Prelude.{ℕ, ◌%◌, ◌≤◌, ◌≡◌, refl, Bool, true, false, cond, ◌&&◌, List, [], ◌∷◌, map, length, get_or, replicate, eqb, Err}
 use Rattle.std.proofs.Common.{sym, ◌∙◌, arith, eqb-true}
 use Rattle.std.proofs.Math.Path.{ap}
 use Rattle.std.proofs.lemmas.Simd.{map-map}
@@ -11,7 +11,6 @@ use Rattle.lists.specs.Tests.{both}
 use Rattle.lists.specs.Lists.{keep}
 use Rattle.records.specs.declared.refusal.Refusal.{Refusal}
 use Rattle.records.specs.declared.refusal.Refusal.TheVariants.{Size, Length}
-use Rattle.records.specs.declared.refusal.Tested.{Tested}
 use Rattle.records.specs.Outcome.{outcome, only}
 use Rattle.records.specs.Room.{counted}
 use Rattle.modification_rules.specs.Rules.{rule_at}
@@ -30,45 +29,45 @@ use Rattle.peptide_forms.specs.UsedLaws.{choices-used}
 use Rattle.peptide_forms.specs.RunLaws.{quick}
 use Rattle.peptide_listing.specs.FormTestLaws.{sizes_fit}
 use Rattle.peptide.specs.declared.making.Peptide.{Peptide}
-use Rattle.records.specs.declared.refusal.Counted.{Counted}
 use Rattle.records.specs.Tested.{and_then}
 use Rattle.records.specs.TestedLaws.{passed-both, passed_first}
 use Rattle.peptide.specs.Peptides.{tested_contents}
 use Rattle.peptide.specs.Sites.{Site, rule_sites, passes, filled}
 use Rattle.peptide.specs.Forms.{tested_forms, bare, chosen, choices, form_of, forms_outcome}
 use Rattle.peptide.specs.PackedLaws.{packed_sites, packed_forms, forms_packed}
+use Rattle.records.specs.Answers.{Counted, Passed, Tested}
 
 -- ---- all tests
 
 module _ (p : Peptide) (variable fixed : List ℕ) (limit : ℕ) where
-  pub forms_tested_large : too_large p.len variable fixed limit ≡ true → Tested.Refused Size ≡ tested_forms p variable fixed limit
+  pub forms_tested_large : too_large p.len variable fixed limit ≡ true → Err Size ≡ tested_forms p variable fixed limit
   unfolding tested_forms
   forms_tested_large e = rw e
 
   module _ (sized : too_large p.len variable fixed limit ≡ false) where
-    pub forms_tested-whole : not_whole variable fixed ≡ true → Tested.Refused Length ≡ tested_forms p variable fixed limit
+    pub forms_tested-whole : not_whole variable fixed ≡ true → Err Length ≡ tested_forms p variable fixed limit
     unfolding tested_forms
     forms_tested-whole e = rw (sized, e)
 
     module _ (whole : not_whole variable fixed ≡ false) where
-      pub forms_tested-contents : (why : Refusal) → Tested.Refused why ≡ tested_contents p → Tested.Refused why ≡ tested_forms p variable fixed limit
+      pub forms_tested-contents : (why : Refusal) → Err why ≡ tested_contents p → Err why ≡ tested_forms p variable fixed limit
       unfolding tested_forms
       forms_tested-contents why e = rw (sized, whole, ← e)
 
-      pub forms_tested-lists : (r : Tested) → Tested.Passed ≡ tested_contents p → r ≡ tested_lists variable fixed → r ≡ tested_forms p variable fixed limit
+      pub forms_tested-lists : (r : Tested) → Passed ≡ tested_contents p → r ≡ tested_lists variable fixed → r ≡ tested_forms p variable fixed limit
       unfolding tested_forms
       forms_tested-lists r e f = rw (sized, whole, ← e) f
 
   -- what is known once they passed
-  passed_apart : tested_forms p variable fixed limit ≡ Tested.Passed → (too_large p.len variable fixed limit ≡ false) × (not_whole variable fixed ≡ false) × (tested_lists variable fixed ≡ Tested.Passed)
+  passed_apart : tested_forms p variable fixed limit ≡ Passed → (too_large p.len variable fixed limit ≡ false) × (not_whole variable fixed ≡ false) × (tested_lists variable fixed ≡ Passed)
   unfolding tested_forms
   passed_apart h =
       let contents : Tested = and_then (tested_contents p) (tested_lists variable fixed) in
-      let a = passed_first (too_large p.len variable fixed limit) Size (cond (not_whole variable fixed) (Tested.Refused Length) contents) h in
+      let a = passed_first (too_large p.len variable fixed limit) Size (cond (not_whole variable fixed) (Err Length) contents) h in
       let b = passed_first (not_whole variable fixed) Length contents a.1 in
       (a.0, b.0, (passed-both (tested_contents p) (tested_lists variable fixed) b.1).1)
 
-  pub passed_fit : tested_forms p variable fixed limit ≡ Tested.Passed → (p.len ≤ 64) × (length variable ≤ 256) × (length fixed ≤ 256) × (limit ≤ 8)
+  pub passed_fit : tested_forms p variable fixed limit ≡ Passed → (p.len ≤ 64) × (length variable ≤ 256) × (length fixed ≤ 256) × (limit ≤ 8)
   passed_fit h =
       let a = passed_apart h in
       let w = both (eqb (length variable % 8) 0) (eqb (length fixed % 8) 0) (not-false (eqb (length variable % 8) 0 && eqb (length fixed % 8) 0) a.1) in
@@ -77,11 +76,11 @@ module _ (p : Peptide) (variable fixed : List ℕ) (limit : ℕ) where
       (f.0, omega (arith, f.1), omega (arith, f.2), f.3)
 
   module _ (cap : ℕ) (old : List ℕ) where
-    pub forms_refused : (why : Refusal) → Tested.Refused why ≡ tested_forms p variable fixed limit → outcome (Counted.Refused why) (old ∷ []) ≡ forms_outcome p variable fixed limit cap old
+    pub forms_refused : (why : Refusal) → Err why ≡ tested_forms p variable fixed limit → outcome (Err why) (old ∷ []) ≡ forms_outcome p variable fixed limit cap old
     unfolding forms_outcome
     forms_refused why e = rw (← e)
 
-    pub forms_passed : Tested.Passed ≡ tested_forms p variable fixed limit → counted 66 most_forms old (packed_forms p variable fixed limit cap) ≡ forms_outcome p variable fixed limit cap old
+    pub forms_passed : Passed ≡ tested_forms p variable fixed limit → counted 66 most_forms old (packed_forms p variable fixed limit cap) ≡ forms_outcome p variable fixed limit cap old
     unfolding forms_outcome
     forms_passed e = ap (counted 66 most_forms old) (sym (forms_packed p variable fixed limit cap (passed_fit (sym e)).0 (passed_apart (sym e)).2)) ∙ rw (← e)
 

@@ -2,28 +2,27 @@
 -- sites in lexicographic order, skipping those that .. Fixed rules then go over every form, in list order." What a call of
 -- `forms` answers, and what its buffer holds then; the order of its refusals is 1, 8, 2 and 9 of the peptide, 9 of the
 -- variable rules, 9 of the fixed ones, 11.
-use Rattle.std.specs.Prelude.{ℕ, cond, List, [], ◌∷◌, map, length, get_or}
+use Rattle.std.specs.Prelude.{ℕ, cond, List, [], ◌∷◌, map, length, get_or, Err}
 use Rattle.lists.specs.Lists.{keep}
 use Rattle.records.specs.declared.refusal.Refusal.TheVariants.{Size, Length}
-use Rattle.records.specs.declared.refusal.Tested.{Tested}
 use Rattle.records.specs.Outcome.{Outcome, unless_refused}
 use Rattle.records.specs.Room.{counted}
 use Rattle.peptide_choices.specs.Choices.{by_size}
 use Rattle.peptide_forms.specs.Enumeration.{most_forms, up_to_cap}
 use Rattle.peptide_listing.specs.FormTests.{too_large, not_whole, tested_lists}
 use Rattle.peptide.specs.declared.making.Peptide.{Peptide}
-use Rattle.records.specs.declared.refusal.Counted.{Counted}
 use Rattle.records.specs.Tested.{and_then}
 use Rattle.peptide.specs.Peptides.{tested_contents}
 use Rattle.peptide.specs.Sites.{Site, rule_site, rule_sites, passes, filled}
+use Rattle.records.specs.Answers.{Counted, Tested}
 
 -- ---- the tests
 
 unfoldable pub tested_forms : Peptide → List ℕ → List ℕ → ℕ → Tested
 unfolding tested_contents tested_lists
 tested_forms p variable fixed limit =
-    cond (too_large p.len variable fixed limit) (Tested.Refused Size)
-    (cond (not_whole variable fixed) (Tested.Refused Length)
+    cond (too_large p.len variable fixed limit) (Err Size)
+    (cond (not_whole variable fixed) (Err Length)
     (and_then (tested_contents p) (tested_lists variable fixed)))
 
 -- ---- the forms
@@ -56,4 +55,4 @@ forms_of p variable fixed limit cap = map (form_of p variable fixed) (choices (r
 -- at most 1,048,576 forms of 66 bytes; 11: no room for all, and the first that fit stand there
 unfoldable pub forms_outcome : Peptide → List ℕ → List ℕ → ℕ → ℕ → List ℕ → Outcome Counted
 unfolding tested_forms forms_of
-forms_outcome p variable fixed limit cap old = unless_refused (tested_forms p variable fixed limit) Counted.Refused (old ∷ []) (counted 66 most_forms old (forms_of p variable fixed limit cap))
+forms_outcome p variable fixed limit cap old = unless_refused (tested_forms p variable fixed limit) Err (old ∷ []) (counted 66 most_forms old (forms_of p variable fixed limit cap))

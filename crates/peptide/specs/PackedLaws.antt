@@ -10,7 +10,6 @@ use Rattle.letters.specs.Letters.{capitals}
 use Rattle.lists.specs.InLaws.{keep-alike, map-alike}
 use Rattle.lists.specs.Tests.{both}
 use Rattle.lists.specs.Lists.{up_from, keep, bit, count}
-use Rattle.records.specs.declared.refusal.Tested.{Tested}
 use Rattle.records.specs.Le.{number_at}
 use Rattle.records.specs.SearchLaws.{seek_before}
 use Rattle.records.specs.Tested.{field_tested}
@@ -30,6 +29,7 @@ use Rattle.peptide_forms.specs.UsedLaws.{free_in, uses_in, once_in, limits_in, f
 use Rattle.peptide.specs.declared.making.Peptide.{Peptide}
 use Rattle.peptide.specs.Sites.{Site, rule_site, hits, slots_of, rule_sites, each, passes, filled}
 use Rattle.peptide.specs.Forms.{bare, chosen, choices, form_of, forms_of}
+use Rattle.records.specs.Answers.{Passed, Tested}
 
 -- ---- the forms by numbers
 
@@ -71,7 +71,7 @@ kind_back (suc (suc (suc (suc (suc k))))) b h = absurd (omega arith)
 abbrev Kinds : List ℕ → Type 0
 Kinds rules = (r : ℕ) → r < length rules / 8 → kind_at rules r ≤ 4
 
-kinds : (fixed : Bool) (rules : List ℕ) → field_tested (first_bad_rule fixed rules) (length rules / 8) ≡ Tested.Passed → Kinds rules
+kinds : (fixed : Bool) (rules : List ℕ) → field_tested (first_bad_rule fixed rules) (length rules / 8) ≡ Passed → Kinds rules
 unfolding first_bad_rule good_rule
 kinds fixed rules e r h =
     let kind : ℕ = kind_at rules r in
@@ -241,7 +241,7 @@ choices-packed ps rules limit cap =
     (λ c i. ap (passes rules) (chosen-packed ps c) ∙ sym (passes-packed rules (packed_chosen ps c)) ∙ sym (passes-chosen ps rules c)))
 
 -- the law: where the tests passed, the forms are those that the code's numbers make
-pub forms_packed : (p : Peptide) (variable fixed : List ℕ) (limit cap : ℕ) → p.len ≤ 64 → tested_lists variable fixed ≡ Tested.Passed → forms_of p variable fixed limit cap ≡ packed_forms p variable fixed limit cap
+pub forms_packed : (p : Peptide) (variable fixed : List ℕ) (limit cap : ℕ) → p.len ≤ 64 → tested_lists variable fixed ≡ Passed → forms_of p variable fixed limit cap ≡ packed_forms p variable fixed limit cap
 unfolding tested_lists forms_of packed_forms form_of packed_form
 forms_packed p variable fixed limit cap h e =
     let t = passed-both (field_tested (first_bad_rule false variable) (length variable / 8)) (field_tested (first_bad_rule true fixed) (length fixed / 8)) e in

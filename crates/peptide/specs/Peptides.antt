@@ -2,9 +2,8 @@
 -- 0, after its letters)." "`Peptide::reverse` does so for letters and residue ids, terminals stay, and the decoy flag flips
 -- each time." Document 02, [2]: "Small letters now read as capitals everywhere": a peptide that is made has capitals; reversal moves
 -- letters and makes none.
-use Rattle.std.specs.Prelude.{ℕ, Bool, false, cond, not, ◌&&◌, List, [], length, get_or, take, drop, leb, ltb}
+use Rattle.std.specs.Prelude.{ℕ, Bool, false, cond, not, ◌&&◌, List, [], length, get_or, take, drop, leb, ltb, Ok, Err}
 use Rattle.records.specs.declared.refusal.Refusal.TheVariants.{Size, Letter, Field}
-use Rattle.records.specs.declared.refusal.Tested.{Tested}
 use Rattle.records.specs.Tested.{and_then}
 use Rattle.letters.specs.Letters.{capitals, first_bad}
 use Rattle.peptide_slots.specs.Mirror.{mirror, all_zero}
@@ -13,6 +12,7 @@ use Rattle.peptide_mass.specs.Masses.{wrong_size}
 use Rattle.peptide_listing.specs.FormTests.{tested_form}
 use Rattle.peptide.specs.declared.making.Peptide.{Peptide}
 use Rattle.peptide.specs.declared.making.Made.{Made}
+use Rattle.records.specs.Answers.{Passed, Tested}
 
 -- ---- the tests
 
@@ -29,17 +29,17 @@ clear p = all_zero (drop p.len p.letters) && all_zero (drop p.len p.ids) && leb 
 unfoldable pub tested_contents : Peptide → Tested
 unfolding first_bad clear
 tested_contents p =
-    cond (ltb (first_bad (residues_of p)) p.len) (Tested.Refused (Letter (first_bad (residues_of p))))
-    (cond (clear p) Tested.Passed (Tested.Refused (Field 0)))
+    cond (ltb (first_bad (residues_of p)) p.len) (Err (Letter (first_bad (residues_of p))))
+    (cond (clear p) Passed (Err (Field 0)))
 
 unfoldable pub tested_peptide : Peptide → Tested
 unfolding tested_contents
-tested_peptide p = cond (wrong_size p.len) (Tested.Refused Size) (tested_contents p)
+tested_peptide p = cond (wrong_size p.len) (Err Size) (tested_contents p)
 
 -- the new peptide where the tests passed, else the other
 abbrev pub made_or : Tested → Peptide → Peptide → Made
-made_or Tested.Passed new other = record { tested = Tested.Passed; peptide = new }
-made_or (Tested.Refused why) new other = record { tested = Tested.Refused why; peptide = other }
+made_or (Ok _) new other = record { tested = Passed; peptide = new }
+made_or (Err why) new other = record { tested = Err why; peptide = other }
 
 -- ---- peptides
 

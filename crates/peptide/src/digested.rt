@@ -4,8 +4,9 @@ ghost use Rattle.peptide.specs.Digested.{of_range, made_of_digest, weighed_diges
 
 use crate::making;
 use crate::making::{Made, Peptide};
-use peptide_mass::Weighed;
-use records::Tested;
+use peptide_mass::;
+use records::;
+use records::Refusal;
 
 // The peptide of a range's letters; a decoy is reversed.
 fn of_range(part: &[u8], position: u8, decoy: bool) -> Peptide
@@ -26,7 +27,7 @@ impl Peptide {
     pub fn of_digest(letters: &[u8], bytes: &[u8], masses: &[f32]) -> Made
         ensures { result ≡ made_of_digest letters.now bytes.now masses.now }
     {
-        if let Tested::Refused(why) = peptide_digests::test_digest(letters, bytes, masses) {
+        if let Err(why) = peptide_digests::test_digest(letters, bytes, masses) {
             return making::refused(why);
         }
         let start = records::u32_at(bytes, 0) as usize;
@@ -34,20 +35,18 @@ impl Peptide {
         let position = records::byte_at(bytes, 10);
         let decoy = records::byte_at(bytes, 11) == 1;
         let peptide = of_range(&letters[start..end], position, decoy);
-        let tested = Tested::Passed;
+        let tested = Ok(());
         Made { tested, peptide }
     }
 }
 
 // The base mass of the peptide of a digest record.
-pub fn digest_mass(letters: &[u8], bytes: &[u8], masses: &[f32], water: f32) -> Weighed
+pub fn digest_mass(letters: &[u8], bytes: &[u8], masses: &[f32], water: f32) -> Result<f32, Refusal>
     ensures { result ≡ weighed_digest letters.now bytes.now masses.now water }
 {
     let made = Peptide::of_digest(letters, bytes, masses);
     let tested = made.tested;
-    if let Tested::Refused(why) = tested {
-        return Weighed::Refused(why);
-    }
+    tested?;
     let peptide = made.peptide;
     let n = peptide.len as usize;
     let held = peptide.letters;

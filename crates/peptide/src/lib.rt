@@ -8,4 +8,4 @@ mod tests;
 
 pub use digested::digest_mass;
 pub use making::{Made, Peptide};
-pub use peptide_mass::{Weighed, base_mass};
+pub use peptide_mass::{base_mass};

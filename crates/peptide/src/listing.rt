@@ -8,10 +8,10 @@ ghost use Rattle.peptide.specs.PackedLaws.{packed_forms};
 
 use crate::making::Peptide;
 use crate::tests;
-use records::{Counted, Tested};
+use records::Refusal;
 
 // The forms of a peptide whose tests passed.
-fn run(p: Peptide, variable: &[u8], fixed: &[u8], limit: u32, cap: u32, out: &mut [u8]) -> Counted
+fn run(p: Peptide, variable: &[u8], fixed: &[u8], limit: u32, cap: u32, out: &mut [u8]) -> Result<u32, Refusal>
     requires { (p.len ≤ 64) × (length variable.now ≤ 256) × (length fixed.now ≤ 256) × (limit ≤ 8) }
     ensures { outcome result (out.new ∷ []) ≡ counted 66 most_forms out.old (packed_forms p variable.now fixed.now limit cap) }
 {
@@ -38,12 +38,10 @@ impl Peptide {
         limit: u32,
         cap: u32,
         out: &mut [u8],
-    ) -> Counted
+    ) -> Result<u32, Refusal>
         ensures { outcome result (out.new ∷ []) ≡ forms_outcome self variable.now fixed.now limit cap out.old }
     {
-        if let Tested::Refused(why) = tests::test_forms(self, variable, fixed, limit) {
-            return Counted::Refused(why);
-        }
+        tests::test_forms(self, variable, fixed, limit)?;
         run(self, variable, fixed, limit, cap, out)
     }
 }

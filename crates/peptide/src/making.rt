@@ -5,7 +5,7 @@ ghost use Rattle.records.specs.declared.refusal.Tested.TheVariants.{Refused};
 ghost use Rattle.peptide.specs.Peptides.{tested_peptide, reversed_peptide, peptide_from, no_peptide, made_or, made_of_form};
 
 use crate::tests;
-use records::{Refusal, Tested};
+use records::Refusal;
 
 // Its letters and the ids of its residues, of which the first len count; the ids of its ends; its place in the protein. An
 // id of 0 is none.
@@ -23,7 +23,7 @@ pub struct Peptide {
 // A peptide, if the tests passed.
 #[derive(Clone, Copy)]
 pub struct Made {
-    pub tested: Tested,
+    pub tested: Result<(), Refusal>,
     pub peptide: Peptide,
 }
 
@@ -67,7 +67,7 @@ fn none() -> Peptide
 pub(crate) fn refused(why: Refusal) -> Made
     ensures { result ≡ made_or (Refused why) no_peptide no_peptide }
 {
-    let tested = Tested::Refused(why);
+    let tested = Err(why);
     let peptide = none();
     Made { tested, peptide }
 }
@@ -98,14 +98,14 @@ impl Peptide {
     pub fn of_form(letters: &[u8], form: &[u8], position: u8, decoy: bool) -> Made
         ensures { result ≡ made_of_form letters.now form.now position decoy }
     {
-        if let Tested::Refused(why) = peptide_listing::test_form(letters, form) {
+        if let Err(why) = peptide_listing::test_form(letters, form) {
             return refused(why);
         }
         let peptide = given(letters, form, position, decoy);
-        if let Tested::Refused(why) = tests::test_contents(peptide) {
+        if let Err(why) = tests::test_contents(peptide) {
             return refused(why);
         }
-        let tested = Tested::Passed;
+        let tested = Ok(());
         Made { tested, peptide }
     }
 
@@ -113,11 +113,11 @@ impl Peptide {
     pub fn of_part(part: &[u8], masses: &[f32], position: u8, decoy: bool) -> Made
         ensures { result ≡ made_or (tested_part part.now masses.now position) (peptide_from part.now [] position decoy) no_peptide }
     {
-        if let Tested::Refused(why) = peptide_mass::test_part(part, masses, position) {
+        if let Err(why) = peptide_mass::test_part(part, masses, position) {
             return refused(why);
         }
         let peptide = given(part, &part[0..0], position, decoy);
-        let tested = Tested::Passed;
+        let tested = Ok(());
         Made { tested, peptide }
     }
 
@@ -125,15 +125,15 @@ impl Peptide {
     pub fn reverse(self) -> Made
         ensures { result ≡ made_or (tested_peptide self) (reversed_peptide self) self }
     {
-        if let Tested::Refused(why) = tests::test_peptide(self) {
-            let tested = Tested::Refused(why);
+        if let Err(why) = tests::test_peptide(self) {
+            let tested = Err(why);
             return Made {
                 tested,
                 peptide: self,
             };
         }
         let peptide = turned(self);
-        let tested = Tested::Passed;
+        let tested = Ok(());
         Made { tested, peptide }
     }
 }

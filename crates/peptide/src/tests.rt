@@ -4,7 +4,7 @@ ghost use Rattle.peptide.specs.Peptides.{clear, tested_contents, tested_peptide}
 ghost use Rattle.peptide.specs.Forms.{tested_forms};
 
 use crate::making::Peptide;
-use records::{Refusal, Tested};
+use records::Refusal;
 
 // Whether the places past the length are 0, and the position is one.
 fn is_clear(p: Peptide) -> bool
@@ -19,7 +19,7 @@ fn is_clear(p: Peptide) -> bool
 }
 
 // The letters, then what lies past them.
-pub(crate) fn test_contents(p: Peptide) -> Tested
+pub(crate) fn test_contents(p: Peptide) -> Result<(), Refusal>
     requires { p.len ≤ 64 }
     ensures { result ≡ tested_contents p }
 {
@@ -27,39 +27,37 @@ pub(crate) fn test_contents(p: Peptide) -> Tested
     let letters = p.letters;
     let bad = letters::first_bad(&letters[0..n]);
     if bad < n {
-        return Tested::Refused(Refusal::Letter(bad));
+        return Err(Refusal::Letter(bad));
     }
     if is_clear(p) {
-        Tested::Passed
+        Ok(())
     } else {
-        Tested::Refused(Refusal::Field(0))
+        Err(Refusal::Field(0))
     }
 }
 
 // The tests of a peptide alone.
-pub(crate) fn test_peptide(p: Peptide) -> Tested
+pub(crate) fn test_peptide(p: Peptide) -> Result<(), Refusal>
     ensures { result ≡ tested_peptide p }
 {
     let n = p.len;
     if (n == 0) | (64 < n) {
-        return Tested::Refused(Refusal::Size);
+        return Err(Refusal::Size);
     }
     test_contents(p)
 }
 
 // The tests before forms are listed.
-pub(crate) fn test_forms(p: Peptide, variable: &[u8], fixed: &[u8], limit: u32) -> Tested
+pub(crate) fn test_forms(p: Peptide, variable: &[u8], fixed: &[u8], limit: u32) -> Result<(), Refusal>
     ensures { result ≡ tested_forms p variable.now fixed.now limit }
 {
     let n = p.len;
     if peptide_listing::too_large(n, variable, fixed, limit) {
-        return Tested::Refused(Refusal::Size);
+        return Err(Refusal::Size);
     }
     if peptide_listing::not_whole(variable, fixed) {
-        return Tested::Refused(Refusal::Length);
+        return Err(Refusal::Length);
     }
-    if let Tested::Refused(why) = test_contents(p) {
-        return Tested::Refused(why);
-    }
+    test_contents(p)?;
     peptide_listing::test_lists(variable, fixed)
 }

@@ -1,6 +1,6 @@
 -- What the tests of a digest come to, and what is known once they passed. Assumes nothing.
 use Prim.Native.Nat.{ℕ, ◌+◌, ◌-◌, ◌≤◌, ◌<◌}
-use Rattle.std.specs.Prelude.{◌≡◌, Bool, true, not, ◌&&◌, List, get_or, take, drop, Float}
+use Rattle.std.specs.Prelude.{◌≡◌, Bool, true, not, ◌&&◌, List, get_or, take, drop, Float, Err}
 use Rattle.std.proofs.Common.{ap, ◌∙◌, subst, arith, get_or-take, get_or-drop}
 use Rattle.std.proofs.Math.Bool.{false, cond}
 use Rattle.std.proofs.Math.ListN.{length}
@@ -10,11 +10,11 @@ use Rattle.peptide_mass.specs.Masses.{no_mass}
 use Rattle.peptide_digests.specs.DigestTests.{too_long, not_whole, unfit, first_unfit, tested_digest}
 use Rattle.lists.specs.Tests.{both, neither}
 use Rattle.records.specs.declared.refusal.Refusal.TheVariants.{Size, Letter, Length, Field}
-use Rattle.records.specs.declared.refusal.Tested.{Tested}
 use Rattle.records.specs.SearchLaws.{seek_before}
 use Rattle.records.specs.TestedLaws.{passed_first, passed-second}
 use Rattle.letters.specs.Letters.{is_letter}
 use Rattle.enzyme_keep.specs.Digests.{good_record, start_of, end_of, position_in}
+use Rattle.records.specs.Answers.{Passed, Tested}
 
 -- ---- the tests, one after the other
 
@@ -34,26 +34,26 @@ pub whole-masses : (r : List ℕ) (masses : List Float) → not_whole r masses �
 whole-masses r masses e = eqb-true (length masses) 26 (both (eqb (length r) 20) (eqb (length masses) 26) (not-false (eqb (length r) 20 && eqb (length masses) 26) e)).1
 
 module _ (s r : List ℕ) (masses : List Float) where
-  pub tested-digest-size : too_long s r ≡ true → Tested.Refused Size ≡ tested_digest s r masses
+  pub tested-digest-size : too_long s r ≡ true → Err Size ≡ tested_digest s r masses
   unfolding tested_digest
   tested-digest-size e = rw e
 
   module _ (sized : too_long s r ≡ false) where
-    pub tested-digest-length : not_whole r masses ≡ true → Tested.Refused Length ≡ tested_digest s r masses
+    pub tested-digest-length : not_whole r masses ≡ true → Err Length ≡ tested_digest s r masses
     unfolding tested_digest
     tested-digest-length e = rw (sized, e)
 
     module _ (whole : not_whole r masses ≡ false) (bad : ℕ) (first : bad ≡ first_unfit masses (start_of r) (end_of r) s) where
-      pub tested-digest_letter : bad < length s → Tested.Refused (Letter bad) ≡ tested_digest s r masses
+      pub tested-digest_letter : bad < length s → Err (Letter bad) ≡ tested_digest s r masses
       unfolding tested_digest
       tested-digest_letter h = rw (sized, whole, first, lt-ltb (first_unfit masses (start_of r) (end_of r) s) (length s) (subst (λ (x : ℕ). x < length s) first h))
 
       module _ (fit : length s ≤ bad) where
-        pub tested-digest-passed : (good_record r && leb (end_of r) (length s)) ≡ true → Tested.Passed ≡ tested_digest s r masses
+        pub tested-digest-passed : (good_record r && leb (end_of r) (length s)) ≡ true → Passed ≡ tested_digest s r masses
         unfolding tested_digest
         tested-digest-passed e = rw (sized, whole, le-ltb (first_unfit masses (start_of r) (end_of r) s) (length s) (subst (λ (x : ℕ). length s ≤ x) first fit), e)
 
-        pub tested-digest-field : (good_record r && leb (end_of r) (length s)) ≡ false → Tested.Refused (Field 0) ≡ tested_digest s r masses
+        pub tested-digest-field : (good_record r && leb (end_of r) (length s)) ≡ false → Err (Field 0) ≡ tested_digest s r masses
         unfolding tested_digest
         tested-digest-field e = rw (sized, whole, le-ltb (first_unfit masses (start_of r) (end_of r) s) (length s) (subst (λ (x : ℕ). length s ≤ x) first fit), e)
 
@@ -77,17 +77,17 @@ module _ (s r : List ℕ) (masses : List Float) where
     pub whole : length masses ≡ 26
     pub fit : (i : ℕ) → i < end_of r - start_of r → no_mass masses (get_or range_in i 0) ≡ false
 
-  pub passed_digestible : tested_digest s r masses ≡ Tested.Passed → Digestible
+  pub passed_digestible : tested_digest s r masses ≡ Passed → Digestible
   unfolding tested_digest first_unfit
   passed_digestible h =
       let bad : ℕ = first_unfit masses (start_of r) (end_of r) s in
-      let last : Tested = cond (good_record r && leb (end_of r) (length s)) Tested.Passed (Tested.Refused (Field 0)) in
-      let third : Tested = cond (ltb bad (length s)) (Tested.Refused (Letter bad)) last in
-      let second : Tested = cond (not_whole r masses) (Tested.Refused Length) third in
+      let last : Tested = cond (good_record r && leb (end_of r) (length s)) Passed (Err (Field 0)) in
+      let third : Tested = cond (ltb bad (length s)) (Err (Letter bad)) last in
+      let second : Tested = cond (not_whole r masses) (Err Length) third in
       let a = passed_first (too_long s r) Size second h in
       let b = passed_first (not_whole r masses) Length third a.1 in
       let c = passed_first (ltb bad (length s)) (Letter bad) last b.1 in
-      let d = passed-second (good_record r && leb (end_of r) (length s)) (Field 0) Tested.Passed c.1 in
+      let d = passed-second (good_record r && leb (end_of r) (length s)) (Field 0) Passed c.1 in
       let g = both (good_record r) (leb (end_of r) (length s)) d.0 in
       let f = first_and_fifth (ltb (start_of r) (end_of r)) (leb (end_of r) 65536) (leb (get_or r 8 0) 16) (leb (get_or r 9 0) 1) (leb (get_or r 10 0) 3) (leb (get_or r 11 0) 1) g.0 in
       record {

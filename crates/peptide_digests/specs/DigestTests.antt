@@ -1,11 +1,11 @@
 -- What a protein's letters, a digest's record and the masses must be to make a peptide: 1, 8, 2, 9.
-use Rattle.std.specs.Prelude.{ℕ, ◌+◌, Bool, cond, not, ◌&&◌, ◌||◌, List, length, get_or, leb, ltb, eqb, Float}
+use Rattle.std.specs.Prelude.{ℕ, ◌+◌, Bool, cond, not, ◌&&◌, ◌||◌, List, length, get_or, leb, ltb, eqb, Float, Err}
 use Rattle.peptide_mass.specs.Masses.{no_mass}
 use Rattle.records.specs.declared.refusal.Refusal.TheVariants.{Size, Letter, Length, Field}
-use Rattle.records.specs.declared.refusal.Tested.{Tested}
 use Rattle.records.specs.Search.{seek}
 use Rattle.letters.specs.Letters.{is_letter}
 use Rattle.enzyme_keep.specs.Digests.{start_of, end_of, good_record}
+use Rattle.records.specs.Answers.{Passed, Tested}
 
 -- 1: more letters than a protein has; of 20 bytes, a range of more than 64
 abbrev pub too_long : List ℕ → List ℕ → Bool
@@ -30,7 +30,7 @@ unfoldable pub tested_digest : List ℕ → List ℕ → List Float → Tested
 unfolding first_unfit
 tested_digest s r masses =
     let bad = first_unfit masses (start_of r) (end_of r) s in
-    cond (too_long s r) (Tested.Refused Size)
-    (cond (not_whole r masses) (Tested.Refused Length)
-    (cond (ltb bad (length s)) (Tested.Refused (Letter bad))
-    (cond (good_record r && leb (end_of r) (length s)) Tested.Passed (Tested.Refused (Field 0)))))
+    cond (too_long s r) (Err Size)
+    (cond (not_whole r masses) (Err Length)
+    (cond (ltb bad (length s)) (Err (Letter bad))
+    (cond (good_record r && leb (end_of r) (length s)) Passed (Err (Field 0)))))

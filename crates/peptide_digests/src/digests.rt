@@ -3,7 +3,7 @@ ghost use Rattle.std.specs.Prelude.{◌≡◌, length};
 ghost use Rattle.peptide_digests.specs.DigestTests.{too_long, not_whole, unfit, first_unfit, tested_digest};
 
 use enzyme_keep::is_good;
-use records::{Refusal, Tested};
+use records::Refusal;
 
 fn too_long(letters: &[u8], bytes: &[u8]) -> bool
     ensures { result ≡ too_long letters.now bytes.now }
@@ -48,24 +48,24 @@ fn first_unfit(letters: &[u8], masses: &[f32], start: usize, end: usize) -> usiz
 }
 
 // The tests of a digest that becomes a peptide.
-pub fn test_digest(letters: &[u8], bytes: &[u8], masses: &[f32]) -> Tested
+pub fn test_digest(letters: &[u8], bytes: &[u8], masses: &[f32]) -> Result<(), Refusal>
     ensures { result ≡ tested_digest letters.now bytes.now masses.now }
 {
     if too_long(letters, bytes) {
-        return Tested::Refused(Refusal::Size);
+        return Err(Refusal::Size);
     }
     if not_whole(bytes, masses) {
-        return Tested::Refused(Refusal::Length);
+        return Err(Refusal::Length);
     }
     let start = records::u32_at(bytes, 0) as usize;
     let end = records::u32_at(bytes, 4) as usize;
     let bad = first_unfit(letters, masses, start, end);
     if bad < letters.len() {
-        return Tested::Refused(Refusal::Letter(bad));
+        return Err(Refusal::Letter(bad));
     }
     if is_good(bytes) & (end <= letters.len()) {
-        Tested::Passed
+        Ok(())
     } else {
-        Tested::Refused(Refusal::Field(0))
+        Err(Refusal::Field(0))
     }
 }

@@ -1,5 +1,5 @@
 -- What the tests of lists come to. Assumes nothing.
-use Rattle.std.specs.Prelude.{ℕ, ◌/◌, ◌≤◌, ◌≡◌, true, false, cond, ◌||◌, List, length, ltb, eqb}
+use Rattle.std.specs.Prelude.{ℕ, ◌/◌, ◌≤◌, ◌≡◌, true, false, cond, ◌||◌, List, length, ltb, eqb, Err}
 use Rattle.std.proofs.Common.{sym, ◌∙◌}
 use Rattle.std.proofs.Math.Path.{ap}
 use borrow.Author.Tests.{ltb-false, eq-eqb, ne_eqb}
@@ -9,30 +9,30 @@ use Rattle.peptide_mass.specs.MassLaws.{size_fits}
 use Rattle.lists.specs.Tests.{neither}
 use Rattle.records.specs.declared.refusal.Refusal.{Refusal}
 use Rattle.records.specs.declared.refusal.Refusal.TheVariants.{Size, Length}
-use Rattle.records.specs.declared.refusal.Tested.{Tested}
 use Rattle.modification_rules.specs.Rules.{first_bad_rule}
 use Rattle.records.specs.Tested.{field_tested}
 use Rattle.records.specs.TestedLaws.{first_refuses, first_passes, passed_first}
+use Rattle.records.specs.Answers.{Passed, Tested}
 
 -- ---- letters and the form of their ids
 
 module _ (letters form : List ℕ) where
-  pub form-size : wrong_size (length letters) ≡ true → Tested.Refused Size ≡ tested_form letters form
+  pub form-size : wrong_size (length letters) ≡ true → Err Size ≡ tested_form letters form
   unfolding tested_form
   form-size e = rw e
 
   module _ (fits : wrong_size (length letters) ≡ false) where
-    pub form-length : (length form ≡ 66 → ⊥) → Tested.Refused Length ≡ tested_form letters form
+    pub form-length : (length form ≡ 66 → ⊥) → Err Length ≡ tested_form letters form
     unfolding tested_form
     form-length h = rw (fits, ne_eqb (length form) 66 h)
 
-    pub form-whole : length form ≡ 66 → Tested.Passed ≡ tested_form letters form
+    pub form-whole : length form ≡ 66 → Passed ≡ tested_form letters form
     unfolding tested_form
     form-whole h = rw (fits, eq-eqb (length form) 66 h)
 
-  pub form_sized : tested_form letters form ≡ Tested.Passed → wrong_size (length letters) ≡ false
+  pub form_sized : tested_form letters form ≡ Passed → wrong_size (length letters) ≡ false
   unfolding tested_form
-  form_sized h = (passed_first (wrong_size (length letters)) Size (cond (eqb (length form) 66) Tested.Passed (Tested.Refused Length)) h).0
+  form_sized h = (passed_first (wrong_size (length letters)) Size (cond (eqb (length form) 66) Passed (Err Length)) h).0
 
 -- ---- the records of both lists
 
@@ -43,11 +43,11 @@ module _ (variable fixed : List ℕ) (v : ℕ) (first : v ≡ first_bad_rule fal
   abbrev two : Tested
   two = field_tested (first_bad_rule true fixed) (length fixed / 8)
 
-  pub lists_variable : (why : Refusal) → field_tested v (length variable / 8) ≡ Tested.Refused why → Tested.Refused why ≡ tested_lists variable fixed
+  pub lists_variable : (why : Refusal) → field_tested v (length variable / 8) ≡ Err why → Err why ≡ tested_lists variable fixed
   unfolding tested_lists
   lists_variable why e = first_refuses one two why (ap (λ (x : ℕ). field_tested x (length variable / 8)) (sym first) ∙ e)
 
-  pub lists_fixed : field_tested v (length variable / 8) ≡ Tested.Passed → (f : ℕ) → f ≡ first_bad_rule true fixed → field_tested f (length fixed / 8) ≡ tested_lists variable fixed
+  pub lists_fixed : field_tested v (length variable / 8) ≡ Passed → (f : ℕ) → f ≡ first_bad_rule true fixed → field_tested f (length fixed / 8) ≡ tested_lists variable fixed
   unfolding tested_lists
   lists_fixed e f next = ap (λ (x : ℕ). field_tested x (length fixed / 8)) next ∙ first_passes one two (ap (λ (x : ℕ). field_tested x (length variable / 8)) (sym first) ∙ e)
 

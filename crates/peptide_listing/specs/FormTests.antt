@@ -1,16 +1,16 @@
 -- What lists must be: letters with the form of their ids, and the rules of a call of `forms`.
-use Rattle.std.specs.Prelude.{ℕ, ◌/◌, ◌%◌, Bool, true, false, cond, not, ◌&&◌, ◌||◌, List, length, ltb, eqb}
+use Rattle.std.specs.Prelude.{ℕ, ◌/◌, ◌%◌, Bool, true, false, cond, not, ◌&&◌, ◌||◌, List, length, ltb, eqb, Err}
 use Rattle.records.specs.declared.refusal.Refusal.TheVariants.{Size, Length}
-use Rattle.records.specs.declared.refusal.Tested.{Tested}
 use Rattle.modification_rules.specs.Rules.{first_bad_rule, most_rules}
 use Rattle.records.specs.Tested.{and_then, field_tested}
 use Rattle.peptide_mass.specs.Masses.{wrong_size}
+use Rattle.records.specs.Answers.{Passed, Tested}
 
 -- letters and the form of their ids: 1, then 8: the form is not one record
 unfoldable pub tested_form : List ℕ → List ℕ → Tested
 tested_form letters form =
-    cond (wrong_size (length letters)) (Tested.Refused Size)
-    (cond (eqb (length form) 66) Tested.Passed (Tested.Refused Length))
+    cond (wrong_size (length letters)) (Err Size)
+    (cond (eqb (length form) 66) Passed (Err Length))
 
 -- ---- rules
 

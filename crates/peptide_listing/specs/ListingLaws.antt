@@ -1,5 +1,5 @@
 -- From what the listing has written to its answer. Assumes nothing.
-use Rattle.std.specs.Prelude.{ℕ, ◌/◌, ◌≤◌, ◌≡◌, Bool, true, false, cond, List, [], ◌∷◌, map, length}
+use Rattle.std.specs.Prelude.{ℕ, ◌/◌, ◌≤◌, ◌≡◌, Bool, true, false, cond, List, [], ◌∷◌, map, length, Ok, Err}
 use Rattle.std.proofs.Math.Path.{refl}
 use Rattle.std.proofs.Common.{sym, ap, ◌∙◌, subst, arith, leb-true}
 use Rattle.std.proofs.lemmas.List.Edits.{sets}
@@ -17,7 +17,7 @@ use Rattle.peptide_forms.specs.Passing.{packed_passes}
 use Rattle.peptide_forms.specs.Enumeration.{most_forms}
 use Rattle.peptide_forms.specs.Packed.{packed_choices, packed_chosen}
 use Rattle.peptide_forms.specs.RunLaws.{todo, quick, length-quick, Finished}
-use Rattle.records.specs.declared.refusal.Counted.{Counted}
+use Rattle.records.specs.Answers.{Counted}
 
 module _ (old form table sites rules : List ℕ) (limit cap : ℕ) (wide : length form ≡ 66) where
   abbrev made : List ℕ → List ℕ
@@ -37,10 +37,10 @@ module _ (old form table sites rules : List ℕ) (limit cap : ℕ) (wide : lengt
   all_is = refl
 
   -- not even one has room
-  pub list_full : room_of 66 most_forms old ≡ 0 → outcome (Counted.Refused Room) (old ∷ []) ≡ counted 66 most_forms old (map made (packed_choices sites rules limit cap))
+  pub list_full : room_of 66 most_forms old ≡ 0 → outcome (Err Room) (old ∷ []) ≡ counted 66 most_forms old (map made (packed_choices sites rules limit cap))
   list_full e =
       let d = standing_full 66 most_forms old all all_sized (made []) rest old 0 (standing-none 66 most_forms old all all_sized) (omega arith) in
-      rw (all_is, d.1) (ap (λ (z : List ℕ). outcome (Counted.Refused Room) (z ∷ [])) d.0)
+      rw (all_is, d.1) (ap (λ (z : List ℕ). outcome (Err Room) (z ∷ [])) d.0)
 
   module _ (slots mid new : List ℕ) (room : ℕ) (r : Listed) (is : room ≡ room_of 66 most_forms old) (some : 1 ≤ room) (bare_is : slots ≡ overlay table form) (stored : mid ≡ sets old 0 slots) (done : Finished room rest mid new r) where
     first_is : slots ≡ made []
@@ -51,13 +51,13 @@ module _ (old form table sites rules : List ℕ) (limit cap : ℕ) (wide : lengt
     begun = subst (λ (z : List ℕ). Standing 66 most_forms old all rest z 1) (sym (stored ∙ ap (sets old 0) first_is)) (standing-more 66 most_forms old all all_sized (made []) rest old 0 (standing-none 66 most_forms old all all_sized) (omega arith))
 
     -- the first form stands, and the run has written what fits of the others
-    pub list_done : (b : Bool) → r.fits ≡ b → outcome (cond b (Counted.Count r.count) (Counted.Refused Room)) (new ∷ []) ≡ counted 66 most_forms old (map made (packed_choices sites rules limit cap))
+    pub list_done : (b : Bool) → r.fits ≡ b → outcome (cond b (Ok r.count) (Err Room)) (new ∷ []) ≡ counted 66 most_forms old (map made (packed_choices sites rules limit cap))
     list_done b e =
         let d = done.ends old all is all_sized begun in
-        rw (all_is, ← d.1, e) (go b e ∙ ap (λ (z : List ℕ). outcome (cond b (Counted.Count (length all)) (Counted.Refused Room)) (z ∷ [])) d.0)
+        rw (all_is, ← d.1, e) (go b e ∙ ap (λ (z : List ℕ). outcome (cond b (Ok (length all)) (Err Room)) (z ∷ [])) d.0)
       where
-        go : (t : Bool) → r.fits ≡ t → outcome (cond t (Counted.Count r.count) (Counted.Refused Room)) (new ∷ []) ≡ outcome (cond t (Counted.Count (length all)) (Counted.Refused Room)) (new ∷ [])
-        go true q = ap (λ (n : ℕ). outcome (Counted.Count n) (new ∷ [])) ((done.ends old all is all_sized begun).2 q)
+        go : (t : Bool) → r.fits ≡ t → outcome (cond t (Ok r.count) (Err Room)) (new ∷ []) ≡ outcome (cond t (Ok (length all)) (Err Room)) (new ∷ [])
+        go true q = ap (λ (n : ℕ). outcome (Ok n) (new ∷ [])) ((done.ends old all is all_sized begun).2 q)
         go false q = refl
 
     -- all that are written are few

@@ -9,7 +9,7 @@ ghost use Rattle.records.specs.Room.{counted};
 ghost use Rattle.peptide_forms.specs.Enumeration.{most_forms};
 
 use peptide_slots::Form;
-use records::{Counted, Refusal};
+use records::Refusal;
 
 // What the fixed rules put into an empty form.
 pub fn fixed_table(letters: [u8; 64], n: usize, position: u8, fixed: &[u8]) -> Form
@@ -31,21 +31,21 @@ pub fn list_all(
     limit: usize,
     cap: u32,
     out: &mut [u8],
-) -> Counted
+) -> Result<u32, Refusal>
     requires { limit ≤ 8 }
     ensures { outcome result (out.new ∷ []) ≡ counted 66 most_forms out.old (map (quick bare.slots table.slots sites.now rules.now) (packed_choices sites.now rules.now limit cap)) }
 {
     let most = cap as usize;
     let room = records::room_for(out.len(), 66, 1048576);
     if room == 0 {
-        return Counted::Refused(Refusal::Room);
+        return Err(Refusal::Room);
     }
     let first = peptide_slots::overlaid(table, bare);
     peptide_slots::put_form(first, out, 0);
     let r = peptide_forms::list_forms(bare, table, sites, rules, limit, most, room, out);
     if r.fits {
         let count = r.count as u32;
-        return Counted::Count(count);
+        return Ok(count);
     }
-    Counted::Refused(Refusal::Room)
+    Err(Refusal::Room)
 }

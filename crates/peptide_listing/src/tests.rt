@@ -2,20 +2,20 @@
 ghost use Rattle.std.specs.Prelude.{◌≡◌};
 ghost use Rattle.peptide_listing.specs.FormTests.{tested_form, too_large, not_whole, tested_lists};
 
-use records::{Refusal, Tested};
+use records::Refusal;
 
 // Whether letters are a peptide's in number, and the form of their ids is one record.
-pub fn test_form(letters: &[u8], form: &[u8]) -> Tested
+pub fn test_form(letters: &[u8], form: &[u8]) -> Result<(), Refusal>
     ensures { result ≡ tested_form letters.now form.now }
 {
     let n = letters.len();
     if (n == 0) | (64 < n) {
-        return Tested::Refused(Refusal::Size);
+        return Err(Refusal::Size);
     }
     if form.len() != 66 {
-        return Tested::Refused(Refusal::Length);
+        return Err(Refusal::Length);
     }
-    Tested::Passed
+    Ok(())
 }
 
 pub fn too_large(len: u8, variable: &[u8], fixed: &[u8], limit: u32) -> bool
@@ -31,13 +31,11 @@ pub fn not_whole(variable: &[u8], fixed: &[u8]) -> bool
 }
 
 // The records of the variable rules, then of the fixed ones.
-pub fn test_lists(variable: &[u8], fixed: &[u8]) -> Tested
+pub fn test_lists(variable: &[u8], fixed: &[u8]) -> Result<(), Refusal>
     ensures { result ≡ tested_lists variable.now fixed.now }
 {
     let v = modification_rules::first_bad_rule(variable, false);
-    if let Tested::Refused(why) = records::field_tested(v, variable.len() / 8) {
-        return Tested::Refused(why);
-    }
+    records::field_tested(v, variable.len() / 8)?;
     let f = modification_rules::first_bad_rule(fixed, true);
     records::field_tested(f, fixed.len() / 8)
 }

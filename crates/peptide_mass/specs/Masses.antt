@@ -1,15 +1,18 @@
 -- Document 01: "Base mass: water, then each residue's mass, added left to right in f32, one rounding for each addition." Of the
 -- letters 2 is said "in a peptide also [of] a letter of mass zero": minus zero counts, not-a-number does not. Document 02, [2]: "the
 -- zero-mass test reads the capital's entry".
-use Rattle.std.specs.Prelude.{ℕ, ◌-◌, Bool, false, cond, not, ◌||◌, List, [], ◌∷◌, length, get_or, leb, ltb, eqb, pos, Float}
+use Rattle.std.specs.Prelude.{ℕ, ◌-◌, Bool, false, cond, not, ◌||◌, List, [], ◌∷◌, length, get_or, leb, ltb, eqb, pos, Float, Result, Ok, Err}
 use Rattle.std.specs.Float.{nan, fin, binary32}
 use Rattle.std.specs.Float.Ieee.{add, eq}
-use Rattle.peptide_mass.specs.declared.mass.Weighed.{Weighed}
 use Rattle.records.specs.declared.refusal.Refusal.TheVariants.{Size, Letter, Length, Field}
-use Rattle.records.specs.declared.refusal.Tested.{Tested}
 use Rattle.records.specs.Search.{seek}
 use Rattle.letters.specs.Letters.{capital, is_letter}
 use Rattle.records.specs.Tested.{and_then}
+use Rattle.records.specs.Answers.{Passed, Tested}
+
+-- what it answers, or why not
+abbrev pub Weighed : Type 0
+Weighed = Result Float Refusal
 
 -- the mass of a letter, of the 26 from A on: that of its capital
 abbrev pub mass_of : List Float → ℕ → Float
@@ -40,21 +43,21 @@ first_no_mass masses letters = seek (λ (i : ℕ). no_mass masses (get_or letter
 unfoldable pub tested_letters : List ℕ → List Float → Tested
 unfolding first_no_mass
 tested_letters letters masses =
-    cond (wrong_size (length letters)) (Tested.Refused Size)
-    (cond (not (eqb (length masses) 26)) (Tested.Refused Length)
-    (cond (ltb (first_no_mass masses letters) (length letters)) (Tested.Refused (Letter (first_no_mass masses letters)))
-    Tested.Passed))
+    cond (wrong_size (length letters)) (Err Size)
+    (cond (not (eqb (length masses) 26)) (Err Length)
+    (cond (ltb (first_no_mass masses letters) (length letters)) (Err (Letter (first_no_mass masses letters)))
+    Passed))
 
 -- and 9: the position is none of the four
 unfoldable pub tested_part : List ℕ → List Float → ℕ → Tested
 unfolding tested_letters
-tested_part letters masses position = and_then (tested_letters letters masses) (cond (leb position 3) Tested.Passed (Tested.Refused (Field 0)))
+tested_part letters masses position = and_then (tested_letters letters masses) (cond (leb position 3) Passed (Err (Field 0)))
 
 -- ---- the answer
 
 abbrev pub weighed_or : Tested → Float → Weighed
-weighed_or Tested.Passed mass = Weighed.Mass mass
-weighed_or (Tested.Refused why) mass = Weighed.Refused why
+weighed_or (Ok _) mass = Ok mass
+weighed_or (Err why) mass = Err why
 
 unfoldable pub weighed : List ℕ → List Float → Float → Weighed
 unfolding tested_letters add_all

@@ -3,4 +3,4 @@
 
 mod mass;
 
-pub use mass::{Weighed, base_mass, has_no_mass, test_part};
+pub use mass::{base_mass, has_no_mass, test_part};

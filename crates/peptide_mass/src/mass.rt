@@ -3,13 +3,7 @@ ghost use Rattle.std.specs.Prelude.{◌≡◌, ℕ, ◌≤◌, ◌<◌, length, 
 ghost use Rattle.peptide_mass.specs.Masses.{no_mass, first_no_mass, add_all, tested_letters, tested_part, weighed};
 ghost use Rattle.letters.specs.Letters.{capital, is_letter};
 
-use records::{Refusal, Tested};
-
-#[derive(Clone, Copy)]
-pub enum Weighed {
-    Mass(f32),
-    Refused(Refusal),
-}
+use records::Refusal;
 
 // Whether a byte is no letter, or one of mass zero.
 pub fn has_no_mass(masses: &[f32], b: u8) -> bool
@@ -39,34 +33,32 @@ fn first_no_mass(letters: &[u8], masses: &[f32]) -> usize
 }
 
 // The tests of letters that are weighed.
-fn test_letters(letters: &[u8], masses: &[f32]) -> Tested
+fn test_letters(letters: &[u8], masses: &[f32]) -> Result<(), Refusal>
     ensures { result ≡ tested_letters letters.now masses.now }
 {
     let n = letters.len();
     if (n == 0) | (64 < n) {
-        return Tested::Refused(Refusal::Size);
+        return Err(Refusal::Size);
     }
     if masses.len() != 26 {
-        return Tested::Refused(Refusal::Length);
+        return Err(Refusal::Length);
     }
     let bad = first_no_mass(letters, masses);
     if bad < n {
-        return Tested::Refused(Refusal::Letter(bad));
+        return Err(Refusal::Letter(bad));
     }
-    Tested::Passed
+    Ok(())
 }
 
 // The tests of a part of a protein that becomes a peptide.
-pub fn test_part(part: &[u8], masses: &[f32], position: u8) -> Tested
+pub fn test_part(part: &[u8], masses: &[f32], position: u8) -> Result<(), Refusal>
     ensures { result ≡ tested_part part.now masses.now position }
 {
-    if let Tested::Refused(why) = test_letters(part, masses) {
-        return Tested::Refused(why);
-    }
+    test_letters(part, masses)?;
     if position <= 3 {
-        Tested::Passed
+        Ok(())
     } else {
-        Tested::Refused(Refusal::Field(0))
+        Err(Refusal::Field(0))
     }
 }
 
@@ -87,11 +79,9 @@ fn sum(letters: &[u8], masses: &[f32], water: f32) -> f32
 }
 
 // The base mass of a peptide's letters, with the masses of A to Z.
-pub fn base_mass(letters: &[u8], masses: &[f32], water: f32) -> Weighed
+pub fn base_mass(letters: &[u8], masses: &[f32], water: f32) -> Result<f32, Refusal>
     ensures { result ≡ weighed letters.now masses.now water }
 {
-    if let Tested::Refused(why) = test_letters(letters, masses) {
-        return Weighed::Refused(why);
-    }
-    Weighed::Mass(sum(letters, masses, water))
+    test_letters(letters, masses)?;
+    Ok(sum(letters, masses, water))
 }

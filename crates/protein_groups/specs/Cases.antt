@@ -1,6 +1,6 @@
 -- Document 01, "Groups and cover": worked cases, proved of the definitions. A case is the answer's numbers and then each lent slice:
 -- work memory, edges, members.
-use Rattle.std.specs.Prelude.{ℕ, refl, replicate}
+use Rattle.std.specs.Prelude.{ℕ, refl, replicate, Ok, Err}
 use mathlib.Core.List.{List, [], ◌∷◌, ◌++◌, flatten, map}
 use Rattle.protein_groups_tests.specs.Testing.{first_bad_pair, first_bad_flag}
 use Rattle.records.specs.Le.{le, number_at}
@@ -12,17 +12,15 @@ use Rattle.records.specs.Search.{seek}
 use Rattle.cover_edges.specs.Edges.{edge_bytes}
 use Rattle.protein_groups_members.specs.Members.{member_bytes}
 use Rattle.protein_groups_spec.specs.ProteinGroups.{proteins, metas, groups_of, grouping}
-use Rattle.protein_groups.specs.declared.grouping.Grouped.{Grouped}
-use Rattle.protein_groups.specs.declared.grouping.Grouped.TheVariants.{Made, Refused}
-use Rattle.protein_groups.specs.ProteinGrouping.{protein_groups_outcome}
+use Rattle.protein_groups.specs.ProteinGrouping.{Grouped, protein_groups_outcome}
 
 -- groups, meta-peptides, edges, members; refusal 0 is none
 abbrev pub made : ℕ → ℕ → ℕ → ℕ → List ℕ
 made groups metas edges members = 0 ∷ 0 ∷ groups ∷ metas ∷ edges ∷ members ∷ []
 
 abbrev pub grouped_numbers : Grouped → List ℕ
-grouped_numbers (Made s) = made s.groups s.metas s.edges s.members
-grouped_numbers (Refused why) = refused_as (number_of why) (place_of why)
+grouped_numbers (Ok s) = made s.groups s.metas s.edges s.members
+grouped_numbers (Err why) = refused_as (number_of why) (place_of why)
 
 abbrev pub grouped_told : Outcome Grouped → List (List ℕ)
 grouped_told o = grouped_numbers o.answer ∷ o.lent

@@ -1,5 +1,5 @@
 -- From placed pairs to what the call leaves. Assumes nothing.
-use Rattle.std.specs.Prelude.{ℕ, ◌+◌, ◌*◌, ◌/◌, ◌≤◌, min, ◌≡◌, cond, ◌&&◌, List, [], ◌∷◌, map, length, replicate, leb}
+use Rattle.std.specs.Prelude.{ℕ, ◌+◌, ◌*◌, ◌/◌, ◌≤◌, min, ◌≡◌, cond, ◌&&◌, List, [], ◌∷◌, map, length, replicate, leb, Ok, Err}
 use Rattle.std.proofs.Common.{◌∙◌, inl, arith}
 use Rattle.std.proofs.lemmas.List.{length-map, length-replicate, get_or-replicate}
 use Rattle.std.proofs.Math.Seq.{slice}
@@ -17,9 +17,7 @@ use Rattle.protein_groups_spec.specs.WholeLaws.{peptides_of}
 use Rattle.protein_groups_tables.specs.Placed.{keys_at, Placeable, GroupingFits}
 use Rattle.protein_groups_spec.proofs.PackingLaws.{packed-grouping}
 use Rattle.protein_groups.specs.declared.arranging.Stands.{Stands}
-use Rattle.protein_groups.specs.declared.grouping.Grouped.{Grouped}
-use Rattle.protein_groups.specs.declared.grouping.Grouped.TheVariants.{Made, Refused as No}
-use Rattle.protein_groups.specs.ProteinGrouping.{proteins_grouped}
+use Rattle.protein_groups.specs.ProteinGrouping.{Grouped, proteins_grouped}
 use Rattle.protein_groups.specs.Steps.{Writable, edges_standing, members_standing, Handed}
 use Rattle.protein_groups.specs.ProteinGroupingLaws.{left-listed}
 
@@ -85,7 +83,7 @@ pub left-made : (pairs flags : List ℕ) (peptides proteins words : ℕ) → Pai
     → edges_standing s w ≡ (packed_grouping flags peptides (pairs_in pairs)).edges → members_standing s w ≡ (packed_grouping flags peptides (pairs_in pairs)).members
     → groups ≡ (packed_grouping flags peptides (pairs_in pairs)).groups → metas ≡ (packed_grouping flags peptides (pairs_in pairs)).metas
     → Handed w edges members s w' edges' members' → length w ≡ length work
-    → r ≡ cond (leb s.edges (min (length edges / 8) 1048576) && leb s.members (min (length members / 12) 131072)) (Made (record { groups = groups; metas = metas; edges = s.edges; members = s.members })) (No Room)
+    → r ≡ cond (leb s.edges (min (length edges / 8) 1048576) && leb s.members (min (length members / 12) 131072)) (Ok (record { groups = groups; metas = metas; edges = s.edges; members = s.members })) (Err Room)
     → outcome r (w' ∷ edges' ∷ members' ∷ []) ≡ proteins_grouped (grouping flags peptides (pairs_in pairs)) work edges members
 left-made pairs flags peptides proteins words ready work edges members w w' edges' members' s groups metas r p q g m h same answer =
     let x : length (edges_standing s w) ≡ s.edges = length-map (up_from 0 s.edges) (standing_edge w s.metas s.groups) ∙ length_up 0 s.edges in

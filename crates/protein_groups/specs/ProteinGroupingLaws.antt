@@ -1,5 +1,5 @@
 -- What the answer of a grouping is. Assumes nothing.
-use Rattle.std.specs.Prelude.{ℕ, zero, suc, ◌/◌, min, ◌≡◌, refl, true, cond, ◌&&◌, length, replicate, leb}
+use Rattle.std.specs.Prelude.{ℕ, zero, suc, ◌/◌, min, ◌≡◌, refl, true, cond, ◌&&◌, length, replicate, leb, Ok, Err}
 use Rattle.std.proofs.Common.{sym, ap, ◌∙◌, arith, le-leb}
 use mathlib.Core.List.{List, [], ◌∷◌, flatten, map}
 use Rattle.std.proofs.lemmas.List.{length-map}
@@ -13,16 +13,14 @@ use Rattle.cover_spec.specs.Cover.{Edge}
 use Rattle.cover_edges.specs.Edges.{edge_bytes}
 use Rattle.protein_groups_members.specs.Members.{Member, member_bytes}
 use Rattle.protein_groups_spec.specs.ProteinGroups.{Groups, shown, paired, proteins, metas, groups_of, grouping}
-use Rattle.protein_groups.specs.declared.grouping.Grouped.{Grouped}
-use Rattle.protein_groups.specs.declared.grouping.Grouped.TheVariants.{Made, Refused as No}
-use Rattle.protein_groups.specs.ProteinGrouping.{proteins_grouped}
+use Rattle.protein_groups.specs.ProteinGrouping.{Grouped, proteins_grouped}
 
 -- ---- the answer
 
 module _ (g : Groups) (work edges members : List ℕ) where
   pub left-listed : (es : List Edge) (ms : List Member) (groups metas e m : ℕ) (r : Grouped) → es ≡ g.edges → ms ≡ g.members → groups ≡ g.groups → metas ≡ g.metas
       → length es ≡ e → length ms ≡ m
-      → r ≡ cond (leb e (min (length edges / 8) 1048576) && leb m (min (length members / 12) 131072)) (Made (record { groups = groups; metas = metas; edges = e; members = m })) (No Room)
+      → r ≡ cond (leb e (min (length edges / 8) 1048576) && leb m (min (length members / 12) 131072)) (Ok (record { groups = groups; metas = metas; edges = e; members = m })) (Err Room)
       → outcome r (replicate (length work) 0 ∷ fitted 8 1048576 edges (map edge_bytes es) ∷ fitted 12 131072 members (map member_bytes ms) ∷ []) ≡ proteins_grouped g work edges members
   left-listed es ms groups metas e m r p q s t u v a =
       let x : length (map edge_bytes g.edges) ≡ e = length-map g.edges edge_bytes ∙ sym (ap length p) ∙ u in
@@ -48,7 +46,7 @@ unfolding grouping proteins metas groups_of flatten
 none_grouped flags peptides = rw (none-shown flags 0 peptides, none-take 0 peptides)
 
 pub none-listed : (flags : List ℕ) (peptides : ℕ) (work edges members : List ℕ)
-    → outcome (Made (record { groups = 0; metas = 0; edges = 0; members = 0 })) (replicate (length work) 0 ∷ edges ∷ members ∷ []) ≡ proteins_grouped (grouping flags peptides []) work edges members
+    → outcome (Ok (record { groups = 0; metas = 0; edges = 0; members = 0 })) (replicate (length work) 0 ∷ edges ∷ members ∷ []) ≡ proteins_grouped (grouping flags peptides []) work edges members
 none-listed flags peptides work edges members =
     let x : leb 0 (room_of 8 1048576 edges) ≡ true = le-leb 0 (room_of 8 1048576 edges) (omega arith) in
     let y : leb 0 (room_of 12 131072 members) ≡ true = le-leb 0 (room_of 12 131072 members) (omega arith) in

@@ -8,7 +8,6 @@ use Rattle.protein_groups_tests.specs.TestingLaws.{PairsReady, pairs_ready}
 use Rattle.lists.specs.Lists.{In, up_from, bit}
 use Rattle.lists.specs.RowLaws.{length_up, up_in}
 use Rattle.lists.specs.InLaws.{map_in}
-use Rattle.records.specs.declared.refusal.Tested.TheVariants.{Passed}
 use Rattle.cover_spec.specs.Cover.{Edge, group, meta, of_group, of_meta}
 use Rattle.cover_edges.specs.Edges.{edge_bytes, first_bad_edge}
 use Rattle.cover_edges.specs.BackLaws.{edges-accepted}
@@ -21,6 +20,7 @@ use Rattle.protein_groups_spec.proofs.PackingLaws.{packed-grouping}
 use Rattle.protein_groups_spec.proofs.TheoremLaws.{all_members}
 use Rattle.protein_groups_spec.proofs.GroupingLaws as laws
 use Rattle.protein_groups_spec.proofs.SizeLaws.{few_groups, few_metas, few_edges, few_members}
+use Rattle.records.specs.Answers.{Passed}
 
 module _ (pairs flags : List ℕ) (peptides proteins words : ℕ) (p : tested pairs flags peptides proteins words ≡ Passed) where
   -- its pairs, and their grouping

@@ -8,7 +8,7 @@ ghost use Rattle.protein_groups.specs.ProteinGrouping.{proteins_grouped, protein
 use crate::arranging::{Stands, hand_out, set_up};
 use protein_groups_tables::{group_in, keys_at};
 use protein_groups_tests::tested;
-use records::{Refusal, Tested, clear, room_for};
+use records::{Refusal, clear, room_for};
 
 // How many groups, meta-peptides, edges and members there are.
 #[derive(Clone, Copy)]
@@ -19,31 +19,24 @@ pub struct Sizes {
     pub members: u32,
 }
 
-// What a call answers.
-#[derive(Clone, Copy)]
-pub enum Grouped {
-    Made(Sizes),
-    Refused(Refusal),
-}
-
 // The sizes, or that a list has no room for all.
-fn answer(groups: u32, metas: u32, e: usize, m: usize, edges: usize, members: usize) -> Grouped
+fn answer(groups: u32, metas: u32, e: usize, m: usize, edges: usize, members: usize) -> Result<Sizes, Refusal>
     requires { (e ≤ 1048576) × (m ≤ 131072) }
-    ensures { result ≡ cond (leb e (min (edges / 8) 1048576) && leb m (min (members / 12) 131072)) (Grouped.Made (record { groups = groups; metas = metas; edges = e; members = m })) (Grouped.Refused Refusal.Room) }
+    ensures { result ≡ cond (leb e (min (edges / 8) 1048576) && leb m (min (members / 12) 131072)) (Ok (record { groups = groups; metas = metas; edges = e; members = m })) (Err Refusal.Room) }
 {
     let most = room_for(edges, 8, 1048576);
     let last = room_for(members, 12, 131072);
     if (e <= most) & (m <= last) {
         let edges = e as u32;
         let members = m as u32;
-        Grouped::Made(Sizes {
+        Ok(Sizes {
             groups,
             metas,
             edges,
             members,
         })
     } else {
-        Grouped::Refused(Refusal::Room)
+        Err(Refusal::Room)
     }
 }
 
@@ -56,7 +49,7 @@ fn group_some(
     work: &mut [u32],
     edges: &mut [u8],
     members: &mut [u8],
-) -> Grouped
+) -> Result<Sizes, Refusal>
     requires { PairsReady pairs.now flags.now peptides proteins (length work.old) × (8 ≤ length pairs.now) }
     ensures { outcome result (work.new ∷ edges.new ∷ members.new ∷ []) ≡ proteins_grouped (grouping flags.now peptides (pairs_in pairs.now)) work.old edges.old members.old }
 {
@@ -96,13 +89,13 @@ fn group_passed(
     work: &mut [u32],
     edges: &mut [u8],
     members: &mut [u8],
-) -> Grouped
+) -> Result<Sizes, Refusal>
     requires { PairsReady pairs.now flags.now peptides proteins (length work.old) }
     ensures { outcome result (work.new ∷ edges.new ∷ members.new ∷ []) ≡ proteins_grouped (grouping flags.now peptides (pairs_in pairs.now)) work.old edges.old members.old }
 {
     if pairs.len() < 8 {
         clear(work);
-        return Grouped::Made(Sizes {
+        return Ok(Sizes {
             groups: 0,
             metas: 0,
             edges: 0,
@@ -122,12 +115,9 @@ pub fn group_proteins(
     work: &mut [u32],
     edges: &mut [u8],
     members: &mut [u8],
-) -> Grouped
+) -> Result<Sizes, Refusal>
     ensures { outcome result (work.new ∷ edges.new ∷ members.new ∷ []) ≡ protein_groups_outcome pairs.now flags.now peptides proteins work.old edges.old members.old }
 {
-    let found = tested(pairs, flags, peptides, proteins, work.len());
-    match found {
-        Tested::Refused(why) => Grouped::Refused(why),
-        Tested::Passed => group_passed(pairs, flags, peptides, proteins, work, edges, members),
-    }
+    tested(pairs, flags, peptides, proteins, work.len())?;
+    group_passed(pairs, flags, peptides, proteins, work, edges, members)
 }

@@ -4,4 +4,4 @@
 mod arranging;
 mod grouping;
 
-pub use grouping::{Grouped, Sizes, group_proteins};
+pub use grouping::{Sizes, group_proteins};

@@ -1,11 +1,10 @@
 -- What the tests of a grouping answer.
-use Rattle.std.specs.Prelude.{ℕ, ◌+◌, ◌*◌, ◌/◌, ◌%◌, Bool, cond, not, ◌&&◌, ◌||◌, List, length, get_or, leb, ltb, eqb}
+use Rattle.std.specs.Prelude.{ℕ, ◌+◌, ◌*◌, ◌/◌, ◌%◌, Bool, cond, not, ◌&&◌, ◌||◌, List, length, get_or, leb, ltb, eqb, Err}
 use Rattle.records.specs.declared.refusal.Refusal.TheVariants.{Size, Length, Work}
-use Rattle.records.specs.declared.refusal.Tested.{Tested}
-use Rattle.records.specs.declared.refusal.Tested.TheVariants.{Refused}
 use Rattle.records.specs.Search.{seek}
 use Rattle.records.specs.Tested.{and_then, field_tested}
 use Rattle.protein_groups_spec.specs.ProteinGroups.{Pair, pair_at}
+use Rattle.records.specs.Answers.{Tested}
 
 -- 1: more than 1,048,576 pairs, counted in whole records, 262,144 peptides or 65,536 proteins
 abbrev pub too_large : List ℕ → ℕ → ℕ → Bool
@@ -42,7 +41,7 @@ flags_tested flags = field_tested (first_bad_flag flags) (length flags)
 
 abbrev pub tested : List ℕ → List ℕ → ℕ → ℕ → ℕ → Tested
 tested pairs flags peptides proteins words =
-    cond (too_large pairs peptides proteins) (Refused Size)
-    (cond (uneven pairs flags peptides) (Refused Length)
-    (cond (ltb words (needed pairs peptides proteins)) (Refused Work)
+    cond (too_large pairs peptides proteins) (Err Size)
+    (cond (uneven pairs flags peptides) (Err Length)
+    (cond (ltb words (needed pairs peptides proteins)) (Err Work)
     (and_then (pairs_tested pairs peptides proteins) (flags_tested flags))))

@@ -5,11 +5,11 @@ use Rattle.std.proofs.Math.ListN.{get_or-eq_default}
 use Rattle.protein_groups_tests.specs.Testing.{too_large, uneven, needed, first_bad_pair, first_bad_flag, pairs_tested, flags_tested, tested}
 use Rattle.lists.specs.Tests.{below?, neither}
 use Rattle.records.specs.declared.refusal.Refusal.TheVariants.{Size, Length, Work}
-use Rattle.records.specs.declared.refusal.Tested.TheVariants.{Passed}
 use Rattle.records.specs.TestedLaws.{passed-both, passed_first, passed-field}
 use Rattle.cover_edges.specs.Edges.{first_bad_edge, first_bad_mark}
 use Rattle.cover_edges.specs.RangeLaws.{in_range, all_bits}
 use Rattle.protein_groups_spec.specs.ProteinGroups.{proteins, pair_at}
+use Rattle.records.specs.Answers.{Passed}
 
 -- what is known where the tests passed
 pub record PairsReady (pairs flags : List ℕ) (peptides proteins words : ℕ) : Type 0 where

@@ -4,7 +4,7 @@ ghost use Rattle.protein_groups_tests.specs.Testing.{too_large, uneven, needed, 
 ghost use Rattle.records.specs.Tested.{and_then};
 
 use cover_edges::{first_bad_edge, first_bad_mark};
-use records::{Refusal, Tested, and_then, field_tested};
+use records::{Refusal, and_then, field_tested};
 
 fn too_large(pairs: &[u8], peptides: u32, proteins: u32) -> bool
     ensures { result ≡ too_large pairs.now peptides proteins }
@@ -28,7 +28,7 @@ fn work_needed(pairs: &[u8], peptides: u32, proteins: u32) -> usize
     8 * left + 4 * right + 6 * (pairs.len() / 8)
 }
 
-fn pairs_tested(pairs: &[u8], peptides: u32, proteins: u32) -> Tested
+fn pairs_tested(pairs: &[u8], peptides: u32, proteins: u32) -> Result<(), Refusal>
     requires { too_large pairs.now peptides proteins ≡ false }
     ensures { result ≡ pairs_tested pairs.now peptides proteins }
 {
@@ -39,7 +39,7 @@ fn pairs_tested(pairs: &[u8], peptides: u32, proteins: u32) -> Tested
     field_tested(bad, n)
 }
 
-fn flags_tested(flags: &[u8]) -> Tested
+fn flags_tested(flags: &[u8]) -> Result<(), Refusal>
     ensures { result ≡ flags_tested flags.now }
 {
     let bad = first_bad_mark(flags);
@@ -47,7 +47,7 @@ fn flags_tested(flags: &[u8]) -> Tested
 }
 
 // The pairs, and then the flags.
-fn contents_tested(pairs: &[u8], flags: &[u8], peptides: u32, proteins: u32) -> Tested
+fn contents_tested(pairs: &[u8], flags: &[u8], peptides: u32, proteins: u32) -> Result<(), Refusal>
     requires { too_large pairs.now peptides proteins ≡ false }
     ensures { result ≡ and_then (pairs_tested pairs.now peptides proteins) (flags_tested flags.now) }
 {
@@ -56,17 +56,17 @@ fn contents_tested(pairs: &[u8], flags: &[u8], peptides: u32, proteins: u32) -> 
 }
 
 // The first refusal that applies before the groups are made.
-pub fn tested(pairs: &[u8], flags: &[u8], peptides: u32, proteins: u32, words: usize) -> Tested
+pub fn tested(pairs: &[u8], flags: &[u8], peptides: u32, proteins: u32, words: usize) -> Result<(), Refusal>
     ensures { result ≡ tested pairs.now flags.now peptides proteins words }
 {
     if too_large(pairs, peptides, proteins) {
-        return Tested::Refused(Refusal::Size);
+        return Err(Refusal::Size);
     }
     if is_uneven(pairs, flags, peptides) {
-        return Tested::Refused(Refusal::Length);
+        return Err(Refusal::Length);
     }
     if words < work_needed(pairs, peptides, proteins) {
-        return Tested::Refused(Refusal::Work);
+        return Err(Refusal::Work);
     }
     contents_tested(pairs, flags, peptides, proteins)
 }

@@ -1,9 +1,8 @@
 -- Worked cases: what a definition gives and what is said of it, so that the cases of every crate stand in one table.
-use Rattle.std.specs.Prelude.{ℕ, ◌≡◌, List, [], ◌∷◌, map}
-use Rattle.records.specs.declared.refusal.Counted.{Counted}
-use Rattle.records.specs.declared.refusal.Counted.TheVariants.{Count, Refused}
+use Rattle.std.specs.Prelude.{ℕ, ◌≡◌, List, [], ◌∷◌, map, Ok, Err}
 use Rattle.records.specs.Refusals.{number_of, place_of}
 use Rattle.records.specs.Outcome.{Outcome}
+use Rattle.records.specs.Answers.{Counted}
 
 pub record Case : Type 0 where
   pub got : List (List ℕ)
@@ -27,8 +26,8 @@ abbrev pub refused_as : ℕ → ℕ → List ℕ
 refused_as number place = number ∷ place ∷ []
 
 abbrev pub numbers : Counted → List ℕ
-numbers (Count n) = answered n
-numbers (Refused why) = refused_as (number_of why) (place_of why)
+numbers (Ok n) = answered n
+numbers (Err why) = refused_as (number_of why) (place_of why)
 
 abbrev pub told : Outcome Counted → List (List ℕ)
 told o = numbers o.answer ∷ o.lent

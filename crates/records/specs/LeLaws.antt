@@ -85,7 +85,7 @@ number-four s at =
 -- ---- stores
 
 -- a store past the end changes nothing
-pub sets_out : (vs s : List ℕ) (at : ℕ) → length s ≤ at → sets s at vs ≡ s
+pub sets_out : {A : Type 0} (vs s : List A) (at : ℕ) → length s ≤ at → sets s at vs ≡ s
 sets_out [] s at h = refl
 sets_out (v ∷ vs) s at h =
     let e : set s at v ≡ s = set_out s at v h in
@@ -93,7 +93,7 @@ sets_out (v ∷ vs) s at h =
     rw e (sets_out vs s (suc at) k)
 
 -- a run of stores after another
-pub sets_append : (us vs s : List ℕ) (at : ℕ) → sets s at (us ++ vs) ≡ sets (sets s at us) (at + length us) vs
+pub sets_append : {A : Type 0} (us vs s : List A) (at : ℕ) → sets s at (us ++ vs) ≡ sets (sets s at us) (at + length us) vs
 sets_append [] vs s at = rw (add-zero at)
 sets_append (u ∷ us) vs s at =
     let e : at + suc (length us) ≡ suc at + length us = omega arith in

@@ -1,7 +1,8 @@
--- What a reader has to believe: Refusals, Outcome, Tested, Le, Room, Search. Cases says what a worked case is, and the files named
+-- What a reader has to believe: Refusals, Answers, Outcome, Tested, Le, Room, Search. Cases says what a worked case is, and the files named
 -- Laws what follows.
 pub mod Refusals
 pub mod RefusalLaws
+pub mod Answers
 pub mod Outcome
 pub mod Tested
 pub mod TestedLaws

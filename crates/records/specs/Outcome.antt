@@ -1,8 +1,8 @@
 -- What a call leaves: its answer, and what each slice lent to it holds at exit, in argument order.
-use Rattle.std.specs.Prelude.{◌≡◌, List, ℕ}
+use Rattle.std.specs.Prelude.{◌≡◌, List, ℕ, Ok, Err}
 use Rattle.std.proofs.Common.{sym, ap, ◌∙◌}
 use Rattle.records.specs.declared.refusal.Refusal.{Refusal}
-use Rattle.records.specs.declared.refusal.Tested.{Tested}
+use Rattle.records.specs.Answers.{Tested}
 
 pub record Outcome (A : Type 0) : Type 0 where
   pub answer : A
@@ -13,8 +13,8 @@ outcome r lent = record { answer = r; lent = lent }
 
 -- what tests refuse is said in the answer and leaves what was lent as it was; what passes them is done
 abbrev pub unless_refused : {A : Type 0} → Tested → (Refusal → A) → List (List ℕ) → Outcome A → Outcome A
-unless_refused Tested.Passed say old done = done
-unless_refused (Tested.Refused why) say old done = outcome (say why) old
+unless_refused (Ok _) say old done = done
+unless_refused (Err why) say old done = outcome (say why) old
 
 -- a contract that equals an outcome admits no second answer and no second contents
 pub only : {A : Type 0} (r q : A) (k l : List (List ℕ)) (o : Outcome A) → outcome r k ≡ o → outcome q l ≡ o → (r ≡ q) × (k ≡ l)

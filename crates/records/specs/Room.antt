@@ -1,11 +1,10 @@
 -- Document 01: "Room counts whole records up to the list's limit"; of a list that is longer "each then holds its first
 -- records that fit", and "bytes past the answer stay".
-use Rattle.std.specs.Prelude.{ℕ, ◌/◌, min, Bool, cond, length, take, drop, leb}
+use Rattle.std.specs.Prelude.{ℕ, ◌/◌, min, Bool, cond, length, take, drop, leb, Ok, Err}
 use mathlib.Core.List.{List, [], ◌∷◌, ◌++◌, flatten, map}
 use Rattle.records.specs.declared.refusal.Refusal.TheVariants.{Room}
-use Rattle.records.specs.declared.refusal.Counted.{Counted}
-use Rattle.records.specs.declared.refusal.Counted.TheVariants.{Count, Refused}
 use Rattle.records.specs.Outcome.{Outcome, outcome}
+use Rattle.records.specs.Answers.{Counted}
 
 -- how many records of a size there is room for
 abbrev pub room_of : ℕ → ℕ → List ℕ → ℕ
@@ -30,4 +29,4 @@ singly = map (λ (b : ℕ). b ∷ [])
 
 -- a list of at most `limit` records of a size: how many there are, or 11 where there is no room for all
 abbrev pub counted : ℕ → ℕ → List ℕ → List (List ℕ) → Outcome Counted
-counted size limit old rs = outcome (cond (fits size limit old rs) (Count (length rs)) (Refused Room)) (fitted size limit old rs ∷ [])
+counted size limit old rs = outcome (cond (fits size limit old rs) (Ok (length rs)) (Err Room)) (fitted size limit old rs ∷ [])

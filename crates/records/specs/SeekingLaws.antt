@@ -2,7 +2,7 @@
 use Rattle.std.specs.Prelude.{ℕ, ◌+◌, ◌-◌, ◌≤◌, ◌<◌, ◌≡◌, refl, Bool, true, false, ltb}
 use Rattle.std.proofs.Common.{sym, ◌∙◌, arith, ltb-false}
 use Rattle.records.specs.declared.refusal.Refusal.TheVariants.{Field}
-use Rattle.records.specs.declared.refusal.Tested.TheVariants.{Passed}
+use Rattle.records.specs.Answers.{Passed}
 use Rattle.records.specs.Tested.{field_tested}
 use Rattle.records.specs.TestedLaws.{passed_first}
 use Rattle.records.specs.Search.{seek}

@@ -1,10 +1,13 @@
 -- Stores one after the other: of records, each at its place where there is room for it, in the end the first that fit stand in
 -- order. Assumes nothing.
-use Rattle.std.specs.Prelude.{ℕ, suc, ◌+◌, ◌*◌, ◌≤◌, ◌<◌, ◌≡◌, refl, Bool, true, false, cond, List, [], ◌∷◌, length, get_or, set, drop, ltb}
-use Rattle.std.proofs.Common.{sym, ap, ◌∙◌, ⊎_elim, arith, add-one, drop_of_length-le, drop-cons, lt-ltb, le-ltb}
-use Rattle.std.proofs.lemmas.List.Edits.{sets}
+use Rattle.std.specs.Prelude.{ℕ, suc, ◌+◌, ◌*◌, ◌≤◌, ◌<◌, ◌≡◌, refl, Bool, true, false, cond, List, [], ◌∷◌, ◌++◌, length, get_or, set, take, drop, ltb}
+use Rattle.std.proofs.Common.{sym, ap, ◌∙◌, ⊎_elim, arith, add-one, append_assoc, drop_of_length-le, drop-cons, length-take-le, take-append-drop, lt-ltb, le-ltb}
+use Rattle.std.proofs.lemmas.List.Edits.{sets, sets-eq, paste_all}
+use Rattle.std.proofs.lemmas.Slice.{put_mid-paste}
+use borrow.Rule.Slice.PartMut.{put_mid}
 use Rattle.std.proofs.Math.Seq.{length-sets}
 use Rattle.lists.specs.Tests.{below?}
+use Rattle.records.specs.LeLaws.{sets_out, sets_append}
 use Rattle.records.specs.Room.{room_of, fitted}
 use Rattle.records.specs.RoomLaws.{Sized, Standing, standing-none, standing-more, standing-done, standing_full, standing-length}
 
@@ -15,6 +18,22 @@ store_on out vs k i h = rw (add-one i, add-one k) (ap (sets out k) (sym (drop-co
 
 pub store_end : (out vs : List ℕ) (k i : ℕ) → length vs ≤ i → out ≡ sets out k (drop i vs)
 store_end out vs k i h = ap (sets out k) (sym (drop_of_length-le vs {i = i} h))
+
+-- ---- items stored at once: a part that was written is they
+
+pub part_stored : {A : Type 0} (s ys vs : List A) (at k : ℕ) → at + k ≤ length s → ys ≡ vs → k ≡ length vs → put_mid at k s ys ≡ sets s at vs
+part_stored s ys vs at k h e l =
+    let p : put_mid at k s ys ≡ take at s ++ (vs ++ drop (at + k) s) = put_mid-paste at k s ys vs k e refl l ∙ paste_all s at vs k l in
+    let q : sets s at vs ≡ take at s ++ (vs ++ drop (at + k) s) = rw l (sets-eq vs s at (omega (arith, l)) ∙ append_assoc (take at s) vs (drop (at + length vs) s)) in
+    p ∙ sym q
+
+-- of items of which fewer have room the first alone
+pub sets_cut : {A : Type 0} (s vs : List A) (at n : ℕ) → length s ≤ at + n → n ≤ length vs → sets s at (take n vs) ≡ sets s at vs
+sets_cut s vs at n h l =
+    let k : length (take n vs) ≡ n = length-take-le n vs l in
+    let e : sets s at (take n vs ++ drop n vs) ≡ sets (sets s at (take n vs)) (at + length (take n vs)) (drop n vs) = sets_append (take n vs) (drop n vs) s at in
+    let o : sets (sets s at (take n vs)) (at + length (take n vs)) (drop n vs) ≡ sets s at (take n vs) = sets_out (drop n vs) (sets s at (take n vs)) (at + length (take n vs)) (omega (arith, k, length-sets s at (take n vs))) in
+    sym o ∙ sym e ∙ ap (sets s at) (take-append-drop n vs)
 
 -- ---- records, each at its place where there is room for it
 

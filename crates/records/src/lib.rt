@@ -6,7 +6,7 @@ mod refusal;
 mod room;
 mod work;
 
-pub use number::{byte_at, put_byte, put_bytes, put_u32, u32_at, wide};
-pub use refusal::{Counted, Refusal, Tested, and_then, field_tested};
+pub use number::{byte_at, put_byte, put_u32, u32_at, wide};
+pub use refusal::{Refusal, and_then, field_tested};
 pub use room::room_for;
-pub use work::{clear, put_numbers};
+pub use work::{clear, put_at};

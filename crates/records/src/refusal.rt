@@ -82,37 +82,20 @@ impl Refusal {
     }
 }
 
-// How many records were written, or why the call said no.
-#[derive(Clone, Copy)]
-pub enum Counted {
-    Count(u32),
-    Refused(Refusal),
-}
-
-// What the tests of an entry find: the first refusal, or none.
-#[derive(Clone, Copy)]
-pub enum Tested {
-    Passed,
-    Refused(Refusal),
-}
-
 // What a test found, or where it passed what the next one found.
-pub fn and_then(first: Tested, next: Tested) -> Tested
+pub fn and_then(first: Result<(), Refusal>, next: Result<(), Refusal>) -> Result<(), Refusal>
     ensures { result ≡ and_then first next }
 {
-    match first {
-        Tested::Passed => next,
-        Tested::Refused(why) => Tested::Refused(why),
-    }
+    first?;
+    next
 }
 
 // What the first bad field of so many says: its place, or nothing where it is the count.
-pub fn field_tested(bad: usize, count: usize) -> Tested
+pub fn field_tested(bad: usize, count: usize) -> Result<(), Refusal>
     ensures { result ≡ field_tested bad count }
 {
     if bad < count {
-        Tested::Refused(Refusal::Field(bad))
-    } else {
-        Tested::Passed
+        return Err(Refusal::Field(bad));
     }
+    Ok(())
 }

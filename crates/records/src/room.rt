@@ -9,5 +9,5 @@ pub fn room_for(bytes: usize, size: usize, limit: usize) -> usize
         return 0;
     }
     let whole = bytes / size;
-    if whole < limit { whole } else { limit }
+    whole.min(limit)
 }

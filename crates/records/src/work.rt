@@ -1,4 +1,4 @@
-// Lent work memory, and numbers in lent lists.
+// Lent memory: numbers and bytes stored, work memory cleared.
 ghost use Rattle.std.specs.Prelude.{◌≡◌, length, replicate};
 ghost use Rattle.std.proofs.lemmas.List.Edits.{sets};
 
@@ -6,25 +6,15 @@ ghost use Rattle.std.proofs.lemmas.List.Edits.{sets};
 pub fn clear(w: &mut [u32])
     ensures { w.new ≡ replicate (length w.old) 0 }
 {
-    let mut i = 0;
-    while i < w.len() {
-        w[i] = 0;
-        i += 1;
-    }
+    w.fill(0);
 }
 
-// Stores numbers from a place on, and nothing else.
-pub fn put_numbers(out: &mut [u32], at: usize, numbers: &[u32])
-    ensures { out.new ≡ sets out.old at numbers.now }
+// Stores items from a place on, and nothing else: what is written past the end is lost.
+pub fn put_at<T: Copy>(out: &mut [T], at: usize, items: &[T])
+    ensures { out.new ≡ sets out.old at items.now }
 {
-    let mut i = 0;
-    let mut k = at;
-    while i < numbers.len() {
-        if out.len() <= k {
-            return;
-        }
-        out[k] = numbers[i];
-        i += 1;
-        k += 1;
+    if at < out.len() {
+        let n = items.len().min(out.len() - at);
+        out[at..at + n].copy_from_slice(&items[..n]);
     }
 }

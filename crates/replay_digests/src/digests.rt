@@ -3,7 +3,7 @@
 // semi and position of each, and how many different ranges of the Rust's own list of sites show its letters.
 use enzyme::{Enzyme, Kind, Settings, Side};
 use letters::LetterSet;
-use records::{Counted, byte_at, u32_at};
+use records::{byte_at, u32_at};
 use text_fields::{
     Verdict, behind, decimal, decimal_at, field, hex_at, is_set, letter_count, small_at,
 };
@@ -96,7 +96,7 @@ pub fn replay_digests(line: &[u8], out: &mut [u8]) -> Verdict {
     let enzyme = enzyme_of(line);
     let settings = settings_of(line);
     match enzyme::digest(&line[0..n], LetterSet::ALL, enzyme, settings, 0, out) {
-        Counted::Count(count) => Verdict::of(are_digests(line, out, count)),
-        Counted::Refused(_) => Verdict::Differs,
+        Ok(count) => Verdict::of(are_digests(line, out, count)),
+        Err(_) => Verdict::Differs,
     }
 }

@@ -2,7 +2,7 @@
 // letters, the digest records in hexadecimal, the number of the Rust's groups, these as `reference.first.count`, divided by
 // `;`, where the reference is its number in the list of digests, and the numbers of their proteins. Buffers have room for one
 // record more than they hold, so that one too many is seen.
-use records::{Counted, u32_at};
+use records::{u32_at};
 use sorting_texts::number_at;
 use text_fields::{
     Verdict, bytes_at, content, decimal_at, field, field_end, is_zero, names_at, numbers_at,
@@ -69,12 +69,12 @@ fn is_grouped(line: &[u8], names: &[u8], bounds: &[u32], letters: &[u8], digests
         &mut proteins,
     );
     match answer {
-        Counted::Count(count) => {
+        Ok(count) => {
             has_groups(line, digests, &groups, count)
                 & has_proteins(line, &proteins)
                 & is_zero(&work)
         }
-        Counted::Refused(_) => false,
+        Err(_) => false,
     }
 }
 

@@ -4,7 +4,7 @@
 ghost use Rattle.std.specs.Prelude.{◌≡◌, ◌≤◌, ◌<◌, length};
 
 use peptide::Peptide;
-use records::{Counted, byte_at, put_byte};
+use records::{Refusal, byte_at, put_byte};
 use text_fields::{Verdict, behind, bytes_at, decimal_at, field, from_hex, letter_count, small_at};
 
 // The ids that the peptide begins with.
@@ -27,7 +27,7 @@ fn peptide_of(line: &[u8]) -> Peptide {
 }
 
 // The library's forms.
-fn answer_of(line: &[u8], out: &mut [u8]) -> Counted {
+fn answer_of(line: &[u8], out: &mut [u8]) -> Result<u32, Refusal> {
     let p = peptide_of(line);
     let mut variable = [0u8; 128];
     let v = bytes_at(line, 5, &mut variable);
@@ -85,7 +85,7 @@ fn are_forms(line: &[u8], out: &[u8], count: u32) -> bool {
 // The output is lent; what it holds does not matter.
 pub fn replay_forms(line: &[u8], out: &mut [u8]) -> Verdict {
     match answer_of(line, out) {
-        Counted::Count(count) => Verdict::of(are_forms(line, out, count)),
-        Counted::Refused(_) => Verdict::Differs,
+        Ok(count) => Verdict::of(are_forms(line, out, count)),
+        Err(_) => Verdict::Differs,
     }
 }

@@ -1,5 +1,5 @@
 // Base masses. A line is the letters, and the bits of the mass that the Rust gives them, in hexadecimal.
-use peptide::Weighed;
+use peptide::;
 use text_fields::{Verdict, hex_at, letter_count};
 
 // The Rust's masses of A to Z, and of water.
@@ -24,7 +24,7 @@ pub fn replay_mass(line: &[u8]) -> Verdict {
     let bits = hex_at(line, 1);
     let masses = MASSES;
     match peptide::base_mass(&line[0..n], &masses, WATER) {
-        Weighed::Mass(mass) => Verdict::of(has_bits(mass, bits)),
-        Weighed::Refused(_) => Verdict::Differs,
+        Ok(mass) => Verdict::of(has_bits(mass, bits)),
+        Err(_) => Verdict::Differs,
     }
 }

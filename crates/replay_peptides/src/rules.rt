@@ -1,9 +1,10 @@
 // Rule texts. A line is the text in hexadecimal or `-` for an empty one, then the number, the place, the kind and the letter
 // that the Rust's answer comes to.
 use letters::LetterSet;
-use modification::Parsed;
+use modification::;
 use text_fields::{Verdict, bytes_at, decimal_at};
 use text_lines::narrow;
+use records::Refusal;
 
 // The letters that the Rust takes: all but B, J, X and Z.
 const ALPHABET: LetterSet = LetterSet { mask: 0x017f_fdfd };
@@ -16,15 +17,15 @@ struct Answer {
     letter: u32,
 }
 
-fn answer_of(parsed: Parsed) -> Answer {
+fn answer_of(parsed: Result<Specificity, Refusal>) -> Answer {
     match parsed {
-        Parsed::Rule(s) => Answer {
+        Ok(s) => Answer {
             number: 0,
             place: 0,
             kind: s.kind() as u32,
             letter: s.letter() as u32,
         },
-        Parsed::Refused(why) => Answer {
+        Err(why) => Answer {
             number: why.number(),
             place: narrow(why.place()),
             kind: 0,

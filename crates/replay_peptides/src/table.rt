@@ -1,17 +1,17 @@
 // Tables of modifications. A line `N` begins an empty table; `I mass name id` is an insertion: the mass's bits and the name's
 // number in hexadecimal, and the id that the Rust gave, or 0 where it refused a 256th.
-use modification::Entered;
-use records::{byte_at, put_u32, u32_at};
+use modification::;
+use records::{Refusal, byte_at, put_u32, u32_at};
 use text_fields::{Verdict, decimal_at, hex_at};
 
 // The table stands at the front of the memory, the number of its entries behind the 2,040 bytes that it takes at most.
 const COUNT_AT: usize = 2040;
 
 // The id that the library gives, or 0.
-fn id_of(entered: Entered) -> u32 {
+fn id_of(entered: Result<u32, Refusal>) -> u32 {
     match entered {
-        Entered::Id(id) => id,
-        Entered::Refused(_) => 0,
+        Ok(id) => id,
+        Err(_) => 0,
     }
 }
 

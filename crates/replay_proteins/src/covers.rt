@@ -1,6 +1,6 @@
 // Covers. A line is the number of groups, that of meta-peptides, the edges as `group.meta`, divided by `;`, and the marks as
 // digits; `-` stands for none.
-use records::Counted;
+use records::;
 use text_fields::{Verdict, are_marks, decimal_at, is_zero, records_at};
 
 // The number of groups.
@@ -26,8 +26,8 @@ fn is_covered(line: &[u8], edges: &[u8]) -> bool {
     let groups = group_count(line);
     let metas = meta_count(line);
     match cover::cover(edges, groups, metas, &mut work, &mut marks) {
-        Counted::Count(count) => are_marks(line, 3, &marks, count) & is_zero(&work),
-        Counted::Refused(_) => false,
+        Ok(count) => are_marks(line, 3, &marks, count) & is_zero(&work),
+        Err(_) => false,
     }
 }
 

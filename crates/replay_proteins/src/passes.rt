@@ -4,9 +4,9 @@
 ghost use Rattle.std.specs.Prelude.{◌+◌, ◌≤◌, length};
 ghost use Rattle.io.specs.Counts.{IsPrefixLen};
 
-use protein_groups::{Grouped, Sizes};
-use records::{Counted, u32_at};
-use report_lines::Reported;
+use protein_groups::{Sizes};
+use records::{u32_at};
+use report_lines::;
 use text_fields::{
     Verdict, bytes_at, field, is_set, is_text, item_end, marks_at, names_at, numbers_at, records_at,
 };
@@ -72,8 +72,8 @@ fn is_written(
         &mut out,
     );
     match answer {
-        Reported::Line(report) => (report.groups == groups) & is_text(item, &out, report.bytes),
-        Reported::Refused(_) => false,
+        Ok(report) => (report.groups == groups) & is_text(item, &out, report.bytes),
+        Err(_) => false,
     }
 }
 
@@ -149,11 +149,11 @@ fn is_covered(
     let mut work = [1u32; 1024];
     let mut marks = [2u8; 128];
     match cover::cover(edges, sizes.groups, sizes.metas, &mut work, &mut marks) {
-        Counted::Count(count) => {
+        Ok(count) => {
             let n = up_to(count as usize, &marks);
             are_lines(line, names, members, &marks[..n], pairs, flags)
         }
-        Counted::Refused(_) => false,
+        Err(_) => false,
     }
 }
 
@@ -174,12 +174,12 @@ fn is_passed(line: &[u8], names: &[u8], flags: &[u8], pairs: &[u8]) -> bool {
         &mut members,
     );
     match answer {
-        Grouped::Made(sizes) => {
+        Ok(sizes) => {
             let e = up_to(8 * sizes.edges as usize, &edges);
             let m = up_to(12 * sizes.members as usize, &members);
             is_covered(line, names, &members[..m], &edges[..e], sizes, pairs, flags)
         }
-        Grouped::Refused(_) => false,
+        Err(_) => false,
     }
 }
 

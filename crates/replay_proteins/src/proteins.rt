@@ -2,7 +2,7 @@
 // by `;`, the numbers of the Rust's groups and meta-peptides, its edges as `group.meta` and its members as
 // `group.protein.decoy`, divided by `;`; `-` stands for none.
 use check::same;
-use protein_groups::Grouped;
+use protein_groups::;
 use text_fields::{Verdict, decimal_at, is_zero, marks_at, records_at};
 use text_lines::narrow;
 
@@ -39,13 +39,13 @@ fn is_grouped(line: &[u8], flags: &[u8], pairs: &[u8]) -> bool {
         &mut members,
     );
     match answer {
-        Grouped::Made(sizes) => {
+        Ok(sizes) => {
             has_counts(line, sizes.groups, sizes.metas)
                 & are_records(line, 5, &edges, 8 * sizes.edges as usize)
                 & are_records(line, 6, &members, 12 * sizes.members as usize)
                 & is_zero(&work)
         }
-        Grouped::Refused(_) => false,
+        Err(_) => false,
     }
 }
 

@@ -1,6 +1,6 @@
 -- Document 01's report line: worked cases, proved of the definitions. A case is the answer's numbers, the line's length and the group
 -- count or a refusal, and then the lent bytes.
-use Rattle.std.specs.Prelude.{ℕ, ◌-◌, refl, Bool, true, false, length, replicate}
+use Rattle.std.specs.Prelude.{ℕ, ◌-◌, refl, Bool, true, false, length, replicate, Ok, Err}
 use mathlib.Core.List.{List, [], ◌∷◌, ◌++◌, flatten}
 use Rattle.report_lines_tests.specs.Testing.{first_bad_protein, first_bad_tag_byte}
 use Rattle.records.specs.Le.{le, number_at}
@@ -13,17 +13,15 @@ use Rattle.catalogue_spec.specs.Names.{name_length, zeros_to, names_tested}
 use Rattle.cover_edges.specs.Edges.{first_bad_mark}
 use Rattle.protein_groups_members.specs.Members.{first_bad_member}
 use Rattle.report_lines_spec.specs.Line.{line_text, line_count}
-use Rattle.report_lines.specs.declared.reporting.Reported.{Reported}
-use Rattle.report_lines.specs.declared.reporting.Reported.TheVariants.{Line, Refused}
-use Rattle.report_lines.specs.Reporting.{line_outcome}
+use Rattle.report_lines.specs.Reporting.{Reported, line_outcome}
 
 -- refusal 0 being none
 abbrev pub line : ℕ → ℕ → List ℕ
 line bytes groups = 0 ∷ 0 ∷ bytes ∷ groups ∷ []
 
 abbrev pub line_numbers : Reported → List ℕ
-line_numbers (Line r) = line r.bytes r.groups
-line_numbers (Refused why) = refused_as (number_of why) (place_of why)
+line_numbers (Ok r) = line r.bytes r.groups
+line_numbers (Err why) = refused_as (number_of why) (place_of why)
 
 abbrev pub told_line : Outcome Reported → List (List ℕ)
 told_line o = line_numbers o.answer ∷ o.lent

@@ -1,5 +1,5 @@
 -- What a call of `report_line` makes of a table, and what its answer is. Assumes nothing.
-use Rattle.std.specs.Prelude.{ℕ, ◌+◌, ◌*◌, ◌/◌, ◌≤◌, ◌≡◌, refl, Bool, true, false, cond, ◌&&◌, List, [], ◌∷◌, length, get_or, replicate, leb, eqb}
+use Rattle.std.specs.Prelude.{ℕ, ◌+◌, ◌*◌, ◌/◌, ◌≤◌, ◌≡◌, refl, Bool, true, false, cond, ◌&&◌, List, [], ◌∷◌, length, get_or, replicate, leb, eqb, Ok, Err}
 use Rattle.std.proofs.Common.{ap, ◌∙◌, arith, leb-true}
 use Rattle.std.proofs.lemmas.List.{length-replicate}
 use Rattle.std.proofs.lemmas.Bool.{not-true}
@@ -10,8 +10,6 @@ use Rattle.catalogue_names.specs.NamesInLaws.{names_in}
 use Rattle.catalogue_repeats.specs.RepeatingLaws.{length-cleared, cleared_zeros}
 use Rattle.lists.specs.Tests.{both}
 use Rattle.records.specs.declared.refusal.Refusal.TheVariants.{Room}
-use Rattle.records.specs.declared.refusal.Tested.{Tested}
-use Rattle.records.specs.declared.refusal.Tested.TheVariants.{Passed, Refused}
 use Rattle.catalogue_spec.specs.Names.{name_count, names_tested}
 use Rattle.catalogue_names.specs.NamesIn.{names_outcome}
 use Rattle.records.specs.Outcome.{Outcome, outcome, unless_refused}
@@ -25,16 +23,15 @@ use Rattle.report_lines_write.specs.LineLaws.{Tag, line_is, count_is}
 use Rattle.report_lines_spec.specs.Line.{line_text, line_count}
 use Rattle.report_lines_tests.specs.TestingLaws.{fair_sizes, line_few_names, line-whole-names, GoodLine, Fair, not_room, not_room_tested}
 use Rattle.report_lines.specs.declared.reporting.Report.{Report}
-use Rattle.report_lines.specs.declared.reporting.Reported.{Reported}
-use Rattle.report_lines.specs.declared.reporting.Reported.TheVariants.{Line, Refused as No}
-use Rattle.report_lines.specs.Reporting.{reported_of, line_lined, line_outcome}
+use Rattle.report_lines.specs.Reporting.{Reported, reported_of, line_lined, line_outcome}
+use Rattle.records.specs.Answers.{Passed, Tested}
 
 -- ---- the line by a table
 
 -- what a call leaves where sizes and lengths passed
 abbrev pub line_told : List ℕ → List ℕ → List ℕ → List ℕ → Bool → List ℕ → Bool → List ℕ → Outcome Reported
 line_told names members marks list decoy tag generated out =
-    unless_refused (contents names members marks list tag) No (out ∷ []) (line_lined names members marks list decoy tag generated out)
+    unless_refused (contents names members marks list tag) Err (out ∷ []) (line_lined names members marks list decoy tag generated out)
 
 -- a table of zeros with areas of c numbers, each large enough
 pub record LineTable (names members marks w : List ℕ) (c : ℕ) : Type 0 where
@@ -123,8 +120,8 @@ line-outcome names members marks list decoy tag generated w c s few t old new by
 -- ---- what an answer tells of the tests
 
 abbrev pub tests_of : Reported → Tested
-tests_of (Line p) = Passed
-tests_of (No why) = cond (eqb (number_of why) 11) Passed (Refused why)
+tests_of (Ok p) = Passed
+tests_of (Err why) = cond (eqb (number_of why) 11) Passed (Err why)
 
 -- THE LAW
 pub tests_told : (names members marks list tag : List ℕ) (decoy generated : Bool) (out : List ℕ) → tests_of (line_outcome names members marks list decoy tag generated out).answer ≡ tested names members marks list tag
@@ -133,10 +130,10 @@ tests_told names members marks list tag decoy generated out = go (tested names m
     text : List ℕ
     text = line_text names (members_in members) marks list decoy tag generated
 
-    either : (b : Bool) (p : Report) → tests_of (cond b (Line p) (No Room)) ≡ Passed
+    either : (b : Bool) (p : Report) → tests_of (cond b (Ok p) (Err Room)) ≡ Passed
     either true p = refl
     either false p = refl
 
-    go : (t : Tested) → not_room t ≡ true → tests_of (unless_refused t No (out ∷ []) (line_lined names members marks list decoy tag generated out)).answer ≡ t
-    go Passed h = either (leb (length text) (length out)) (record { bytes = length text; groups = line_count (members_in members) marks list decoy })
-    go (Refused why) h = let e : eqb (number_of why) 11 ≡ false = not-true (eqb (number_of why) 11) h in rw e
+    go : (t : Tested) → not_room t ≡ true → tests_of (unless_refused t Err (out ∷ []) (line_lined names members marks list decoy tag generated out)).answer ≡ t
+    go (Ok _) h = either (leb (length text) (length out)) (record { bytes = length text; groups = line_count (members_in members) marks list decoy })
+    go (Err why) h = let e : eqb (number_of why) 11 ≡ false = not-true (eqb (number_of why) 11) h in rw e

@@ -3,4 +3,4 @@
 
 mod reporting;
 
-pub use reporting::{Report, Reported, report_line, tested};
+pub use reporting::{Report, report_line, tested};

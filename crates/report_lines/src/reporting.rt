@@ -8,7 +8,7 @@ ghost use Rattle.report_lines_write.specs.LineLaws.{Tag};
 ghost use Rattle.report_lines.specs.Reporting.{reported_of, line_lined, line_outcome};
 ghost use Rattle.report_lines.specs.ReportingLaws.{line_told, LineTable, Fitting, tests_of};
 
-use records::{Refusal, Tested};
+use records::Refusal;
 use report_lines_tests::{is_uneven, lists_tested, too_large};
 use report_lines_texts::Line;
 
@@ -19,13 +19,6 @@ pub struct Report {
     pub groups: u32,
 }
 
-// The line that was written, or why the call said no.
-#[derive(Clone, Copy)]
-pub enum Reported {
-    Line(Report),
-    Refused(Refusal),
-}
-
 // Whether the peptide is a decoy, and whether decoys are generated, so that their names take the tag.
 #[derive(Clone, Copy)]
 struct Asked {
@@ -34,14 +27,14 @@ struct Asked {
 }
 
 // The line's answer, or 11 where it is longer than its room.
-fn answer(bytes: u32, groups: u32, room: usize) -> Reported
+fn answer(bytes: u32, groups: u32, room: usize) -> Result<Report, Refusal>
     ensures { result ≡ reported_of bytes groups room }
 {
     let length = bytes as usize;
     if length <= room {
-        Reported::Line(Report { bytes, groups })
+        Ok(Report { bytes, groups })
     } else {
-        Reported::Refused(Refusal::Room)
+        Err(Refusal::Room)
     }
 }
 
@@ -56,7 +49,7 @@ fn line_laid(
     w: &mut [u32],
     c: usize,
     out: &mut [u8],
-) -> Reported
+) -> Result<Report, Refusal>
     requires { Given members.now marks.now list.now tag.now w.old c × Tag tag.now }
     ensures { outcome result (out.new ∷ []) ≡ line_lined names.now members.now marks.now list.now asked.decoy tag.now asked.generated out.old }
 {
@@ -81,17 +74,14 @@ fn line_over(
     w: &mut [u32],
     c: usize,
     out: &mut [u8],
-) -> Reported
+) -> Result<Report, Refusal>
     requires { Fair names.now members.now marks.now list.now × LineTable names.now members.now marks.now w.old c }
     ensures { outcome result (out.new ∷ []) ≡ line_told names.now members.now marks.now list.now asked.decoy tag.now asked.generated out.old }
 {
     let proteins = catalogue_names::name_count(names);
     let named = catalogue_names::names_tested_in(names, w);
-    let found = lists_tested(named, members, marks, list, tag, proteins);
-    match found {
-        Tested::Refused(why) => Reported::Refused(why),
-        Tested::Passed => line_laid(names, members, marks, list, tag, asked, w, c, out),
-    }
+    lists_tested(named, members, marks, list, tag, proteins)?;
+    line_laid(names, members, marks, list, tag, asked, w, c, out)
 }
 
 // With a table of its own, of four sizes: a few groups do not pay for the clearing of a large one.
@@ -103,7 +93,7 @@ fn line_small(
     tag: &[u8],
     asked: Asked,
     out: &mut [u8],
-) -> Reported
+) -> Result<Report, Refusal>
     requires { Fitting names.now members.now marks.now list.now 1024 }
     ensures { outcome result (out.new ∷ []) ≡ line_told names.now members.now marks.now list.now asked.decoy tag.now asked.generated out.old }
 {
@@ -119,7 +109,7 @@ fn line_middle(
     tag: &[u8],
     asked: Asked,
     out: &mut [u8],
-) -> Reported
+) -> Result<Report, Refusal>
     requires { Fitting names.now members.now marks.now list.now 16384 }
     ensures { outcome result (out.new ∷ []) ≡ line_told names.now members.now marks.now list.now asked.decoy tag.now asked.generated out.old }
 {
@@ -135,7 +125,7 @@ fn line_wide(
     tag: &[u8],
     asked: Asked,
     out: &mut [u8],
-) -> Reported
+) -> Result<Report, Refusal>
     requires { Fitting names.now members.now marks.now list.now 65536 }
     ensures { outcome result (out.new ∷ []) ≡ line_told names.now members.now marks.now list.now asked.decoy tag.now asked.generated out.old }
 {
@@ -151,7 +141,7 @@ fn line_large(
     tag: &[u8],
     asked: Asked,
     out: &mut [u8],
-) -> Reported
+) -> Result<Report, Refusal>
     requires { Fitting names.now members.now marks.now list.now 131072 }
     ensures { outcome result (out.new ∷ []) ≡ line_told names.now members.now marks.now list.now asked.decoy tag.now asked.generated out.old }
 {
@@ -175,7 +165,7 @@ fn line_of(
     tag: &[u8],
     asked: Asked,
     out: &mut [u8],
-) -> Reported
+) -> Result<Report, Refusal>
     requires { Fair names.now members.now marks.now list.now }
     ensures { outcome result (out.new ∷ []) ≡ line_told names.now members.now marks.now list.now asked.decoy tag.now asked.generated out.old }
 {
@@ -204,37 +194,37 @@ pub fn report_line(
     tag: &[u8],
     generated: bool,
     out: &mut [u8],
-) -> Reported
+) -> Result<Report, Refusal>
     ensures { outcome result (out.new ∷ []) ≡ line_outcome names.now members.now marks.now list.now decoy tag.now generated out.old }
 {
     if too_large(names, members, marks, list) {
-        return Reported::Refused(Refusal::Size);
+        return Err(Refusal::Size);
     }
     if is_uneven(names, members) {
-        return Reported::Refused(Refusal::Length);
+        return Err(Refusal::Length);
     }
     let asked = Asked { decoy, generated };
     line_of(names, members, marks, list, tag, asked, out)
 }
 
 // What a line's answer tells of its tests: 11 comes after all of them.
-fn tests_of(answer: Reported) -> Tested
+fn tests_of(answer: Result<Report, Refusal>) -> Result<(), Refusal>
     ensures { result ≡ tests_of answer }
 {
     match answer {
-        Reported::Line(_) => Tested::Passed,
-        Reported::Refused(why) => {
+        Ok(_) => Ok(()),
+        Err(why) => {
             if why.number() == 11 {
-                Tested::Passed
+                Ok(())
             } else {
-                Tested::Refused(why)
+                Err(why)
             }
         }
     }
 }
 
 // The first refusal that applies before the line is written, told by a line that is not kept.
-pub fn tested(names: &[u8], members: &[u8], marks: &[u8], list: &[u32], tag: &[u8]) -> Tested
+pub fn tested(names: &[u8], members: &[u8], marks: &[u8], list: &[u32], tag: &[u8]) -> Result<(), Refusal>
     ensures { result ≡ tested names.now members.now marks.now list.now tag.now }
 {
     let mut line = [0 as u8; 1];

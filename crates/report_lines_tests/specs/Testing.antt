@@ -1,13 +1,12 @@
 -- What the tests of a report line answer.
-use Rattle.std.specs.Prelude.{ℕ, ◌/◌, ◌%◌, Bool, cond, not, ◌&&◌, ◌||◌, List, length, get_or, ltb, leb, eqb}
+use Rattle.std.specs.Prelude.{ℕ, ◌/◌, ◌%◌, Bool, cond, not, ◌&&◌, ◌||◌, List, length, get_or, ltb, leb, eqb, Err}
 use Rattle.records.specs.declared.refusal.Refusal.TheVariants.{Size, Length, Name}
-use Rattle.records.specs.declared.refusal.Tested.{Tested}
-use Rattle.records.specs.declared.refusal.Tested.TheVariants.{Passed, Refused}
 use Rattle.records.specs.Search.{seek}
 use Rattle.records.specs.Tested.{and_then, field_tested}
 use Rattle.catalogue_spec.specs.Names.{visible, name_count, too_many_names, whole_names, names_tested}
 use Rattle.cover_edges.specs.Edges.{first_bad_mark}
 use Rattle.protein_groups_members.specs.Members.{first_bad_member}
+use Rattle.records.specs.Answers.{Passed, Tested}
 
 -- 1: more than 65,536 names, 131,072 members or marks, or 1,048,576 proteins in the list
 abbrev pub too_large : List ℕ → List ℕ → List ℕ → List ℕ → Bool
@@ -45,7 +44,7 @@ unfolding seek
 first_bad_tag_byte tag = seek (bad_tag_byte tag) 0 (length tag)
 
 abbrev pub tag_tested : List ℕ → Tested
-tag_tested tag = cond (ltb 16 (length tag) || ltb (first_bad_tag_byte tag) (length tag)) (Refused (Name 0)) Passed
+tag_tested tag = cond (ltb 16 (length tag) || ltb (first_bad_tag_byte tag) (length tag)) (Err (Name 0)) Passed
 
 -- the contents, list by list: catalogue (12, 13), members, marks, protein list (9), tag (12)
 abbrev pub lists_tested : List ℕ → List ℕ → List ℕ → List ℕ → ℕ → Tested
@@ -56,5 +55,5 @@ contents names members marks list tag = and_then (names_tested names) (lists_tes
 
 abbrev pub tested : List ℕ → List ℕ → List ℕ → List ℕ → List ℕ → Tested
 tested names members marks list tag =
-    cond (too_large names members marks list) (Refused Size)
-    (cond (uneven names members) (Refused Length) (contents names members marks list tag))
+    cond (too_large names members marks list) (Err Size)
+    (cond (uneven names members) (Err Length) (contents names members marks list tag))

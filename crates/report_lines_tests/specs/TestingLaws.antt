@@ -1,12 +1,10 @@
 -- What is known where the tests of a report line passed. Assumes nothing.
-use Rattle.std.specs.Prelude.{ℕ, ◌+◌, ◌*◌, ◌/◌, ◌%◌, ◌≤◌, ◌<◌, ◌≡◌, refl, Bool, true, false, cond, not, ◌&&◌, ◌||◌, List, length, get_or, ltb, leb, eqb}
+use Rattle.std.specs.Prelude.{ℕ, ◌+◌, ◌*◌, ◌/◌, ◌%◌, ◌≤◌, ◌<◌, ◌≡◌, refl, Bool, true, false, cond, not, ◌&&◌, ◌||◌, List, length, get_or, ltb, leb, eqb, Ok, Err}
 use Rattle.std.proofs.Common.{ap₂, ◌∙◌, ltb-true, ltb-false, leb-true, leb-false, eqb-true}
 use Rattle.std.proofs.lemmas.Bool.{not-false}
 use Rattle.report_lines_tests.specs.Testing.{too_large, uneven, members_tested, marks_tested, bad_protein, first_bad_protein, list_tested, bad_tag_byte, first_bad_tag_byte, tag_tested, lists_tested, contents, tested}
 use Rattle.lists.specs.Tests.{both, neither}
 use Rattle.records.specs.declared.refusal.Refusal.TheVariants.{Size, Length, Field, Name, Repeat}
-use Rattle.records.specs.declared.refusal.Tested.{Tested}
-use Rattle.records.specs.declared.refusal.Tested.TheVariants.{Passed, Refused}
 use Rattle.records.specs.Le.{number_at}
 use Rattle.records.specs.Tested.{and_then}
 use Rattle.records.specs.TestedLaws.{passed-both, passed_first}
@@ -16,6 +14,7 @@ use Rattle.catalogue_spec.specs.Names.{name_count, too_many_names, whole_names, 
 use Rattle.cover_edges.specs.Edges.{bad_mark, first_bad_mark}
 use Rattle.records.specs.Refusals.{number_of}
 use Rattle.protein_groups_members.specs.Members.{good_member, bad_member, first_bad_member}
+use Rattle.records.specs.Answers.{Passed, Tested}
 
 pub line_few_names : (names members marks list : List ℕ) → too_large names members marks list ≡ false → too_many_names names ≡ false
 line_few_names names members marks list e =
@@ -135,18 +134,18 @@ contents-told names members marks list tag p q l = l ∙ ap₂ (λ (x : Tested) 
 
 -- not 11
 abbrev pub not_room : Tested → Bool
-not_room Passed = true
-not_room (Refused why) = not (eqb (number_of why) 11)
+not_room (Ok _) = true
+not_room (Err why) = not (eqb (number_of why) 11)
 
 not_room_cond : (b : Bool) (x y : Tested) → not_room x ≡ true → not_room y ≡ true → not_room (cond b x y) ≡ true
 not_room_cond true x y p q = p
 not_room_cond false x y p q = q
 
 not_room_then : (x y : Tested) → not_room x ≡ true → not_room y ≡ true → not_room (and_then x y) ≡ true
-not_room_then Passed y p q = q
-not_room_then (Refused why) y p q = p
+not_room_then (Ok _) y p q = q
+not_room_then (Err why) y p q = p
 
-not_room_wrong : (b : Bool) (at : ℕ) → not_room (Refused (cond b (Name at) (Repeat at))) ≡ true
+not_room_wrong : (b : Bool) (at : ℕ) → not_room (Err (cond b (Name at) (Repeat at))) ≡ true
 not_room_wrong true at = refl
 not_room_wrong false at = refl
 
@@ -154,14 +153,14 @@ not_room_names : (names : List ℕ) → not_room (names_tested names) ≡ true
 unfolding names_tested
 not_room_names names =
     let at : ℕ = seek (wrong_name names) 0 (name_count names) in
-    not_room_cond (ltb at (name_count names)) (Refused (wrong_at names at)) Passed (not_room_wrong (bad_name names at) at) refl
+    not_room_cond (ltb at (name_count names)) (Err (wrong_at names at)) Passed (not_room_wrong (bad_name names at) at) refl
 
 pub not_room_tested : (names members marks list tag : List ℕ) → not_room (tested names members marks list tag) ≡ true
 not_room_tested names members marks list tag =
-    not_room_cond (too_large names members marks list) (Refused Size) _ refl
-    (not_room_cond (uneven names members) (Refused Length) _ refl
+    not_room_cond (too_large names members marks list) (Err Size) _ refl
+    (not_room_cond (uneven names members) (Err Length) _ refl
     (not_room_then (names_tested names) _ (not_room_names names)
-    (not_room_then (members_tested members (length marks) (name_count names)) _ (not_room_cond (ltb (first_bad_member members (length marks) (name_count names)) (length members / 12)) (Refused (Field (first_bad_member members (length marks) (name_count names)))) Passed refl refl)
-    (not_room_then (marks_tested marks) _ (not_room_cond (ltb (first_bad_mark marks) (length marks)) (Refused (Field (first_bad_mark marks))) Passed refl refl)
-    (not_room_then (list_tested list (name_count names)) (tag_tested tag) (not_room_cond (ltb (first_bad_protein list (name_count names)) (length list)) (Refused (Field (first_bad_protein list (name_count names)))) Passed refl refl)
-    (not_room_cond (ltb 16 (length tag) || ltb (first_bad_tag_byte tag) (length tag)) (Refused (Name 0)) Passed refl refl))))))
+    (not_room_then (members_tested members (length marks) (name_count names)) _ (not_room_cond (ltb (first_bad_member members (length marks) (name_count names)) (length members / 12)) (Err (Field (first_bad_member members (length marks) (name_count names)))) Passed refl refl)
+    (not_room_then (marks_tested marks) _ (not_room_cond (ltb (first_bad_mark marks) (length marks)) (Err (Field (first_bad_mark marks))) Passed refl refl)
+    (not_room_then (list_tested list (name_count names)) (tag_tested tag) (not_room_cond (ltb (first_bad_protein list (name_count names)) (length list)) (Err (Field (first_bad_protein list (name_count names)))) Passed refl refl)
+    (not_room_cond (ltb 16 (length tag) || ltb (first_bad_tag_byte tag) (length tag)) (Err (Name 0)) Passed refl refl))))))

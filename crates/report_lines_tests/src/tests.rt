@@ -4,7 +4,7 @@ ghost use Rattle.report_lines_tests.specs.Testing.{too_large, uneven, members_te
 ghost use Rattle.records.specs.Tested.{and_then};
 ghost use Rattle.catalogue_spec.specs.Names.{visible};
 
-use records::{Refusal, Tested, and_then, field_tested};
+use records::{Refusal, and_then, field_tested};
 
 pub fn too_large(names: &[u8], members: &[u8], marks: &[u8], list: &[u32]) -> bool
     ensures { result ≡ too_large names.now members.now marks.now list.now }
@@ -21,14 +21,14 @@ pub fn is_uneven(names: &[u8], members: &[u8]) -> bool
     !(catalogue_names::are_whole_names(names) & (members.len() % 12 == 0))
 }
 
-fn members_tested(members: &[u8], groups: usize, proteins: usize) -> Tested
+fn members_tested(members: &[u8], groups: usize, proteins: usize) -> Result<(), Refusal>
     ensures { result ≡ members_tested members.now groups proteins }
 {
     let bad = protein_groups_members::first_bad_member(members, groups, proteins);
     field_tested(bad, members.len() / 12)
 }
 
-fn marks_tested(marks: &[u8]) -> Tested
+fn marks_tested(marks: &[u8]) -> Result<(), Refusal>
     ensures { result ≡ marks_tested marks.now }
 {
     field_tested(cover_edges::first_bad_mark(marks), marks.len())
@@ -49,7 +49,7 @@ fn first_bad_protein(list: &[u32], proteins: usize) -> usize
     i
 }
 
-fn list_tested(list: &[u32], proteins: usize) -> Tested
+fn list_tested(list: &[u32], proteins: usize) -> Result<(), Refusal>
     ensures { result ≡ list_tested list.now proteins }
 {
     field_tested(first_bad_protein(list, proteins), list.len())
@@ -75,25 +75,25 @@ fn first_bad_tag_byte(tag: &[u8]) -> usize
     i
 }
 
-fn tag_tested(tag: &[u8]) -> Tested
+fn tag_tested(tag: &[u8]) -> Result<(), Refusal>
     ensures { result ≡ tag_tested tag.now }
 {
     let bad = first_bad_tag_byte(tag);
     if (16 < tag.len()) | (bad < tag.len()) {
-        return Tested::Refused(Refusal::Name(0));
+        return Err(Refusal::Name(0));
     }
-    Tested::Passed
+    Ok(())
 }
 
 // What was found of the names, and then the other contents list by list: members, marks, list, tag.
 pub fn lists_tested(
-    named: Tested,
+    named: Result<(), Refusal>,
     members: &[u8],
     marks: &[u8],
     list: &[u32],
     tag: &[u8],
     proteins: usize,
-) -> Tested
+) -> Result<(), Refusal>
     ensures { result ≡ and_then named (lists_tested members.now marks.now list.now tag.now proteins) }
 {
     let held = members_tested(members, marks.len(), proteins);

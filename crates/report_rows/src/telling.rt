@@ -1,8 +1,7 @@
 // A text's story, step by step: what one step makes is lent to the next.
 ghost use Rattle.std.specs.Prelude.{◌≡◌, length};
 
-use protein_groups::{Grouped, Sizes};
-use records::{Counted, Tested};
+use protein_groups::{Sizes};
 use report_rows_read::Sought;
 use std::io;
 use text_lines::{line_end, narrow, up_to};
@@ -63,8 +62,8 @@ fn cover_groups(
 ) -> io::Result<()> {
     let mut marks = [0u8; 8192];
     match cover::cover(edges, sizes.groups, sizes.metas, work, &mut marks) {
-        Counted::Refused(why) => report_rows_print::refusal(rt, why),
-        Counted::Count(count) => {
+        Err(why) => report_rows_print::refusal(rt, why),
+        Ok(count) => {
             let n = up_to(count as usize, &marks);
             report_rows_print::report(rt, tag, s, pairs, names, members, &marks[..n])
         }
@@ -95,8 +94,8 @@ fn group_names(
         &mut members,
     );
     match answer {
-        Grouped::Refused(why) => report_rows_print::refused_flag(rt, s, why),
-        Grouped::Made(sizes) => {
+        Err(why) => report_rows_print::refused_flag(rt, s, why),
+        Ok(sizes) => {
             let e = up_to(8 * sizes.edges as usize, &edges);
             let m = up_to(12 * sizes.members as usize, &members);
             cover_groups(
@@ -128,8 +127,8 @@ fn tell_names(
     report_rows_read::put_names(s, known, count, &mut names);
     let n = up_to(64 * count as usize, &names);
     match catalogue::names_tested(&names[..n]) {
-        Tested::Refused(why) => report_rows_print::refused_name(rt, s, known, why),
-        Tested::Passed => group_names(rt, tag, s, flags, pairs, &names[..n]),
+        Err(why) => report_rows_print::refused_name(rt, s, known, why),
+        Ok(()) => group_names(rt, tag, s, flags, pairs, &names[..n]),
     }
 }
 

@@ -3,7 +3,7 @@ ghost use Rattle.std.specs.Prelude.{◌≡◌, ◌≤◌, length};
 
 use crate::saying;
 use records::{byte_at, u32_at};
-use report_lines::{Reported, report_line};
+use report_lines::{report_line};
 use report_rows_read::{flag_of, list_of, name_count};
 use std::io;
 use text_lines::{line_end, narrow};
@@ -55,8 +55,8 @@ fn print_group(
     let decoy = byte_at(members, at + 8) == 1;
     let generated = is_generated(tag);
     match report_line(names, members, marks, &list, decoy, tag, generated, out) {
-        Reported::Refused(why) => saying::refusal(rt, why),
-        Reported::Line(report) => saying::group(rt, group_of(members, i), report, out),
+        Err(why) => saying::refusal(rt, why),
+        Ok(report) => saying::group(rt, group_of(members, i), report, out),
     }
 }
 
@@ -110,8 +110,8 @@ fn print_row(
     let decoy = flag_of(line) == 1;
     let generated = is_generated(tag);
     match report_line(names, members, marks, list, decoy, tag, generated, out) {
-        Reported::Refused(why) => saying::refusal(rt, why),
-        Reported::Line(report) => saying::row(rt, line, report, out),
+        Err(why) => saying::refusal(rt, why),
+        Ok(report) => saying::row(rt, line, report, out),
     }
 }
 
@@ -192,7 +192,7 @@ pub fn report(
     match report_line(
         names, members, marks, &none, false, tag, generated, &mut out,
     ) {
-        Reported::Refused(why) => saying::refused_tag(rt, tag, why),
-        Reported::Line(_) => print_all(rt, tag, s, pairs, names, members, marks, &mut out),
+        Err(why) => saying::refused_tag(rt, tag, why),
+        Ok(_) => print_all(rt, tag, s, pairs, names, members, marks, &mut out),
     }
 }

@@ -1,15 +1,12 @@
 -- From the answers of `group_proteins`, of `report_line` and of its tests to what the calls leave. Assumes nothing.
-use Rattle.std.specs.Prelude.{ℕ, ◌≡◌, true, false, List, [], ◌∷◌, eqb}
+use Rattle.std.specs.Prelude.{ℕ, ◌≡◌, true, false, List, [], ◌∷◌, eqb, Ok, Err}
 use Rattle.std.proofs.Common.{sym, ap, ◌∙◌}
 use Rattle.report_lines_tests.specs.Testing.{tested}
 use Rattle.records.specs.declared.refusal.Refusal.{Refusal}
 use Rattle.records.specs.Outcome.{Outcome, outcome}
 use Rattle.protein_groups.specs.declared.grouping.Sizes.{Sizes}
-use Rattle.protein_groups.specs.declared.grouping.Grouped.{Grouped}
-use Rattle.protein_groups.specs.declared.grouping.Grouped.TheVariants.{Made, Refused as No}
-use Rattle.protein_groups.specs.ProteinGrouping.{protein_groups_outcome}
-use Rattle.report_lines.specs.declared.reporting.Reported.{Reported}
-use Rattle.report_lines.specs.Reporting.{line_outcome}
+use Rattle.protein_groups.specs.ProteinGrouping.{Grouped, protein_groups_outcome}
+use Rattle.report_lines.specs.Reporting.{Reported, line_outcome}
 use Rattle.sendumaal_calls.specs.Calls.{refused, with_lent}
 use Rattle.sendumaal_calls.specs.DigestCalls.{field_call}
 use Rattle.sendumaal.specs.ProteinCalls.{ProteinsArguments, sizes_call, proteins_call, LineArguments, report_call, are_flags, line_call}
@@ -18,11 +15,11 @@ module _ (a : ProteinsArguments) (g : Grouped) (lent : List (List ℕ)) (e : out
   whole : with_lent (sizes_call g a) lent ≡ proteins_call a
   whole = ap (λ (o : Outcome Grouped). with_lent (sizes_call o.answer a) o.lent) e
 
-  pub proteins-made : (s : Sizes) → g ≡ Made s
+  pub proteins-made : (s : Sizes) → g ≡ Ok s
       → outcome 0 ((0 ∷ []) ∷ (s.groups ∷ []) ∷ (s.metas ∷ []) ∷ (s.edges ∷ []) ∷ (s.members ∷ []) ∷ lent) ≡ proteins_call a
   proteins-made s f = ap (λ (x : Grouped). with_lent (sizes_call x a) lent) (sym f) ∙ whole
 
-  pub proteins_no : (r : Refusal) → g ≡ No r
+  pub proteins_no : (r : Refusal) → g ≡ Err r
       → refused r ((a.groups ∷ []) ∷ (a.metas ∷ []) ∷ (a.edge_count ∷ []) ∷ (a.member_count ∷ []) ∷ lent) ≡ proteins_call a
   proteins_no r f = ap (λ (x : Grouped). with_lent (sizes_call x a) lent) (sym f) ∙ whole
 

@@ -1,14 +1,10 @@
 -- What the calls on groups of proteins and on report lines leave: as in Calls, *place first, then the other results, then the work memory
 -- and the lists in argument order.
-use Rattle.std.specs.Prelude.{ℕ, ◌≡◌, Bool, cond, ◌&&◌, List, [], ◌∷◌, leb, eqb}
+use Rattle.std.specs.Prelude.{ℕ, ◌≡◌, Bool, cond, ◌&&◌, List, [], ◌∷◌, leb, eqb, Ok, Err}
 use Rattle.report_lines_tests.specs.Testing.{tested}
 use Rattle.records.specs.Outcome.{Outcome, outcome, only}
-use Rattle.protein_groups.specs.declared.grouping.Grouped.{Grouped}
-use Rattle.protein_groups.specs.declared.grouping.Grouped.TheVariants.{Made, Refused as No}
-use Rattle.protein_groups.specs.ProteinGrouping.{protein_groups_outcome}
-use Rattle.report_lines.specs.declared.reporting.Reported.{Reported}
-use Rattle.report_lines.specs.declared.reporting.Reported.TheVariants.{Line, Refused as Not}
-use Rattle.report_lines.specs.Reporting.{line_outcome}
+use Rattle.protein_groups.specs.ProteinGrouping.{Grouped, protein_groups_outcome}
+use Rattle.report_lines.specs.Reporting.{Reported, line_outcome}
 use Rattle.sendumaal_calls.specs.Calls.{accepted, refused, with_lent}
 use Rattle.sendumaal_calls.specs.DigestCalls.{field_call}
 
@@ -28,8 +24,8 @@ pub record ProteinsArguments : Type 0 where
 
 -- how many groups, meta-peptides, edges and members were made
 abbrev pub sizes_call : Grouped → ProteinsArguments → Outcome ℕ
-sizes_call (Made s) a = accepted ((s.groups ∷ []) ∷ (s.metas ∷ []) ∷ (s.edges ∷ []) ∷ (s.members ∷ []) ∷ [])
-sizes_call (No r) a = refused r ((a.groups ∷ []) ∷ (a.metas ∷ []) ∷ (a.edge_count ∷ []) ∷ (a.member_count ∷ []) ∷ [])
+sizes_call (Ok s) a = accepted ((s.groups ∷ []) ∷ (s.metas ∷ []) ∷ (s.edges ∷ []) ∷ (s.members ∷ []) ∷ [])
+sizes_call (Err r) a = refused r ((a.groups ∷ []) ∷ (a.metas ∷ []) ∷ (a.edge_count ∷ []) ∷ (a.member_count ∷ []) ∷ [])
 
 abbrev pub proteins_call : ProteinsArguments → Outcome ℕ
 proteins_call a =
@@ -50,8 +46,8 @@ pub record LineArguments : Type 0 where
 
 -- a line's length and its group count
 abbrev pub report_call : Reported → ℕ → ℕ → Outcome ℕ
-report_call (Line p) bytes groups = accepted ((p.bytes ∷ []) ∷ (p.groups ∷ []) ∷ [])
-report_call (Not r) bytes groups = refused r ((bytes ∷ []) ∷ (groups ∷ []) ∷ [])
+report_call (Ok p) bytes groups = accepted ((p.bytes ∷ []) ∷ (p.groups ∷ []) ∷ [])
+report_call (Err r) bytes groups = refused r ((bytes ∷ []) ∷ (groups ∷ []) ∷ [])
 
 abbrev pub are_flags : ℕ → ℕ → Bool
 are_flags a b = leb a 1 && leb b 1

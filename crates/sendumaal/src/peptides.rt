@@ -5,8 +5,8 @@ ghost use Rattle.records.specs.Outcome.{outcome};
 ghost use Rattle.sendumaal_calls.specs.Calls.{test_call};
 ghost use Rattle.sendumaal_calls.specs.PeptideCalls.{weight, weight_call, digest_weight, digest_mass_call, forms_call, reverse_call};
 
-use peptide::{Peptide, Weighed};
-use records::Tested;
+use peptide::{Peptide};
+use records::;
 use sendumaal_calls::{counted, flipped, peptide_of, test_reverse, told, too_large, turn};
 
 pub fn sendumaal_base_mass(
@@ -20,12 +20,12 @@ pub fn sendumaal_base_mass(
 {
     let answer = peptide::base_mass(letters, masses, water);
     match answer {
-        Weighed::Mass(m) => {
+        Ok(m) => {
             *mass = m;
             *place = 0;
             0
         }
-        Weighed::Refused(why) => {
+        Err(why) => {
             *place = why.place();
             why.number()
         }
@@ -45,13 +45,13 @@ pub fn sendumaal_digest_mass(
 {
     let answer = peptide::digest_mass(letters, bytes, masses, water);
     match answer {
-        Weighed::Mass(m) => {
+        Ok(m) => {
             *mass = m;
             *position = records::byte_at(bytes, 10) as u32;
             *place = 0;
             0
         }
-        Weighed::Refused(why) => {
+        Err(why) => {
             *place = why.place();
             why.number()
         }
@@ -111,11 +111,11 @@ pub fn sendumaal_peptide_reverse(
     let flag = *decoy;
     let found = test_reverse(letters, ids, flag);
     match found {
-        Tested::Refused(why) => {
+        Err(why) => {
             *place = why.place();
             why.number()
         }
-        Tested::Passed => {
+        Ok(()) => {
             turn(letters, ids, flag);
             *decoy = flipped(flag);
             *place = 0;

@@ -3,9 +3,10 @@ ghost use Rattle.std.specs.Prelude.{◌≡◌, List, [], ◌∷◌};
 ghost use Rattle.records.specs.Outcome.{outcome};
 ghost use Rattle.sendumaal.specs.ProteinCalls.{are_flags, report_call, proteins_call, line_call};
 
-use protein_groups::Grouped;
-use report_lines::Reported;
+use protein_groups::;
+use report_lines::;
 use sendumaal_calls::told_field;
+use records::Refusal;
 
 pub fn sendumaal_group_proteins(
     pairs: &[u8],
@@ -27,7 +28,7 @@ pub fn sendumaal_group_proteins(
         pairs, flags, peptides, proteins, work, edges, members,
     );
     match answer {
-        Grouped::Made(sizes) => {
+        Ok(sizes) => {
             *groups = sizes.groups;
             *metas = sizes.metas;
             *edge_count = sizes.edges;
@@ -35,7 +36,7 @@ pub fn sendumaal_group_proteins(
             *place = 0;
             0
         }
-        Grouped::Refused(why) => {
+        Err(why) => {
             *place = why.place();
             why.number()
         }
@@ -50,17 +51,17 @@ fn are_flags(a: u32, b: u32) -> bool
 }
 
 // How a line's answer is told.
-fn reported(answer: Reported, bytes: &mut u32, groups: &mut u32, place: &mut usize) -> u32
+fn reported(answer: Result<Report, Refusal>, bytes: &mut u32, groups: &mut u32, place: &mut usize) -> u32
     ensures { outcome result ((place.new ∷ []) ∷ (bytes.new ∷ []) ∷ (groups.new ∷ []) ∷ []) ≡ report_call answer bytes.old groups.old }
 {
     match answer {
-        Reported::Line(report) => {
+        Ok(report) => {
             *bytes = report.bytes;
             *groups = report.groups;
             *place = 0;
             0
         }
-        Reported::Refused(why) => {
+        Err(why) => {
             *place = why.place();
             why.number()
         }

@@ -6,7 +6,7 @@ ghost use Rattle.records.specs.Outcome.{outcome};
 ghost use Rattle.sendumaal_calls.specs.Calls.{set_of, parse_call, write_call, test_call, read_call, record_call};
 
 use letters::LetterSet;
-use modification::{Parsed, Read, Rule};
+use modification::{Read, Rule};
 use sendumaal_calls::{counted, is_rule, told};
 
 pub fn sendumaal_rule_parse(
@@ -21,13 +21,13 @@ pub fn sendumaal_rule_parse(
     let set = LetterSet { mask: alphabet };
     let answer = modification::parse(text, set);
     match answer {
-        Parsed::Rule(s) => {
+        Ok(s) => {
             *kind = s.kind() as u32;
             *letter = s.letter() as u32;
             *place = 0;
             0
         }
-        Parsed::Refused(why) => {
+        Err(why) => {
             *place = why.place();
             why.number()
         }

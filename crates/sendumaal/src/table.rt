@@ -4,7 +4,7 @@ ghost use Rattle.modification_table.specs.Tables.{insert_outcome};
 ghost use Rattle.records.specs.Outcome.{outcome};
 ghost use Rattle.sendumaal_calls.specs.Calls.{insert_call};
 
-use modification::Entered;
+use modification::;
 
 pub fn sendumaal_modification_id(
     table: &mut [u8],
@@ -18,12 +18,12 @@ pub fn sendumaal_modification_id(
 {
     let answer = modification::insert(table, count, mass, name);
     match answer {
-        Entered::Id(n) => {
+        Ok(n) => {
             *id = n;
             *place = 0;
             0
         }
-        Entered::Refused(why) => {
+        Err(why) => {
             *place = why.place();
             why.number()
         }

@@ -1,28 +1,27 @@
 -- From an entry's answer to what the call leaves. Assumes nothing.
-use Rattle.std.specs.Prelude.{ℕ, ◌≤◌, ◌≡◌, true, false, ◌&&◌, List, [], ◌∷◌, get_or, leb}
+use Rattle.std.specs.Prelude.{ℕ, ◌≤◌, ◌≡◌, true, false, ◌&&◌, List, [], ◌∷◌, get_or, leb, Ok, Err}
 use Rattle.std.proofs.Common.{sym, ap, ◌∙◌, leb-true}
 use Rattle.lists.specs.Tests.{both}
 use Rattle.records.specs.declared.refusal.Refusal.{Refusal}
 use Rattle.records.specs.declared.refusal.Refusal.TheVariants.{Field}
-use Rattle.records.specs.declared.refusal.Tested.{Tested}
-use Rattle.records.specs.declared.refusal.Counted.{Counted}
 use Rattle.records.specs.Refusals.{number_of, place_of}
 use Rattle.records.specs.Outcome.{Outcome, outcome}
-use Rattle.modification_table.specs.declared.table.Entered.{Entered}
 use Rattle.modification_kinds.specs.Specificities.{specificity}
 use Rattle.modification_texts.specs.Texts.{write_outcome}
 use Rattle.modification_rules.specs.Rules.{write_rule_outcome}
 use Rattle.sendumaal_calls.specs.Calls.{accepted, refused, test_call, insert_call, with_lent, count_call, counted_call, write_call, tested_call, record_call, is_rule}
+use Rattle.records.specs.Answers.{Counted, Passed, Tested}
+use Rattle.modification_table.specs.Tables.{Entered}
 
 -- a refusal's number is returned and its place written
 pub said : (r : Refusal) (n p : ℕ) → n ≡ number_of r → p ≡ place_of r → (lent : List (List ℕ)) → outcome n ((p ∷ []) ∷ lent) ≡ refused r lent
 said r n p e f lent = rw (e, f)
 
 module _ (o : Outcome Entered) (a : Entered) (lent : List (List ℕ)) (id : ℕ) (e : outcome a lent ≡ o) where
-  pub insert_id : (n : ℕ) → a ≡ Entered.Id n → accepted ((n ∷ []) ∷ lent) ≡ insert_call o id
+  pub insert_id : (n : ℕ) → a ≡ Ok n → accepted ((n ∷ []) ∷ lent) ≡ insert_call o id
   insert_id n f = ap (λ (x : Entered). insert_call (outcome x lent) id) (sym f) ∙ ap (λ (x : Outcome Entered). insert_call x id) e
 
-  pub insert_no : (r : Refusal) → a ≡ Entered.Refused r → refused r ((id ∷ []) ∷ lent) ≡ insert_call o id
+  pub insert_no : (r : Refusal) → a ≡ Err r → refused r ((id ∷ []) ∷ lent) ≡ insert_call o id
   insert_no r f = ap (λ (x : Entered). insert_call (outcome x lent) id) (sym f) ∙ ap (λ (x : Outcome Entered). insert_call x id) e
 
 -- what the answer of a list is told as
@@ -39,11 +38,11 @@ rule_bytes kind letter id e =
 
 -- what the tests' answer is told as
 pub check_said : (a : Tested) (n p : ℕ) → outcome n ((p ∷ []) ∷ []) ≡ test_call a → (lent : List (List ℕ)) → outcome n ((p ∷ []) ∷ lent) ≡ tested_call (outcome a lent)
-check_said Tested.Passed n p e lent =
+check_said Passed n p e lent =
     let f : n ≡ 0 = ap (λ (x : Outcome ℕ). x.answer) e in
     let g : p ≡ 0 = ap (λ (x : Outcome ℕ). get_or (get_or x.lent 0 []) 0 0) e in
     rw (f, g)
-check_said (Tested.Refused r) n p e lent =
+check_said (Err r) n p e lent =
     let f : n ≡ number_of r = ap (λ (x : Outcome ℕ). x.answer) e in
     let g : p ≡ place_of r = ap (λ (x : Outcome ℕ). get_or (get_or x.lent 0 []) 0 0) e in
     rw (f, g)

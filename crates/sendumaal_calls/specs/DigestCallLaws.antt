@@ -2,13 +2,13 @@
 use Rattle.std.specs.Prelude.{ℕ, ◌≤◌, ◌<◌, ◌≡◌, true, false, List, [], ◌∷◌}
 use Rattle.std.proofs.Common.{ap, ◌∙◌, lt-ltb, le-ltb}
 use Rattle.enzyme_cuts.specs.declared.kinds.Enzyme.{Enzyme}
-use Rattle.records.specs.declared.refusal.Counted.{Counted}
 use Rattle.enzyme_spec.specs.Digestion.{tested, digest_outcome}
 use Rattle.records.specs.declared.refusal.Refusal.TheVariants.{Size}
 use Rattle.records.specs.Outcome.{Outcome, outcome}
 use Rattle.sendumaal_calls.specs.Calls.{set_of, refused, with_lent, count_call}
 use Rattle.sendumaal_calls.specs.CallLaws.{count_said}
 use Rattle.sendumaal_calls.specs.DigestCalls.{is_enzyme, field_call, DigestArguments, enzyme_of, settings_in, digest_call}
+use Rattle.records.specs.Answers.{Counted}
 
 module _ (a : DigestArguments) where
   pub digest-size : 16 < a.missed → refused Size ((a.count ∷ []) ∷ a.out ∷ []) ≡ digest_call a

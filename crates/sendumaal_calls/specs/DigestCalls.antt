@@ -1,5 +1,5 @@
 -- What a call of `sendumaal_digest` leaves: as in Calls, *place first, then *count, then the buffer.
-use Rattle.std.specs.Prelude.{ℕ, Bool, cond, ◌&&◌, List, [], ◌∷◌, leb, ltb, eqb}
+use Rattle.std.specs.Prelude.{ℕ, Bool, cond, ◌&&◌, List, [], ◌∷◌, leb, ltb, eqb, Ok, Err}
 use Rattle.enzyme_cuts.specs.declared.kinds.Kind.{Kind}
 use Rattle.enzyme_cuts.specs.declared.kinds.Kind.TheVariants.{None, End, Set}
 use Rattle.enzyme_cuts.specs.declared.kinds.Side.{Side}
@@ -8,9 +8,9 @@ use Rattle.enzyme_cuts.specs.declared.kinds.Enzyme.{Enzyme}
 use Rattle.enzyme_spec.specs.declared.settings.Settings.{Settings}
 use Rattle.enzyme_spec.specs.Digestion.{tested, digest_outcome}
 use Rattle.records.specs.declared.refusal.Refusal.TheVariants.{Size, Field}
-use Rattle.records.specs.declared.refusal.Tested.{Tested}
 use Rattle.records.specs.Outcome.{Outcome}
 use Rattle.sendumaal_calls.specs.Calls.{set_of, refused, with_lent, counted_call}
+use Rattle.records.specs.Answers.{Passed, Tested}
 
 -- 0 none, 1 end, 2 set; 0 C side, 1 N side; 0 or 1 for a flag
 abbrev pub is_enzyme : ℕ → ℕ → ℕ → Bool
@@ -30,8 +30,8 @@ settings_of missed minimum maximum = record { missed = missed; minimum = minimum
 
 -- a kind, side or flag that is none is a field out of range, after what the tests find
 abbrev pub field_call : Tested → Outcome ℕ
-field_call Tested.Passed = refused (Field 0) []
-field_call (Tested.Refused r) = refused r []
+field_call (Ok _) = refused (Field 0) []
+field_call (Err r) = refused r []
 
 -- the arguments in their order, and what `out` and `*count` hold at entry
 pub record DigestArguments : Type 0 where

@@ -1,8 +1,7 @@
 -- What the calls on peptides leave: as in Calls, *place first, then the other results and the lent slices.
-use Rattle.std.specs.Prelude.{ℕ, ◌≡◌, Bool, false, cond, List, [], ◌∷◌, length, take, leb, eqb, Float}
+use Rattle.std.specs.Prelude.{ℕ, ◌≡◌, Bool, false, cond, List, [], ◌∷◌, length, take, leb, eqb, Float, Ok, Err}
 use Rattle.std.proofs.Common.{ap}
-use Rattle.peptide_mass.specs.declared.mass.Weighed.{Weighed}
-use Rattle.peptide_mass.specs.Masses.{wrong_size}
+use Rattle.peptide_mass.specs.Masses.{Weighed, wrong_size}
 use Rattle.enzyme_keep.specs.Digests.{position_in}
 use Rattle.peptide_listing.specs.FormTests.{too_large}
 use Rattle.peptide.specs.declared.making.Peptide.{Peptide}
@@ -13,10 +12,10 @@ use Rattle.peptide.specs.Peptides.{tested_peptide, reversed_peptide}
 use Rattle.peptide.specs.Digested.{weighed_digest}
 use Rattle.peptide.specs.Forms.{forms_outcome}
 use Rattle.records.specs.declared.refusal.Refusal.TheVariants.{Size, Length, Field}
-use Rattle.records.specs.declared.refusal.Tested.{Tested}
 use Rattle.records.specs.Refusals.{number_of, place_of}
 use Rattle.records.specs.Outcome.{Outcome, equal_only}
 use Rattle.sendumaal_calls.specs.Calls.{accepted, refused, counted_call}
+use Rattle.records.specs.Answers.{Passed, Tested}
 
 -- ---- the base mass: the number, *place and *mass
 
@@ -29,8 +28,8 @@ abbrev pub weight : ℕ → ℕ → Float → Weight
 weight n p m = record { number = n; place = p; mass = m }
 
 abbrev pub weight_call : Weighed → Float → Weight
-weight_call (Weighed.Mass m) old = weight 0 0 m
-weight_call (Weighed.Refused r) old = weight (number_of r) (place_of r) old
+weight_call (Ok m) old = weight 0 0 m
+weight_call (Err r) old = weight (number_of r) (place_of r) old
 
 -- ---- the base mass of a digest: the number, *place, *mass and *position
 
@@ -45,8 +44,8 @@ digest_weight n p m q = record { number = n; place = p; mass = m; position = q }
 
 -- the position is the record's
 abbrev pub digest_weight_call : Weighed → ℕ → Float → ℕ → DigestWeight
-digest_weight_call (Weighed.Mass m) position oldMass oldPosition = digest_weight 0 0 m position
-digest_weight_call (Weighed.Refused r) position oldMass oldPosition = digest_weight (number_of r) (place_of r) oldMass oldPosition
+digest_weight_call (Ok m) position oldMass oldPosition = digest_weight 0 0 m position
+digest_weight_call (Err r) position oldMass oldPosition = digest_weight (number_of r) (place_of r) oldMass oldPosition
 
 -- the arguments in their order, and what `*mass` and `*position` hold at entry
 abbrev pub digest_mass_call : List ℕ → List ℕ → List Float → Float → Float → ℕ → DigestWeight
@@ -77,8 +76,8 @@ peptide_of letters ids nterm cterm position decoy =
 -- 1: its size; 8: an id for each letter
 abbrev pub tested_lengths : List ℕ → List ℕ → Tested
 tested_lengths letters ids =
-    cond (wrong_size (length letters)) (Tested.Refused Size)
-    (cond (eqb (length ids) (length letters)) Tested.Passed (Tested.Refused Length))
+    cond (wrong_size (length letters)) (Err Size)
+    (cond (eqb (length ids) (length letters)) Passed (Err Length))
 
 -- ---- forms
 
@@ -115,7 +114,7 @@ turning letters ids decoy = peptide_of letters ids 0 0 0 (eqb decoy 1)
 
 -- of the peptide itself, then 9: the flag is neither 0 nor 1
 abbrev pub tested_turn : Peptide → ℕ → Tested
-tested_turn p decoy = and_then (tested_peptide p) (cond (leb decoy 1) Tested.Passed (Tested.Refused (Field 0)))
+tested_turn p decoy = and_then (tested_peptide p) (cond (leb decoy 1) Passed (Err (Field 0)))
 
 abbrev pub tested_reverse : List ℕ → List ℕ → ℕ → Tested
 tested_reverse letters ids decoy = and_then (tested_lengths letters ids) (tested_turn (turning letters ids decoy) decoy)
@@ -124,8 +123,8 @@ abbrev pub other_flag : ℕ → ℕ
 other_flag decoy = cond (eqb decoy 1) 0 1
 
 abbrev pub reversed_or : Tested → List (List ℕ) → List (List ℕ) → Outcome ℕ
-reversed_or Tested.Passed new old = accepted new
-reversed_or (Tested.Refused r) new old = refused r old
+reversed_or (Ok _) new old = accepted new
+reversed_or (Err r) new old = refused r old
 
 -- the first letters and ids of the reversed peptide stand where they came from
 abbrev pub turned : List ℕ → List ℕ → ℕ → List (List ℕ)

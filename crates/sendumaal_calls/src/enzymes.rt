@@ -5,7 +5,8 @@ ghost use Rattle.sendumaal_calls.specs.DigestCalls.{is_enzyme, kind_numbered, si
 
 use enzyme::{Enzyme, Kind, Side};
 use letters::LetterSet;
-use records::Tested;
+use records::;
+use records::Refusal;
 
 // Whether numbers stand for a kind, a side and a flag.
 pub fn is_enzyme(kind: u32, side: u32, semi: u32) -> bool
@@ -47,15 +48,15 @@ pub fn enzyme_numbered(kind: u32, cleave: u32, skip: u32, side: u32, semi: u32) 
 }
 
 // The refusal that the tests found, or that of the enzyme's own fields.
-pub fn told_field(found: Tested, place: &mut usize) -> u32
+pub fn told_field(found: Result<(), Refusal>, place: &mut usize) -> u32
     ensures { outcome result ((place.new ∷ []) ∷ []) ≡ field_call found }
 {
     match found {
-        Tested::Passed => {
+        Ok(()) => {
             *place = 0;
             9
         }
-        Tested::Refused(why) => {
+        Err(why) => {
             *place = why.place();
             why.number()
         }

@@ -1,12 +1,12 @@
 // Peptides, which pass as letters and ids.
 ghost use Rattle.std.specs.Prelude.{◌≡◌, ◌≤◌, length, take};
 ghost use Rattle.peptide_listing.specs.FormTests.{too_large};
-ghost use Rattle.records.specs.declared.refusal.Tested.TheVariants.{Passed};
+ghost use Rattle.records.specs.Answers.{Passed};
 ghost use Rattle.peptide.specs.Peptides.{tested_peptide, reversed_peptide};
 ghost use Rattle.sendumaal_calls.specs.PeptideCalls.{peptide_of, tested_lengths, turning, tested_turn, tested_reverse, other_flag};
 
 use peptide::Peptide;
-use records::{Refusal, Tested};
+use records::Refusal;
 
 // The peptide of lent letters, as capitals, and ids, its contents untested.
 pub fn peptide_of(
@@ -53,43 +53,39 @@ fn put_back(out: &mut [u8], from: [u8; 64])
 }
 
 // Whether the letters are a peptide's, and the ids as many.
-fn test_lengths(letters: &[u8], ids: &[u8]) -> Tested
+fn test_lengths(letters: &[u8], ids: &[u8]) -> Result<(), Refusal>
     ensures { result ≡ tested_lengths letters.now ids.now }
 {
     let n = letters.len();
     if (n == 0) | (64 < n) {
-        return Tested::Refused(Refusal::Size);
+        return Err(Refusal::Size);
     }
     if ids.len() == n {
-        Tested::Passed
+        Ok(())
     } else {
-        Tested::Refused(Refusal::Length)
+        Err(Refusal::Length)
     }
 }
 
 // What is found of the peptide itself, then of its flag.
-fn test_turn(p: Peptide, decoy: u32) -> Tested
+fn test_turn(p: Peptide, decoy: u32) -> Result<(), Refusal>
     ensures { result ≡ tested_turn p decoy }
 {
     let made = p.reverse();
     let found = made.tested;
-    if let Tested::Refused(why) = found {
-        return Tested::Refused(why);
-    }
+    found?;
     if decoy <= 1 {
-        Tested::Passed
+        Ok(())
     } else {
-        Tested::Refused(Refusal::Field(0))
+        Err(Refusal::Field(0))
     }
 }
 
 // The tests of a reversal, in document 01's order.
-pub fn test_reverse(letters: &[u8], ids: &[u8], decoy: u32) -> Tested
+pub fn test_reverse(letters: &[u8], ids: &[u8], decoy: u32) -> Result<(), Refusal>
     ensures { result ≡ tested_reverse letters.now ids.now decoy }
 {
-    if let Tested::Refused(why) = test_lengths(letters, ids) {
-        return Tested::Refused(why);
-    }
+    test_lengths(letters, ids)?;
     let p = peptide_of(letters, ids, 0, 0, 0, decoy == 1);
     test_turn(p, decoy)
 }

@@ -2,7 +2,7 @@
 ghost use Rattle.std.specs.Prelude.{◌+◌, ◌≤◌};
 ghost use Rattle.io.specs.Counts.{IsPrefixLen};
 
-use records::{Refusal, byte_at, put_byte, put_bytes, u32_at};
+use records::{Refusal, byte_at, put_byte, put_at, u32_at};
 use text_lines::up_to;
 
 // One of the eight numbers of the record at a place.
@@ -37,7 +37,7 @@ fn put_number(line: &mut [u8], at: usize, n: u32, behind: u8) -> usize
 {
     let mut digits = [0u8; 20];
     let k = io::decimal(n as u64, &mut digits);
-    put_bytes(line, at, &digits[..k]);
+    put_at(line, at, &digits[..k]);
     let end = at + digit_count(k);
     put_byte(line, end, behind);
     end + 1

@@ -4,9 +4,9 @@ use mathlib.Core.List.{List, [], ◌∷◌}
 use Prim.Native.Nat.{ℕ}
 use borrow.Author.Tests.{ltb-false}
 use Rattle.catalogue_names.specs.NamesInLaws.{names_in, names_short, names_many, names_parted}
-use Rattle.records.specs.declared.refusal.Tested.{Tested}
 use Rattle.records.specs.Outcome.{outcome}
 use Rattle.catalogue_names.proofs.names.names_tested_in.Goals as goal
+use Rattle.records.specs.Answers.{Tested}
 
 pub returns-then-too_many_names : goal.returns-then-too_many_names
 returns-then-too_many_names c = let a = c.args in sym (names_many a.names.now a.tab.now (sym c.too_many_names.ensures ∙ c.if-too_many_names.true))

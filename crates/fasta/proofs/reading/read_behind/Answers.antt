@@ -1,16 +1,17 @@
 -- `read_behind` meets its contract. Assumes nothing.
+use Rattle.std.proofs.Common.{Err}
 use Prim.Native.Nat.{ℕ}
 use mathlib.Core.Path.{◌≡◌, sym, ap, ◌∙◌}
 use mathlib.Core.List.{List}
 use lib.ListN.{length}
 use lib.Dec.{ltb}
 use borrow.Author.Tests.{ltb-false}
-use Rattle.records.specs.declared.refusal.Tested.TheVariants.{Passed, Refused as Bad}
 use Rattle.fasta_lines.specs.Lines.{together}
 use Rattle.fasta.specs.Entries.{too_long, entry_tested}
 use Rattle.fasta.specs.EntryLaws.{lines_part, entry_1, entry-refused, entry_given}
 use Rattle.fasta.proofs.reading.read_behind.Goals.{After-is_too_long}
 use Rattle.fasta.proofs.reading.read_behind.Goals as goal
+use Rattle.records.specs.Answers.{Passed}
 
 long : (c : After-is_too_long) → c.is_too_long.result ≡ too_long c.args.e.now
 long c = c.is_too_long.ensures ∙ ap (λ (l : List ℕ). ltb 65536 (length (together l))) (lines_part c.args.e.now _ c.run_len-head.ensures.0)
@@ -32,5 +33,5 @@ returns-in-Passed c =
 pub returns-in-Refused : goal.returns-in-Refused
 returns-in-Refused c =
     let a = c.args in
-    let e : entry_tested a.q a.e.now ≡ Bad c.in-Refused.why = cc in
+    let e : entry_tested a.q a.e.now ≡ Err c.in-Refused.why = cc in
     entry-refused a.q a.e.now a.name.now a.letters.now (sym (long (goal.at.returns-in-Refused c).After-is_too_long) ∙ c.if-is_too_long.false) _ e

@@ -6,7 +6,6 @@ use native.Mathlib.Nat.{sub-zero}
 use lib.ListN.{length, take}
 use Rattle.peptide_mass.specs.Masses.{weighed}
 use Rattle.peptide_digests.specs.DigestTests.{tested_digest}
-use Rattle.records.specs.declared.refusal.Tested.{Tested}
 use Rattle.peptide.specs.declared.making.Peptide.{Peptide}
 use Rattle.peptide.specs.Peptides.{residues_of}
 use Rattle.peptide.specs.PeptideLaws.{passed-fits}
@@ -15,8 +14,9 @@ use Rattle.peptide.specs.DigestedLaws.{made-tested, made-digested, mass-refused,
 use Rattle.std.proofs.Common.{rules}
 use Rattle.peptide.proofs.digested.digest_mass.Goals.{In_default}
 use Rattle.peptide.proofs.digested.digest_mass.Goals as goal
+use Rattle.records.specs.Answers.{Passed, Tested}
 
-passed : (c : In_default) → let a = c.args in tested_digest a.letters.now a.bytes.now a.masses.now ≡ Tested.Passed
+passed : (c : In_default) → let a = c.args in tested_digest a.letters.now a.bytes.now a.masses.now ≡ Passed
 passed c =
     let a = c.args in
     sym (made-tested a.letters.now a.bytes.now a.masses.now c.of_digest-made.result c.of_digest-made.ensures) ∙ c.in_default.is

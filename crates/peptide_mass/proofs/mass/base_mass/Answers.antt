@@ -1,8 +1,9 @@
 -- `base_mass` meets its contract. Assumes nothing.
+use Rattle.std.proofs.Common.{Ok}
 use mathlib.Core.Path.{sym, ap, ◌∙◌}
-use Rattle.peptide_mass.specs.declared.mass.Weighed.{Weighed}
 use Rattle.peptide_mass.specs.MassLaws.{passed_weighable, weighed-refused, weighed-passed}
 use Rattle.peptide_mass.proofs.mass.base_mass.Goals as goal
+use Rattle.peptide_mass.specs.Masses.{Weighed}
 
 pub returns-in-Refused : goal.returns-in-Refused
 returns-in-Refused c =
@@ -18,4 +19,4 @@ sum-requires c =
 pub returns : goal.returns
 returns c =
     let a = c.args in
-    ap Weighed.Mass c.sum.ensures ∙ weighed-passed a.letters.now a.masses.now a.water (sym c.in_default.is ∙ c.test_letters.ensures)
+    ap Ok c.sum.ensures ∙ weighed-passed a.letters.now a.masses.now a.water (sym c.in_default.is ∙ c.test_letters.ensures)

@@ -1,8 +1,15 @@
 -- `put_u32` meets its contract. Assumes nothing.
-use mathlib.Core.Path.{sym}
+use Rattle.std.proofs.Common.{◌≡◌, ℕ, ◌+◌, ◌-◌, ◌/◌, refl, ◌∙◌, arith}
+use Rattle.std.specs.Int.{w32, to_le_bytes}
 use Rattle.records.specs.Le.{le}
-use Rattle.records.specs.LeLaws.{sets_out}
+use Rattle.records.specs.StoreLaws.{part_stored}
 use Rattle.records.proofs.number.put_u32.Goals as goal
 
-pub returns-then-out-at : goal.returns-then-out-at
-returns-then-out-at c = sym (sets_out (le 4 c.args.n) c.args.out.now c.args.at c.if-out-at.true)
+bytes_of : (n : ℕ) → to_le_bytes w32 n ≡ le 4 n
+bytes_of n =
+    let a : n / 65536 ≡ n / 256 / 256 = omega arith in
+    let b : n / 16777216 ≡ n / 256 / 256 / 256 = omega arith in
+    rw (a, b) refl
+
+pub returns-then-out-at-ge4 : goal.returns-then-out-at-ge4
+returns-then-out-at-ge4 c = part_stored c.args.out.now _ (le 4 c.args.n) c.args.at (c.args.at + 4 - c.args.at) (omega arith) (c.copy_from_slice.ensures.after ∙ c.to_le_bytes-bytes.ensures ∙ bytes_of c.args.n) (omega arith)

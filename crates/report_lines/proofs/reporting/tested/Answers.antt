@@ -2,9 +2,9 @@
 use mathlib.Core.Path.{ap, ◌∙◌}
 use mathlib.Core.Bool.{false}
 use Rattle.records.specs.Outcome.{Outcome}
-use Rattle.report_lines.specs.declared.reporting.Reported.{Reported}
 use Rattle.report_lines.specs.ReportingLaws.{tests_of, tests_told}
 use Rattle.report_lines.proofs.reporting.tested.Goals as goal
+use Rattle.report_lines.specs.Reporting.{Reported}
 
 pub returns : goal.returns
 returns c =

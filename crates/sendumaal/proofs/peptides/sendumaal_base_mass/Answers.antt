@@ -1,9 +1,9 @@
 -- `sendumaal_base_mass` meets its contract. Assumes nothing.
 use mathlib.Core.Path.{sym, ap, ◌∙◌}
-use Rattle.peptide_mass.specs.declared.mass.Weighed.{Weighed}
 use Rattle.sendumaal_calls.specs.PeptideCalls.{weight_call}
 use Rattle.sendumaal_calls.specs.PeptideCallLaws.{weight_said}
 use Rattle.sendumaal.proofs.peptides.sendumaal_base_mass.Goals as goal
+use Rattle.peptide_mass.specs.Masses.{Weighed}
 
 pub returns-in-Mass : goal.returns-in-Mass
 returns-in-Mass c = ap (λ (w : Weighed). weight_call w c.args.mass.now) (sym c.in-Mass.is ∙ c.base_mass-answer.ensures)

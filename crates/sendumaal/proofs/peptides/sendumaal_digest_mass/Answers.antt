@@ -1,10 +1,10 @@
 -- `sendumaal_digest_mass` meets its contract. Assumes nothing.
 use mathlib.Core.Path.{sym, ap, ◌∙◌}
-use Rattle.peptide_mass.specs.declared.mass.Weighed.{Weighed}
 use Rattle.enzyme_keep.specs.Digests.{position_in}
 use Rattle.sendumaal_calls.specs.PeptideCalls.{digest_weight_call}
 use Rattle.sendumaal_calls.specs.PeptideCallLaws.{digest-weight_said}
 use Rattle.sendumaal.proofs.peptides.sendumaal_digest_mass.Goals as goal
+use Rattle.peptide_mass.specs.Masses.{Weighed}
 
 pub returns-in-Mass : goal.returns-in-Mass
 returns-in-Mass c =

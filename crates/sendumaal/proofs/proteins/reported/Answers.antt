@@ -1,10 +1,10 @@
 -- `reported` meets its contract. Assumes nothing.
 use mathlib.Core.Path.{sym, ap, ◌∙◌}
 use mathlib.Core.List.{[], ◌∷◌}
-use Rattle.report_lines.specs.declared.reporting.Reported.{Reported}
 use Rattle.sendumaal_calls.specs.CallLaws.{said}
 use Rattle.sendumaal.specs.ProteinCalls.{report_call}
 use Rattle.sendumaal.proofs.proteins.reported.Goals as goal
+use Rattle.report_lines.specs.Reporting.{Reported}
 
 pub returns-in-Refused : goal.returns-in-Refused
 returns-in-Refused c =

@@ -2,10 +2,10 @@
 use mathlib.Core.Path.{sym, ap, ap₂, ◌∙◌}
 use mathlib.Core.List.{[], ◌∷◌}
 use Prim.Native.Nat.{ℕ}
-use Rattle.modification_texts.specs.declared.text.Parsed.{Parsed}
 use Rattle.sendumaal_calls.specs.Calls.{accepted, parse_call}
 use Rattle.sendumaal_calls.specs.CallLaws.{said}
 use Rattle.sendumaal.proofs.rules.sendumaal_rule_parse.Goals as goal
+use Rattle.modification_texts.specs.Texts.{Parsed}
 
 pub returns-in-Rule : goal.returns-in-Rule
 returns-in-Rule c =

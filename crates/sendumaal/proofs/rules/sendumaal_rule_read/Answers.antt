@@ -2,10 +2,10 @@
 use mathlib.Core.Path.{sym, ap, ap₂, ◌∙◌}
 use mathlib.Core.List.{[], ◌∷◌}
 use Prim.Native.Nat.{ℕ}
-use Rattle.modification_rules.specs.declared.rule.Read.{Read}
 use Rattle.sendumaal_calls.specs.Calls.{accepted, read_call}
 use Rattle.sendumaal_calls.specs.CallLaws.{said}
 use Rattle.sendumaal.proofs.rules.sendumaal_rule_read.Goals as goal
+use Rattle.modification_rules.specs.Rules.{Read}
 
 pub returns-in-Rule : goal.returns-in-Rule
 returns-in-Rule c =

@@ -1,10 +1,10 @@
 -- `counted` meets its contract. Assumes nothing.
 use mathlib.Core.Path.{sym, ap, ◌∙◌}
 use mathlib.Core.List.{[], ◌∷◌}
-use Rattle.records.specs.declared.refusal.Counted.{Counted}
 use Rattle.sendumaal_calls.specs.Calls.{count_call}
 use Rattle.sendumaal_calls.specs.CallLaws.{said}
 use Rattle.sendumaal_calls.proofs.telling.counted.Goals as goal
+use Rattle.records.specs.Answers.{Counted}
 
 pub returns-in-Refused : goal.returns-in-Refused
 returns-in-Refused c =
