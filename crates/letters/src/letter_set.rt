@@ -36,7 +36,7 @@ impl LetterSet {
     pub fn contains(self, letter: u8) -> bool
         ensures { result ≡ has self letter }
     {
-        let k = std::num::wrapping_sub_u8(letter, 65);
+        let k = letter.wrapping_sub(65);
         (k < 64) & (((self.mask % 0x0400_0000) >> (k % 32)) % 2 == 1)
     }
 

@@ -29,22 +29,19 @@ pub fn capital(b: u8) -> u8
 pub fn is_letter(b: u8) -> bool
     ensures { result ≡ is_letter b }
 {
-    std::num::wrapping_sub_u8(b | 32, 97) < 26
+    (b | 32).wrapping_sub(97) < 26
 }
 
 // The index of the first byte that is no letter, or the length, sought byte by byte.
 fn seek_bad(s: &[u8]) -> usize
     ensures { result ≡ first_bad s.now }
 {
-    let mut i = 0;
-    while i < s.len() {
-        if is_letter(s[i]) {
-            i += 1;
-        } else {
+    for (i, b) in s.iter().enumerate() {
+        if !is_letter(*b) {
             return i;
         }
     }
-    i
+    s.len()
 }
 
 // Whether all bytes are letters. It looks at all: a loop that ends early costs more than one that goes over many bytes at a time.
@@ -52,10 +49,8 @@ fn all_good(s: &[u8]) -> bool
     ensures { result ≡ true → length s.now ≡ first_bad s.now }
 {
     let mut good = true;
-    let mut i = 0;
-    while i < s.len() {
-        good = good & is_letter(s[i]);
-        i += 1;
+    for b in s {
+        good = good & is_letter(*b);
     }
     good
 }
@@ -76,10 +71,8 @@ pub fn has_small(s: &[u8]) -> bool
     ensures { result ≡ some is_small s.now }
 {
     let mut found = false;
-    let mut i = 0;
-    while i < s.len() {
-        found = found | is_small(s[i]);
-        i += 1;
+    for b in s {
+        found = found | is_small(*b);
     }
     found
 }
@@ -88,10 +81,7 @@ pub fn has_small(s: &[u8]) -> bool
 pub fn raise_all(s: &mut [u8])
     ensures { s.new ≡ capitals s.old }
 {
-    let mut i = 0;
-    while i < s.len() {
-        let b = s[i];
-        s[i] = capital(b);
-        i += 1;
+    for b in s.iter_mut() {
+        *b = capital(*b);
     }
 }

@@ -64,20 +64,20 @@ impl Refusal {
         ensures { result ≡ place_of self }
     {
         match self {
-            Refusal::Letter(at) => at,
-            Refusal::Outside(at) => at,
-            Refusal::Field(at) => at,
-            Refusal::Name(at) => at,
-            Refusal::Repeat(at) => at,
-            Refusal::Stray(at) => at,
-            Refusal::Size => 0,
-            Refusal::Alphabet => 0,
-            Refusal::EmptyText => 0,
-            Refusal::LongText => 0,
-            Refusal::TableFull => 0,
-            Refusal::Length => 0,
-            Refusal::Work => 0,
-            Refusal::Room => 0,
+            Refusal::Letter(at)
+            | Refusal::Outside(at)
+            | Refusal::Field(at)
+            | Refusal::Name(at)
+            | Refusal::Repeat(at)
+            | Refusal::Stray(at) => at,
+            Refusal::Size
+            | Refusal::Alphabet
+            | Refusal::EmptyText
+            | Refusal::LongText
+            | Refusal::TableFull
+            | Refusal::Length
+            | Refusal::Work
+            | Refusal::Room => 0,
         }
     }
 }

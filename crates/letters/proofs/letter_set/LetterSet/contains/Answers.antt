@@ -47,6 +47,4 @@ module _ (s : LetterSet) (b k : ℕ) (h : k < 256) (e : (k + 65) % 256 ≡ b) wh
 
 pub returns : goal.returns
 unfolding bit_set
-returns c =
-    let k = c.wrapping_sub_u8-k in
-    member c.args.self c.args.letter k.result k.type_inv k.ensures.value
+returns c = member c.args.self c.args.letter ((c.args.letter + 191) % 256) (omega arith) (omega (arith, c.well_formed.0))
