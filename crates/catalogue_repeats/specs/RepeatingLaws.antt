@@ -7,8 +7,7 @@ use Rattle.records.specs.Outcome.{Outcome, outcome}
 use Rattle.records.specs.SearchLaws.{seek-to}
 use Rattle.sorting_spec.specs.Joined.{name_of}
 use Rattle.sorting_spec.specs.Repeats.{repeats, first_repeat}
-use Rattle.sorting_repeats.specs.Repeating.{repeated_at, repeat_outcome}
-use Rattle.sorting_repeats.specs.declared.repeats.Repeated.{Repeated}
+use Rattle.sorting_repeats.specs.Repeating.{Repeated, repeated_at, repeat_outcome}
 use Rattle.catalogue_spec.specs.Names.{name_count}
 use Rattle.catalogue_repeats.specs.Repeating.{cleared, repeat_place}
 

@@ -5,16 +5,12 @@ ghost use Rattle.sorting_spec.specs.Joined.{name_of};
 ghost use Rattle.sorting_spec.specs.Repeats.{first_repeat};
 ghost use Rattle.catalogue_spec.specs.Names.{name_count};
 
-use sorting_repeats::Repeated;
+use sorting_repeats::Unfit;
 
-fn place_in(n: usize, found: Repeated) -> usize
+fn place_in(n: usize, found: Result<Option<usize>, Unfit>) -> usize
     ensures { result ≡ repeat_place n found }
 {
-    match found {
-        Repeated::At(i) => i,
-        Repeated::Never => n,
-        Repeated::Unfit => n,
-    }
+    found.unwrap_or(None).unwrap_or(n)
 }
 
 // With a table that is lent: two numbers a name, which are zero at the end.

@@ -1,17 +1,15 @@
 -- Things sorted by the texts that a lent slice has of them, and their runs. Assumes nothing.
-use Rattle.std.specs.Prelude.{◌≡◌, Bool, true, List, [], ◌∷◌, ℕ, zero, suc, ◌+◌, ◌-◌, ◌≤◌, ◌<◌, length, get_or, take, drop}
+use Rattle.std.specs.Prelude.{◌≡◌, Bool, true, List, [], ◌∷◌, ℕ, zero, suc, ◌+◌, ◌-◌, ◌≤◌, ◌<◌, length, get_or, take, drop, Ok}
 use Rattle.std.proofs.Common.{sym, ap, subst, ◌∙◌, inl, inr, arith, le-leb, get_or-drop, drop-drop}
 use Rattle.std.proofs.Math.Seq.{slice, drop-nil, take-nil}
 use Rattle.lists.specs.FrameLaws.{Framed}
-use Rattle.sorting_runs.specs.Numbering.{numberable, numbered, numbers_outcome}
+use Rattle.sorting_runs.specs.Numbering.{Numbered, numberable, numbered, numbers_outcome}
 use Rattle.records.specs.Outcome.{Outcome, outcome}
 use Rattle.sorting_spec.specs.Sort.{sorted}
 use Rattle.sorting_texts.specs.declared.text.By.TheVariants.{Numbers}
 use Rattle.sorting_texts.specs.Text.{le_by, text_by}
 use Rattle.sorting_spec.specs.PartLaws.{drop-same, slice-same, at_take, at_drop}
 use Rattle.sorting_merge.specs.RangeLaws.{SortedRange}
-use Rattle.sorting_runs.specs.declared.runs.Numbered.{Numbered}
-use Rattle.sorting_runs.specs.declared.runs.Numbered.TheVariants.{Runs}
 use Rattle.sorting_spec.specs.Runs.{runs_of, run_numbers}
 use Rattle.sorting_slices.specs.SortingLaws.{order-fitting}
 use Rattle.sorting_runs.specs.NumberLaws.{numbered-take, numbered-slice, numbered-drop}
@@ -61,11 +59,11 @@ module _ (w₀ w₁ w₂ letters : List ℕ) (o t s e base : ℕ) (a : Numbered)
   fits : numberable o (o + t) s e (length w₁) ≡ true
   fits = rw (order-fitting o (o + t) s e (length w₁) (omega arith) o₁ (omega arith) (omega arith), le-leb (o + t - o) 4294967295 (omega arith))
 
-  told : outcome a (w₂ ∷ []) ≡ outcome (Runs (length (runs_of by (slice o (o + t) w₁)))) (numbered (Numbers base) letters o (o + t) s e w₁ ∷ [])
+  told : outcome a (w₂ ∷ []) ≡ outcome (Ok (length (runs_of by (slice o (o + t) w₁)))) (numbered (Numbers base) letters o (o + t) s e w₁ ∷ [])
   told = rw fits at n
 
   -- the answer is a count
-  pub counts : a ≡ Runs (length (runs_of by (slice o (o + t) w₁)))
+  pub counts : a ≡ Ok (length (runs_of by (slice o (o + t) w₁)))
   counts = ap (λ (x : Outcome Numbered). x.answer) told
 
   exit : w₂ ≡ numbered (Numbers base) letters o (o + t) s e w₁
@@ -97,12 +95,12 @@ module _ (w₀ w₁ w₂ letters : List ℕ) (o t s e base : ℕ) (a : Numbered)
   rest-go j (inl h) = at_take s w₂ w₁ front j (omega arith) ∙ r.rest j (inl h)
   rest-go j (inr h) = at_drop (s + t) w₂ w₁ behind j (omega arith) ∙ r.rest j (inr (omega arith))
 
-  pub runs_ordered : (k : ℕ) → a ≡ Runs k → RunsOrdered w₀ w₂ o t s e (e + base) k
+  pub runs_ordered : (k : ℕ) → a ≡ Ok k → RunsOrdered w₀ w₂ o t s e (e + base) k
   runs_ordered k q = record {
     order = slice-same o (o + t) w₂ w₁ (omega arith) (omega arith) (λ i f g. at_take s w₂ w₁ front i (omega arith)) ∙ sorts;
     ranks = numbers ∙ ap (λ (f : ℕ → ℕ → Bool). run_numbers f (slice o (o + t) w₁)) test ∙ ap (run_numbers (le_texts (text_at w₀ e (e + base)))) sorts;
     count =
-        (let u : Runs k ≡ Runs (length (runs_of by (slice o (o + t) w₁))) = sym q ∙ counts in let v : k ≡ length (runs_of by (slice o (o + t) w₁)) = cc in v)
+        (let u : Ok k ≡ Ok (length (runs_of by (slice o (o + t) w₁))) = sym q ∙ counts in let v : k ≡ length (runs_of by (slice o (o + t) w₁)) = cc in v)
         ∙ ap (λ (f : ℕ → ℕ → Bool). length (runs_of f (slice o (o + t) w₁))) test
         ∙ ap (λ (l : List ℕ). length (runs_of (le_texts (text_at w₀ e (e + base))) l)) sorts;
     rest = rest-go;

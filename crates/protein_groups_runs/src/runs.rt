@@ -7,7 +7,6 @@ ghost use Rattle.protein_groups_runs.specs.MetaLaws.{DistinctSpread};
 
 use protein_groups_numbering::{Plan, spread_runs};
 use records::wide;
-use sorting_runs::Numbered;
 use sorting_texts::By;
 
 // The numbers of the m stretches that are not empty, to w[o..]; answers how many.
@@ -38,10 +37,7 @@ fn order_runs(w: &mut [u32], o: usize, t: usize, s: usize, e: usize, base: u32) 
     let hi = o + t;
     sorting_merge::sort_range(By::Numbers(base), b"", w, o, hi, s, e);
     let numbered = sorting_runs::number_runs(By::Numbers(base), b"", w, o, hi, s, e);
-    match numbered {
-        Numbered::Runs(count) => count,
-        Numbered::Unfit => 0,
-    }
+    numbered.unwrap_or(0)
 }
 
 // How many were spread, and of how many runs.

@@ -1,6 +1,6 @@
 -- The least number that stands right after an equal in a sorted list: of the sorted numbers below n it is the first that repeats.
 -- Assumes nothing.
-use Rattle.std.specs.Prelude.{◌≡◌, refl, Bool, true, false, cond, ◌&&◌, ◌⊎◌, List, [], ◌∷◌, ◌++◌, ℕ, zero, suc, ◌+◌, ◌/◌, ◌≤◌, ◌<◌, min, leb, length, get_or, take, drop, replicate}
+use Rattle.std.specs.Prelude.{◌≡◌, refl, Bool, true, false, cond, ◌&&◌, ◌⊎◌, List, [], ◌∷◌, ◌++◌, ℕ, zero, suc, ◌+◌, ◌/◌, ◌≤◌, ◌<◌, min, leb, length, get_or, take, drop, replicate, Some, None, Ok, Err}
 use Rattle.std.proofs.Common.{sym, ap, ◌∙◌, inl, inr, ⊎_elim, add-one, arith, leb-true, leb-false, le-leb, lt-ltb, le-ltb, ltb-true, length-take-le}
 use Rattle.std.proofs.Math.Nat.{min-le_left, min-le_right}
 use Rattle.std.proofs.lemmas.Bool.{lt-leb}
@@ -18,11 +18,9 @@ use Rattle.sorting_spec.specs.SortLaws.{Orders}
 use Rattle.sorting_spec.specs.Lex.{lex_le}
 use Rattle.sorting_spec.specs.LexLaws.{lex_antisym, lex_refl, by_list}
 use Rattle.sorting_spec.specs.Joined.{name_of}
-use Rattle.sorting_texts.specs.Text.{le_by}
-use Rattle.sorting_repeats.specs.declared.repeats.Repeated.{Repeated}
-use Rattle.sorting_repeats.specs.declared.repeats.Repeated.TheVariants.{At, Never, Unfit}
+use Rattle.sorting_texts.specs.Text.{le_by, unfit}
 use Rattle.sorting_spec.specs.Repeats.{repeats, first_repeat}
-use Rattle.sorting_repeats.specs.Repeating.{roomy, repeat_outcome}
+use Rattle.sorting_repeats.specs.Repeating.{Repeated, roomy, repeat_outcome}
 use Rattle.sorting_spec.specs.PartLaws.{drop-same, at_drop}
 use Rattle.sorting_spec.specs.RepeatLaws.{Second, Later, sound, complete}
 use Rattle.sorting_merge.specs.RangeLaws.{SortedRange}
@@ -205,15 +203,15 @@ roomy-fits n w e =
     (leb-true n 4294967295 x.0, omega (arith, leb-true n (length w / 2) x.1))
 
 module _ (names w : List ℕ) where
-  pub repeated_unfit : roomy (length names / 64) w ≡ false → outcome Unfit (w ∷ []) ≡ repeat_outcome names w
+  pub repeated_unfit : roomy (length names / 64) w ≡ false → outcome (Err unfit) (w ∷ []) ≡ repeat_outcome names w
   repeated_unfit e = rw e
 
   module _ (x : List ℕ) (r : ℕ) (fits : roomy (length names / 64) w ≡ true) (is : r ≡ first_repeat (name_of names) (length names / 64))
       (clear : x ≡ replicate (length names / 64 + length names / 64) 0 ++ drop (length names / 64 + length names / 64) w) where
-    pub repeated_at : r < length names / 64 → outcome (At r) (x ∷ []) ≡ repeat_outcome names w
+    pub repeated_at : r < length names / 64 → outcome (Ok (Some r)) (x ∷ []) ≡ repeat_outcome names w
     repeated_at h = rw (fits, sym is, lt-ltb r (length names / 64) h, clear)
 
-    pub repeated_never : length names / 64 ≤ r → outcome Never (x ∷ []) ≡ repeat_outcome names w
+    pub repeated_never : length names / 64 ≤ r → outcome (Ok None) (x ∷ []) ≡ repeat_outcome names w
     repeated_never h = rw (fits, sym is, le-ltb r (length names / 64) h, clear)
 
 -- no second answer and no second contents meet the contract of `first_repeated`

@@ -3,4 +3,5 @@
 
 mod repeats;
 
-pub use repeats::{Repeated, first_repeated};
+pub use repeats::first_repeated;
+pub use sorting_texts::Unfit;

@@ -9,15 +9,7 @@ ghost use Rattle.sorting_spec.specs.Repeats.{first_repeat};
 ghost use Rattle.sorting_repeats.specs.Repeating.{repeat_outcome};
 ghost use Rattle.sorting_repeats.specs.LeastLaws.{lesser, least};
 
-use sorting_texts::By;
-
-// Where a name first stands again, or that none does, or that the lent slice is too short.
-#[derive(Clone, Copy)]
-pub enum Repeated {
-    At(usize),
-    Never,
-    Unfit,
-}
+use sorting_texts::{By, Unfit};
 
 // The least so far, after x behind p.
 fn lesser_of(by: By, letters: &[u8], keys: &[u32], b: u32, p: u32, x: u32) -> u32
@@ -78,7 +70,7 @@ fn repeat_among(names: &[u8], w: &mut [u32], n: u32) -> u32
 
 // The first of the names, records of 64 bytes, that equals an earlier one. Two numbers of w a name are needed, and are zero at
 // the end.
-pub fn first_repeated(names: &[u8], w: &mut [u32]) -> Repeated
+pub fn first_repeated(names: &[u8], w: &mut [u32]) -> Result<Option<usize>, Unfit>
     ensures { outcome result (w.new ∷ []) ≡ repeat_outcome names.now w.old }
 {
     let n = names.len() / 64;
@@ -87,11 +79,11 @@ pub fn first_repeated(names: &[u8], w: &mut [u32]) -> Repeated
         let r = repeat_among(names, w, count);
         if r < count {
             let place = r as usize;
-            Repeated::At(place)
+            Ok(Some(place))
         } else {
-            Repeated::Never
+            Ok(None)
         }
     } else {
-        Repeated::Unfit
+        Err(Unfit)
     }
 }

@@ -1,17 +1,15 @@
 -- Laws of the numbers of runs. Assumes nothing.
-use Rattle.std.specs.Prelude.{◌≡◌, refl, Bool, true, false, ◌&&◌, List, [], ◌∷◌, ◌++◌, ℕ, suc, ◌+◌, ◌-◌, ◌≤◌, ◌<◌, leb, length, get_or, take, drop, set}
+use Rattle.std.specs.Prelude.{◌≡◌, refl, Bool, true, false, ◌&&◌, List, [], ◌∷◌, ◌++◌, ℕ, suc, ◌+◌, ◌-◌, ◌≤◌, ◌<◌, leb, length, get_or, take, drop, set, Ok, Err}
 use Rattle.std.proofs.Common.{sym, ap, ◌∙◌, append-nil, zero-add, add-one, arith, leb-true, take-append-drop, length-append, length-set, get_or-set_other, drop-set-lt, take-take, take_at, drop_at, length-take-le}
 use Rattle.std.proofs.Math.Seq.{slice, slice-cons, slice_empty, append_snoc, length-slice}
 use Rattle.std.proofs.lemmas.List.{take-set-le, take-append-le}
-use Rattle.sorting_runs.specs.Numbering.{numberable, numbered, numbers_outcome}
+use Rattle.sorting_runs.specs.Numbering.{Numbered, numberable, numbered, numbers_outcome}
 use Rattle.lists.specs.Tests.{both}
 use Rattle.sorting_spec.specs.Runs.{runs_of, next, numbers_from, run_numbers}
 use Rattle.sorting_spec.specs.RunLaws.{count-on, count_from, next_le, length-numbers}
 use Rattle.records.specs.Outcome.{outcome, only}
 use Rattle.sorting_texts.specs.declared.text.By.{By}
-use Rattle.sorting_runs.specs.declared.runs.Numbered.{Numbered}
-use Rattle.sorting_runs.specs.declared.runs.Numbered.TheVariants.{Runs, Unfit}
-use Rattle.sorting_texts.specs.Text.{le_by}
+use Rattle.sorting_texts.specs.Text.{le_by, unfit}
 use Rattle.sorting_slices.specs.Sorting.{fitting}
 use Rattle.sorting_slices.specs.SortingLaws.{fitting-order}
 use Rattle.sorting_spec.specs.PartLaws.{slice_set, drop-same, at_drop, at_take}
@@ -129,12 +127,12 @@ numberable-order lo hi to e n h =
     (o.0, o.1, o.2, o.3, omega (arith, leb-true (hi - lo) 4294967295 a.1))
 
 module _ (by : By) (letters : List ℕ) (lo hi to e : ℕ) (w : List ℕ) where
-  pub number-unfit : numberable lo hi to e (length w) ≡ false → outcome Unfit (w ∷ []) ≡ numbers_outcome by letters lo hi to e w
+  pub number-unfit : numberable lo hi to e (length w) ≡ false → outcome (Err unfit) (w ∷ []) ≡ numbers_outcome by letters lo hi to e w
   number-unfit q = rw q
 
   pub number_fits : (x : List ℕ) (r : ℕ) → numberable lo hi to e (length w) ≡ true → r ≡ length (runs_of (le_by by letters (drop e w)) (slice lo hi w))
       → slice to (to + (hi - lo)) x ≡ run_numbers (le_by by letters (drop e w)) (slice lo hi w) → take to x ≡ take to w → drop (to + (hi - lo)) x ≡ drop (to + (hi - lo)) w
-      → outcome (Runs r) (x ∷ []) ≡ numbers_outcome by letters lo hi to e w
+      → outcome (Ok r) (x ∷ []) ≡ numbers_outcome by letters lo hi to e w
   number_fits x r q c m f d =
       let y : x ≡ numbered by letters lo hi to e w =
       in_three x to (to + (hi - lo)) (omega arith)

@@ -3,4 +3,5 @@
 
 mod runs;
 
-pub use runs::{Numbered, number_runs, run_end};
+pub use runs::{number_runs, run_end};
+pub use sorting_texts::Unfit;

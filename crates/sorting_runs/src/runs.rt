@@ -6,14 +6,7 @@ ghost use Rattle.sorting_texts.specs.Text.{le_by};
 ghost use Rattle.sorting_spec.specs.Runs.{run_length, runs_of, run_numbers, next};
 ghost use Rattle.records.specs.Outcome.{outcome};
 
-use sorting_texts::By;
-
-// How many runs there are, or that the lent slice does not hold what is asked.
-#[derive(Clone, Copy)]
-pub enum Numbered {
-    Runs(u32),
-    Unfit,
-}
+use sorting_texts::{By, Unfit};
 
 // Where the run that begins at lo stops.
 fn stop(by: By, letters: &[u8], w: &[u32], lo: usize, hi: usize, e: usize) -> usize
@@ -114,13 +107,13 @@ pub fn number_runs(
     hi: usize,
     to: usize,
     e: usize,
-) -> Numbered
+) -> Result<u32, Unfit>
     ensures { outcome result (w.new ∷ []) ≡ numbers_outcome by letters.now lo hi to e w.old }
 {
     if counts(lo, hi, to, e, w.len()) {
         let count = number_fitting(by, letters, w, lo, hi, to, e);
-        Numbered::Runs(count)
+        Ok(count)
     } else {
-        Numbered::Unfit
+        Err(Unfit)
     }
 }

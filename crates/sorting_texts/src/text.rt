@@ -26,6 +26,10 @@ pub enum By {
     Joined,
 }
 
+// Why a call says no: the lent slice does not hold what is asked.
+#[derive(Clone, Copy)]
+pub struct Unfit;
+
 // A part of a slice.
 #[derive(Clone, Copy)]
 pub struct Part {
