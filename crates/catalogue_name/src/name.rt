@@ -12,30 +12,24 @@ fn is_visible(b: u8) -> bool
 pub fn name_length(name: &[u8]) -> usize
     ensures { result ≡ name_length name.now }
 {
-    let mut i = 0;
-    while i < name.len() {
-        if is_visible(name[i]) {
-            i += 1;
-        } else {
+    for (i, b) in name.iter().enumerate() {
+        if !is_visible(*b) {
             return i;
         }
     }
-    i
+    name.len()
 }
 
 // The first place from `from` on where no zero stands, or the record's length.
 fn zeros_to(name: &[u8], from: usize) -> usize
     ensures { result ≡ zeros_to name.now from }
 {
-    let mut i = from;
-    while i < name.len() {
-        if name[i] == 0 {
-            i += 1;
-        } else {
+    for i in from..name.len() {
+        if name[i] != 0 {
             return i;
         }
     }
-    i
+    name.len().max(from)
 }
 
 // Whether a record is a name.

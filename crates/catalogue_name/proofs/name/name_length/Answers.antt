@@ -11,10 +11,10 @@ unfolding name_length
 loop-i-init c = seeking_all
 
 pub loop-i-preserved : goal.loop-i-preserved
-loop-i-preserved c = seeking_on c.loop-i.invariant (omega arith) (ap not (sym c.is_visible.ensures ∙ c.if-is_visible.true))
+loop-i-preserved c = seeking_on c.loop-i.invariant (omega arith) (ap not (sym c.is_visible.ensures ∙ c.if-not-is_visible.false))
 
-pub returns-else-is_visible : goal.returns-else-is_visible
-returns-else-is_visible c = seeking_stop c.loop-i.invariant (omega arith) (ap not (sym c.is_visible.ensures ∙ c.if-is_visible.false))
+pub returns-then-not-is_visible : goal.returns-then-not-is_visible
+returns-then-not-is_visible c = seeking_stop c.loop-i.invariant (omega arith) (ap not (sym c.is_visible.ensures ∙ c.if-not-is_visible.true))
 
 pub returns : goal.returns
-returns c = seeking_end c.loop-i.invariant (omega arith)
+returns c = let e = seeking_end c.loop-i.invariant (omega arith) in omega arith

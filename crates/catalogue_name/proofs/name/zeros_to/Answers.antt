@@ -9,13 +9,13 @@ use Rattle.catalogue_name.proofs.name.zeros_to.Goals as goal
 
 pub loop-i-init : goal.loop-i-init
 unfolding zeros_to
-loop-i-init c = seeking_from
+loop-i-init c = (omega arith, seeking_from)
 
 pub loop-i-preserved : goal.loop-i-preserved
-loop-i-preserved c = seeking_on c.loop-i.invariant (omega arith) (ap not (eq-eqb _ _ c.if-name-i-eq0.true))
+loop-i-preserved c = (omega arith, seeking_on c.loop-i.invariant.1 (omega arith) (ap not (eq-eqb _ _ c.if-name-i-ne0.false)))
 
-pub returns-else-name-i-eq0 : goal.returns-else-name-i-eq0
-returns-else-name-i-eq0 c = seeking_stop c.loop-i.invariant (omega arith) (ap not (ne_eqb _ _ c.if-name-i-eq0.false))
+pub returns-then-name-i-ne0 : goal.returns-then-name-i-ne0
+returns-then-name-i-ne0 c = seeking_stop c.loop-i.invariant.1 (omega arith) (ap not (ne_eqb _ _ c.if-name-i-ne0.true))
 
 pub returns : goal.returns
-returns c = seeking_end c.loop-i.invariant (omega arith)
+returns c = let e = seeking_end c.loop-i.invariant.1 (omega arith) in omega (arith, e, c.max.ensures)
