@@ -26,9 +26,7 @@ pub fn link(edges: &[u8], n: usize, f: usize, w: &mut [u32], size: usize, h: usi
     ensures chains { Chains w.new edges.now f n size h nx }
     ensures by_index_3 { (i : ℕ) → Out i h (h + size) → Out i nx (nx + n) → get_or w.new i 0 ≡ get_or w.old i 0 }
 {
-    let mut i = 0;
-    while i < n {
+    for i in 0..n {
         link_one(edges, i, f, w, h, nx);
-        i += 1;
     }
 }

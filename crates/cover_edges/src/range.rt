@@ -19,12 +19,10 @@ pub fn first_bad_edge(edges: &[u8], groups: usize, metas: usize) -> usize
     ensures { result ≡ first_bad_edge edges.now groups metas }
 {
     let n = edges.len() / 8;
-    let mut i = 0;
-    while i < n {
+    for i in 0..n {
         if is_bad_edge(edges, i, groups, metas) {
             return i;
         }
-        i += 1;
     }
     n
 }
@@ -33,12 +31,8 @@ pub fn first_bad_edge(edges: &[u8], groups: usize, metas: usize) -> usize
 pub fn first_bad_mark(marks: &[u8]) -> usize
     ensures { result ≡ first_bad_mark marks.now }
 {
-    let mut i = 0;
-    while i < marks.len() {
-        if 1 < marks[i] {
-            return i;
-        }
-        i += 1;
-    }
-    i
+    marks
+        .iter()
+        .position(|mark| 1 < *mark)
+        .unwrap_or(marks.len())
 }

@@ -1,5 +1,5 @@
 -- `link` meets its contract. Assumes nothing.
-use Prim.Native.Nat.{ℕ, ◌+◌, ◌-◌, ◌≤◌}
+use Prim.Native.Nat.{ℕ, ◌+◌}
 use mathlib.Core.Path.{◌≡◌}
 use lib.ListN.{length, get_or}
 use Rattle.lists.specs.FrameLaws.{Out}
@@ -7,7 +7,4 @@ use Rattle.cover_edges.specs.Chains.{Chains}
 use Rattle.cover_edges.proofs.linking.link.Given as goal
 
 abbrev pub invariant-loop-i : goal.invariant-loop-i
-invariant-loop-i l = (l.i ≤ l.n) × (length l.w ≡ length l.initial.w) × Chains l.w l.edges l.f l.i l.size l.h l.nx × ((j : ℕ) → Out j l.h (l.h + l.size) → Out j l.nx (l.nx + l.n) → get_or l.w j 0 ≡ get_or l.initial.w j 0)
-
-abbrev pub decreases-loop-i : goal.decreases-loop-i
-decreases-loop-i l = l.n - l.i
+invariant-loop-i l = (length l.w ≡ length l.initial.w) × Chains l.w l.edges l.f l.i l.size l.h l.nx × ((j : ℕ) → Out j l.h (l.h + l.size) → Out j l.nx (l.nx + l.n) → get_or l.w j 0 ≡ get_or l.initial.w j 0)

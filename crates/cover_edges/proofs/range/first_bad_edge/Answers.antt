@@ -1,4 +1,4 @@
--- `first_bad_edge` meets its contract: the count is answered at the end, so i does not pass it. Assumes nothing.
+-- `first_bad_edge` meets its contract. Assumes nothing.
 use mathlib.Core.Path.{sym, ◌∙◌}
 use native.Mathlib.Omega.{arith}
 use Rattle.records.specs.SeekingLaws.{seeking_all, seeking_stop, seeking_on, seeking_end}
@@ -7,13 +7,13 @@ use Rattle.cover_edges.proofs.range.first_bad_edge.Goals as goal
 
 pub loop-i-init : goal.loop-i-init
 unfolding first_bad_edge
-loop-i-init c = (omega arith, seeking_all)
+loop-i-init c = seeking_all
 
 pub returns-then-is_bad_edge : goal.returns-then-is_bad_edge
-returns-then-is_bad_edge c = seeking_stop c.loop-i.invariant.1 (omega arith) (sym c.is_bad_edge.ensures ∙ c.if-is_bad_edge.true)
+returns-then-is_bad_edge c = seeking_stop c.loop-i.invariant (omega arith) (sym c.is_bad_edge.ensures ∙ c.if-is_bad_edge.true)
 
 pub loop-i-preserved : goal.loop-i-preserved
-loop-i-preserved c = (omega arith, seeking_on c.loop-i.invariant.1 (omega arith) (sym c.is_bad_edge.ensures ∙ c.if-is_bad_edge.false))
+loop-i-preserved c = seeking_on c.loop-i.invariant (omega arith) (sym c.is_bad_edge.ensures ∙ c.if-is_bad_edge.false)
 
 pub returns : goal.returns
-returns c = omega (arith, seeking_end c.loop-i.invariant.1 (omega arith))
+returns c = omega (arith, seeking_end c.loop-i.invariant (omega arith))
