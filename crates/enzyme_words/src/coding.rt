@@ -12,20 +12,14 @@ pub(crate) fn digit(x: u8) -> u64
     if 90 < x {
         return 25;
     }
-    (x - 65) as u64
+    u64::from(x - 65)
 }
 
 pub(crate) fn power(k: usize) -> u64
     requires { k ≤ 12 }
     ensures { result ≡ 26 ^ k }
 {
-    let mut p = 1;
-    let mut i = 0;
-    while i < k {
-        p = 26 * p;
-        i += 1;
-    }
-    p
+    26u64.pow(k as u32)
 }
 
 // The number of the first k letters.
@@ -34,10 +28,8 @@ pub(crate) fn first(letters: &[u8], k: usize) -> u64
     ensures { result ≡ word_at letters.now 0 k }
 {
     let mut w = 0;
-    let mut i = 0;
-    while i < k {
+    for i in 0..k {
         w = 26 * w + digit(letters[i]);
-        i += 1;
     }
     w
 }

@@ -24,17 +24,13 @@ fn tally(letters: &[u8], q: usize, m: usize, far: &mut [u32], count: &mut [u8])
     }
     let top = power(q - 1);
     let mut rest = first(letters, q - 1);
-    let mut i = 0;
-    let mut e = q - 1;
-    while e < n {
-        let word = 26 * rest + digit(letters[e]);
+    for i in 0..n + 1 - q {
+        let word = 26 * rest + digit(letters[i + q - 1]);
         let at = place(word, m);
         let code = at as u32;
         far[i] = code;
         count[at] = raised(count[at]);
         rest = word - top * digit(letters[i]);
-        i += 1;
-        e += 1;
     }
 }
 
@@ -56,10 +52,8 @@ fn sweep(letters: &[u8], q: usize, m: usize, far: &mut [u32], count: &[u8])
     ensures { Far letters.now far.new }
 {
     let n = letters.len();
-    let mut i = n;
     let mut r = n + 1;
-    while 0 < i {
-        i -= 1;
+    for i in (0..n).rev() {
         r = end_at(i, q, n, far[i], count, r);
         let x = (r - i - 1) as u32;
         far[i] = x;

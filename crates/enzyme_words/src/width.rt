@@ -5,31 +5,21 @@ use crate::coding::digit;
 
 // Marks the letters that occur.
 fn mark(letters: &[u8], seen: &mut [u8; 26]) {
-    let mut i = 0;
-    while i < letters.len() {
-        let at = digit(letters[i]) as usize;
+    for x in letters {
+        let at = digit(*x) as usize;
         seen[at] = 1;
-        i += 1;
     }
 }
 
 // How many are marked.
 fn marked(seen: &[u8; 26]) -> usize {
-    let mut kinds = 0;
-    let mut i = 0;
-    while i < 26 {
-        if seen[i] == 1 {
-            kinds += 1;
-        }
-        i += 1;
-    }
-    kinds
+    seen.iter().filter(|x| **x == 1).count()
 }
 
 fn two_or_more(kinds: usize) -> usize
     ensures { 2 ≤ result }
 {
-    if kinds < 2 { 2 } else { kinds }
+    kinds.max(2)
 }
 
 // The least length, up to 13, of which there are more than `wanted` words over so many kinds of letters.
@@ -37,16 +27,14 @@ fn enough(kinds: usize, wanted: usize) -> usize
     requires { 2 ≤ kinds }
     ensures { (1 ≤ result) × (result ≤ 13) }
 {
-    let mut q = 1;
     let mut left = wanted / kinds;
-    while q < 13 {
+    for q in 1..13 {
         if left == 0 {
             return q;
         }
         left = left / kinds;
-        q += 1;
     }
-    q
+    13
 }
 
 // A length of which there are more than two and a half times as many words as starts: then most of those that stand stand once.
