@@ -6,8 +6,7 @@ pub fn first_cut(c: usize, e: usize, maximum: u32) -> usize
     requires { c ≤ 4294967296 }
     ensures { (c ≤ result) × ((x : ℕ) → c ≤ x → x < result → maximum < e - x) }
 {
-    let most = maximum as usize;
-    if c + most < e { e - most } else { c }
+    c.max(e.saturating_sub(maximum as usize))
 }
 
 // Where the parts from a on that end before e become too long.
@@ -15,8 +14,7 @@ pub fn last_cut(a: usize, e: usize, maximum: u32) -> usize
     requires { a < 4294967296 }
     ensures { (result ≤ e) × ((x : ℕ) → result ≤ x → x < e → maximum < x - a) }
 {
-    let most = maximum as usize;
-    if a + most < e { a + most + 1 } else { e }
+    e.min(a + maximum as usize + 1)
 }
 
 // The first cut of a..e from c on of which one part is not too long.
