@@ -7,5 +7,5 @@ mod scan;
 mod stretch;
 
 pub use kinds::{Enzyme, Kind, Knife, Side};
-pub use scan::{Site, next_cut};
+pub use scan::{Cut, next_cut};
 pub use stretch::equal;

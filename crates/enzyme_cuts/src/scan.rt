@@ -7,22 +7,18 @@ ghost use Rattle.enzyme_cuts.specs.Scan.{cut_by, find_cut};
 use crate::kinds::{Knife, Side};
 use letters::LetterSet;
 
-// The next cut: its place, and the place behind the letter that made it.
+// A cut: its place, and the place behind the letter that made it.
 #[derive(Clone, Copy)]
-pub enum Site {
-    Cut { place: usize, next: usize },
-    Last,
+pub struct Cut {
+    pub place: usize,
+    pub next: usize,
 }
 
 // Whether there is a letter at i and it is in the set.
 fn in_set(letters: &[u8], i: usize, set: LetterSet) -> bool
     ensures { result ≡ starts_in set (drop i letters.now) }
 {
-    if i < letters.len() {
-        set.contains(letters[i])
-    } else {
-        false
-    }
+    i < letters.len() && set.contains(letters[i])
 }
 
 // Where the letter at i cuts, with next the place behind it.
@@ -51,24 +47,16 @@ fn spares(letters: &[u8], place: usize, knife: Knife) -> bool
     in_set(letters, place, skip)
 }
 
-// The first cut of a letter at or behind `at`.
-pub fn next_cut(letters: &[u8], at: usize, knife: Knife) -> Site
+// The first cut of a letter at or behind `at`, if there is one.
+pub fn next_cut(letters: &[u8], at: usize, knife: Knife) -> Option<Cut>
     ensures { result ≡ find_cut knife at (drop at letters.now) }
 {
-    let mut i = at;
-    while i < letters.len() {
+    for i in at..letters.len() {
         let next = i + 1;
-        if cleaves(letters[i], knife) {
-            let side = knife.side;
-            let place = cut_of(side, i, next);
-            if spares(letters, place, knife) {
-                i = next;
-            } else {
-                return Site::Cut { place, next };
-            }
-        } else {
-            i = next;
+        let place = cut_of(knife.side, i, next);
+        if cleaves(letters[i], knife) && !spares(letters, place, knife) {
+            return Some(Cut { place, next });
         }
     }
-    Site::Last
+    None
 }

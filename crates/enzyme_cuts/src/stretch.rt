@@ -10,6 +10,7 @@ pub fn equal(a: &[u8], b: &[u8]) -> bool
         return false;
     }
     let mut i = 0;
+    // A while: each turn goes four bytes on.
     while i < a.len() {
         let x = records::u32_at(a, i);
         let y = records::u32_at(b, i);

@@ -17,15 +17,9 @@ returns-then-x-y c = let a = c.args in sym (same_stop a.a.now a.b.now c.loop-i.i
 pub loop-i-preserved : goal.loop-i-preserved
 loop-i-preserved c = let a = c.args in
     let l = c.loop-i in
-    (l.invariant.0, agree_four a.a.now a.b.now l.i (λ j. omega (arith, c.shared_slice_known-1.given j)) (λ j. omega (arith, c.shared_slice_known-2-1.given j)) (sym c.u32_at-x.ensures ∙ c.if-x-y.false ∙ c.u32_at-y.ensures) l.invariant.1)
+    (l.invariant.0, agree_four a.a.now a.b.now l.i (λ j. omega (arith, c.type_inv.a j)) (λ j. omega (arith, c.type_inv.b j)) (sym c.u32_at-x.ensures ∙ c.if-x-y.false ∙ c.u32_at-y.ensures) l.invariant.1)
 
 pub returns : goal.returns
 returns c = let a = c.args in
     let l = c.loop-i in
     sym (agree_all a.a.now a.b.now l.i l.invariant.0 (omega arith) l.invariant.1)
-
-pub overflow_add-i : goal.overflow_add-i
-overflow_add-i c = omega arith
-
-pub loop-i-smaller : goal.loop-i-smaller
-loop-i-smaller c = omega arith
