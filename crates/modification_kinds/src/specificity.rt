@@ -31,11 +31,11 @@ impl Specificity {
         ensures { result ≡ letter_of self }
     {
         match self {
-            Specificity::Residue(b) => b,
-            Specificity::PeptideN(b) => b,
-            Specificity::PeptideC(b) => b,
-            Specificity::ProteinN(b) => b,
-            Specificity::ProteinC(b) => b,
+            Specificity::Residue(b)
+            | Specificity::PeptideN(b)
+            | Specificity::PeptideC(b)
+            | Specificity::ProteinN(b)
+            | Specificity::ProteinC(b) => b,
         }
     }
 }
@@ -51,17 +51,11 @@ pub fn is_sound(kind: u8, letter: u8) -> bool
 pub fn specificity_of(kind: u8, letter: u8) -> Specificity
     ensures { result ≡ specificity kind letter }
 {
-    if kind == 1 {
-        return Specificity::PeptideN(letter);
+    match kind {
+        1 => Specificity::PeptideN(letter),
+        2 => Specificity::PeptideC(letter),
+        3 => Specificity::ProteinN(letter),
+        4 => Specificity::ProteinC(letter),
+        _ => Specificity::Residue(letter),
     }
-    if kind == 2 {
-        return Specificity::PeptideC(letter);
-    }
-    if kind == 3 {
-        return Specificity::ProteinN(letter);
-    }
-    if kind == 4 {
-        return Specificity::ProteinC(letter);
-    }
-    Specificity::Residue(letter)
 }
