@@ -1,12 +1,13 @@
 -- Worked cases of the counter. Of each answer its choice is shown, or nothing where none is left.
-use Rattle.std.specs.Prelude.{ℕ, refl, cond, List, [], ◌∷◌, ◌++◌, replicate}
+use Rattle.std.specs.Prelude.{ℕ, refl, Some, None, List, [], ◌∷◌, ◌++◌, replicate}
 use Rattle.records.specs.Cases.{Case, Hold}
 use Rattle.peptide_choices.specs.Choices.{choices_of}
+use Rattle.peptide_choices.specs.Stepped.{Stepped}
 use Rattle.peptide_choices.specs.Steps.{follower, stepped_to, successor, word}
-use Rattle.peptide_choices.specs.declared.choice.Stepped.{Stepped}
 
 abbrev shown : Stepped → List (List ℕ)
-shown s = cond s.more (word s.choice ∷ []) []
+shown None = []
+shown (Some c) = word c ∷ []
 
 -- the successor of a choice of two of m sites; 9 stands past its places
 abbrev stepping : ℕ → List ℕ → List (List ℕ) → Case

@@ -2,6 +2,7 @@
 -- Laws say what follows.
 pub mod Choices
 pub mod ListingLaws
+pub mod Stepped
 pub mod Steps
 pub mod Cases
 pub mod OrderLaws

@@ -1,10 +1,10 @@
 -- What the counter of choices answers: the successor of a choice, or the one that differs from it among its first places.
-use Rattle.std.specs.Prelude.{ℕ, zero, suc, ◌+◌, true, false, cond, List, [], ◌∷◌, ◌++◌, length, take, drop, replicate, ltb, leb}
+use Rattle.std.specs.Prelude.{ℕ, zero, suc, ◌+◌, cond, List, [], ◌∷◌, ◌++◌, length, take, drop, replicate, ltb, leb, Some, None}
 use Rattle.std.proofs.Math.Option.{Option, none, some}
 use Rattle.lists.specs.Lists.{same, up_from}
 use Rattle.peptide_choices.specs.Choices.{choices_of}
+use Rattle.peptide_choices.specs.Stepped.{Stepped}
 use Rattle.peptide_choices.specs.declared.choice.Choice.{Choice}
-use Rattle.peptide_choices.specs.declared.choice.Stepped.{Stepped}
 
 -- the first choice of n of m places
 unfoldable pub first_of : ℕ → ℕ → Option (List ℕ)
@@ -32,10 +32,10 @@ past m (suc e) (a ∷ rest) = move m a rest (past m e rest)
 abbrev pub word : Choice → List ℕ
 word c = take c.n c.at
 
--- the state that stands at a choice, or at none; the places past n stay
+-- the answer that is a choice, or none; the places past n stay
 unfoldable pub stepped_to : Choice → Option (List ℕ) → Stepped
-stepped_to c none = record { more = false; choice = c }
-stepped_to c (some l) = record { more = true; choice = record { at = l ++ drop c.n c.at; n = c.n; m = c.m } }
+stepped_to c none = None
+stepped_to c (some l) = Some (record { at = l ++ drop c.n c.at; n = c.n; m = c.m })
 
 -- the first of a list
 abbrev pub first_in : List (List ℕ) → Option (List ℕ)

@@ -1,6 +1,6 @@
 -- The successor of a choice stands behind it with nothing between, and is what the step past the whole choice answers.
 -- Assumes nothing.
-use Rattle.std.specs.Prelude.{ℕ, suc, ◌+◌, ◌≤◌, ◌<◌, ◌≡◌, refl, Bool, true, false, cond, ◌&&◌, List, [], ◌∷◌, ◌⊎◌, length, get_or, take, drop, leb, ltb}
+use Rattle.std.specs.Prelude.{ℕ, suc, ◌+◌, ◌≤◌, ◌<◌, ◌≡◌, refl, Bool, true, false, cond, ◌&&◌, List, [], ◌∷◌, ◌⊎◌, length, get_or, take, drop, leb, ltb, None}
 use Rattle.std.proofs.Common.{sym, ap, ◌∙◌, subst, true≢false, ⊎_elim, inl, inr, arith, zero-add, add-one, drop_of_length-le, length-take, drop-cons, get_or-take, length-take-le, le-leb, lt-ltb, leb-true, ltb-true}
 use Rattle.std.proofs.Math.Option.{Option, none, some}
 use Rattle.lists.specs.Tests.{both}
@@ -94,7 +94,7 @@ past-whole c i =
     let l : length (word c) ≡ c.n = (choices_only c.n c.m 0 (word c) i).1 in
     ap (stepped_to c) (past_all c.m (suc c.n) (word c) (omega arith) ∙ sym (follower_in (word c) (chain_first c.n c.m) i))
 
-pub no_successor : (c : Choice) → (IsOne c → ⊥) → successor c ≡ record { more = false; choice = c }
+pub no_successor : (c : Choice) → (IsOne c → ⊥) → successor c ≡ None
 unfolding successor stepped_to
 no_successor c h = ap (stepped_to c) (follower_out (word c) (choices_of c.n c.m 0) h)
 

@@ -1,5 +1,5 @@
 // A small state stepped by value through the choices of n places, in lexicographic order.
-ghost use Rattle.std.specs.Prelude.{◌≡◌, true, false, ◌++◌, ◌⊎◌, ℕ, suc, ◌+◌, ◌-◌, ◌≤◌, ◌<◌, min, take, drop, get_or};
+ghost use Rattle.std.specs.Prelude.{◌≡◌, true, false, ◌++◌, ℕ, suc, ◌+◌, ◌-◌, ◌≤◌, ◌<◌, take, drop, get_or, IfSome, IfNone};
 ghost use Rattle.lists.specs.Lists.{up_from};
 ghost use Rattle.peptide_choices.specs.Steps.{begun_choice, stepped, successor};
 ghost use Rattle.peptide_choices.specs.SuccessorLaws.{IsOne};
@@ -12,29 +12,19 @@ pub struct Choice {
     pub m: usize,
 }
 
-// A choice, or that none is left.
-#[derive(Clone, Copy)]
-pub struct Stepped {
-    pub more: bool,
-    pub choice: Choice,
-}
-
-// The last of the first e places that can still move, or n where none can.
-fn movable(at: [usize; 8], e: usize, n: usize, m: usize) -> usize
+// The last of the first e places that can still move.
+fn movable(at: [usize; 8], e: usize, n: usize, m: usize) -> Option<usize>
     requires { (e ≤ n) × (n ≤ 8) }
-    ensures { (result ≤ n) × ((result < n → (result < e) × (get_or at result 0 + (n - result) < m)) × ((j : ℕ) → (result < j) ⊎ (result ≡ n) → j < e → m ≤ get_or at j 0 + (n - j))) }
+    ensures found { IfSome result (λ i. (i < e) × (get_or at i 0 + (n - i) < m) × ((j : ℕ) → i < j → j < e → m ≤ get_or at j 0 + (n - j))) }
+    ensures none { IfNone result ((j : ℕ) → j < e → m ≤ get_or at j 0 + (n - j)) }
 {
-    let mut i = e;
-    while 0 < i {
-        let a = at[i - 1];
-        if a < m {
-            if n - (i - 1) < m - a {
-                return i - 1;
-            }
+    for i in (0..e).rev() {
+        let a = at[i];
+        if a < m && n - i < m - a {
+            return Some(i);
         }
-        i -= 1;
     }
-    n
+    None
 }
 
 // Place i moves by one, and those after it follow it.
@@ -42,104 +32,69 @@ fn refilled(at: [usize; 8], i: usize, n: usize, m: usize) -> [usize; 8]
     requires { (i < n) × (n ≤ 8) × (get_or at i 0 + (n - i) < m) }
     ensures { result ≡ take i at ++ (up_from (suc (get_or at i 0)) (n - i) ++ drop n at) }
 {
+    let first = at[i] + 1;
     let mut out = at;
-    let mut v = at[i];
-    let mut j = i;
-    while j < n {
-        v += 1;
-        out[j] = v;
-        j += 1;
+    for j in i..n {
+        out[j] = first + (j - i);
     }
     out
 }
 
-// One more than kept, up to n.
-fn one_more(kept: usize, n: usize) -> usize
-    ensures { result ≡ min (kept + 1) n }
-{
-    if kept < n { kept + 1 } else { n }
-}
-
 impl Choice {
-    // The first choice of n of m sites.
-    pub fn first(n: usize, m: usize) -> Stepped
+    // The first choice of n of m sites, or that there is none.
+    pub fn first(n: usize, m: usize) -> Option<Choice>
         requires { n ≤ 8 }
         ensures { result ≡ begun_choice n m }
     {
-        let mut at = [0usize; 8];
-        let mut i = 0;
         if m < n {
-            let none = Choice { at, n, m };
-            return Stepped {
-                more: false,
-                choice: none,
-            };
+            return None;
         }
-        while i < n {
+        let mut at = [0usize; 8];
+        for i in 0..n {
             at[i] = i;
-            i += 1;
         }
-        let choice = Choice { at, n, m };
-        Stepped { more: true, choice }
+        Some(Choice { at, n, m })
     }
 
     // Whether it is one of the choices of n of m sites.
     fn is_one(self) -> bool
         ensures { (result ≡ true → IsOne self) × (result ≡ false → IsOne self → ⊥) }
     {
-        let at = self.at;
-        let n = self.n;
-        let m = self.m;
         let mut low = 0;
-        let mut i = 0;
-        if 8 < n {
+        if 8 < self.n {
             return false;
         }
-        while i < n {
-            let a = at[i];
-            if (low <= a) & (a < m) {
-                low = a + 1;
-                i += 1;
-            } else {
+        for i in 0..self.n {
+            let a = self.at[i];
+            if a < low || self.m <= a {
                 return false;
             }
+            low = a + 1;
         }
         true
     }
 
     // The successor in lexicographic order among the choices of n of m sites, or that none is left.
-    pub fn next(self) -> Stepped
+    pub fn next(self) -> Option<Choice>
         ensures { result ≡ successor self }
     {
-        let n = self.n;
         if self.is_one() {
-            return self.next_past(n);
+            return self.next_past(self.n);
         }
-        Stepped {
-            more: false,
-            choice: self,
-        }
+        None
     }
 
     // The successor that comes after all that begin with the first kept + 1 places: where those clash, no choice that
     // begins with them can pass. With kept of n or n - 1 it is the next choice.
-    pub fn next_past(self, kept: usize) -> Stepped
+    pub fn next_past(self, kept: usize) -> Option<Choice>
         requires { self.n ≤ 8 }
         ensures { result ≡ stepped self kept }
     {
-        let at = self.at;
         let n = self.n;
         let m = self.m;
-        let e = one_more(kept, n);
-        let i = movable(at, e, n, m);
-        if i < n {
-            let made = refilled(at, i, n, m);
-            let choice = Choice { at: made, n, m };
-            return Stepped { more: true, choice };
-        }
-        Stepped {
-            more: false,
-            choice: self,
-        }
+        let e = kept.saturating_add(1).min(n);
+        let i = movable(self.at, e, n, m)?;
+        let at = refilled(self.at, i, n, m);
+        Some(Choice { at, n, m })
     }
 }

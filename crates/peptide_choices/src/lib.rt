@@ -3,4 +3,4 @@
 
 mod choice;
 
-pub use choice::{Choice, Stepped};
+pub use choice::Choice;

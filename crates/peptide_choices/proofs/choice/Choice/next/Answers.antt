@@ -1,9 +1,6 @@
 -- `next` meets its contract: the step past the whole choice, if it is one. Assumes nothing.
-use mathlib.Core.Path.{◌≡◌, sym, ◌∙◌}
-use native.Mathlib.Omega.{arith}
-use lib.ListN.{length}
+use Rattle.std.proofs.Common.{◌≡◌, sym, ◌∙◌, length, arith, rules}
 use Rattle.peptide_choices.specs.SuccessorLaws.{no_successor, one-fits, past-whole}
-use Rattle.std.proofs.Common.{rules}
 use Rattle.peptide_choices.proofs.choice.Choice.next.Goals as goal
 
 pub next_past-requires : goal.next_past-requires
