@@ -25,13 +25,10 @@ pub fn first_bad_member(members: &[u8], groups: usize, proteins: usize) -> usize
     ensures { result ≡ first_bad_member members.now groups proteins }
 {
     let n = members.len() / 12;
-    let mut i = 0;
-    while i < n {
-        if is_good_member(members, groups, proteins, i) {
-            i += 1;
-        } else {
+    for i in 0..n {
+        if !is_good_member(members, groups, proteins, i) {
             return i;
         }
     }
-    i
+    n
 }
