@@ -12,7 +12,7 @@ fn shown(protein: u32, flag: u8) -> u32
     requires { protein < 65536 }
     ensures { result ≡ protein * 2 + flag }
 {
-    protein * 2 + flag as u32
+    protein * 2 + u32::from(flag)
 }
 
 // Places pair i of n.
@@ -34,9 +34,7 @@ pub fn place_pairs(pairs: &[u8], flags: &[u8], w: &mut [u32], a: usize, n: usize
     requires { (n ≤ 1048576) × (a + n + n ≤ length w.old) × ((i : ℕ) → i < n → number_at 4 pairs.now (8 * i + 4) < 65536) }
     ensures { PairsLaid pairs.now flags.now a n n w.old w.new }
 {
-    let mut i = 0;
-    while i < n {
+    for i in 0..n {
         place_pair(pairs, flags, w, a, n, i);
-        i += 1;
     }
 }
