@@ -15,7 +15,6 @@ mod listing;
 
 use fasta_listing_names::say;
 use letters::LetterSet;
-use records::;
 use std::env::FillError;
 use std::rt::{Env, Files};
 use text_digests::Request;

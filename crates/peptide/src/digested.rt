@@ -4,8 +4,6 @@ ghost use Rattle.peptide.specs.Digested.{of_range, made_of_digest, weighed_diges
 
 use crate::making;
 use crate::making::{Made, Peptide};
-use peptide_mass::;
-use records::;
 use records::Refusal;
 
 // The peptide of a range's letters; a decoy is reversed.

@@ -1,5 +1,4 @@
 // Base masses. A line is the letters, and the bits of the mass that the Rust gives them, in hexadecimal.
-use peptide::;
 use text_fields::{Verdict, hex_at, letter_count};
 
 // The Rust's masses of A to Z, and of water.

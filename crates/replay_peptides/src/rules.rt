@@ -1,7 +1,6 @@
 // Rule texts. A line is the text in hexadecimal or `-` for an empty one, then the number, the place, the kind and the letter
 // that the Rust's answer comes to.
 use letters::LetterSet;
-use modification::;
 use text_fields::{Verdict, bytes_at, decimal_at};
 use text_lines::narrow;
 use records::Refusal;

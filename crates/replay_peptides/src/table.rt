@@ -1,6 +1,5 @@
 // Tables of modifications. A line `N` begins an empty table; `I mass name id` is an insertion: the mass's bits and the name's
 // number in hexadecimal, and the id that the Rust gave, or 0 where it refused a 256th.
-use modification::;
 use records::{Refusal, byte_at, put_u32, u32_at};
 use text_fields::{Verdict, decimal_at, hex_at};
 

@@ -1,6 +1,5 @@
 // Covers. A line is the number of groups, that of meta-peptides, the edges as `group.meta`, divided by `;`, and the marks as
 // digits; `-` stands for none.
-use records::;
 use text_fields::{Verdict, are_marks, decimal_at, is_zero, records_at};
 
 // The number of groups.

@@ -6,7 +6,6 @@ ghost use Rattle.io.specs.Counts.{IsPrefixLen};
 
 use protein_groups::{Sizes};
 use records::{u32_at};
-use report_lines::;
 use text_fields::{
     Verdict, bytes_at, field, is_set, is_text, item_end, marks_at, names_at, numbers_at, records_at,
 };

@@ -2,7 +2,6 @@
 // by `;`, the numbers of the Rust's groups and meta-peptides, its edges as `group.meta` and its members as
 // `group.protein.decoy`, divided by `;`; `-` stands for none.
 use check::same;
-use protein_groups::;
 use text_fields::{Verdict, decimal_at, is_zero, marks_at, records_at};
 use text_lines::narrow;
 

@@ -1,7 +1,6 @@
 // Report lines. A line is the names in hexadecimal, divided by `;`, the members as `group.protein.decoy`, divided by `;`, the marks as
 // digits, the peptide's proteins, divided by `.`, its flag, the tag in hexadecimal, whether decoys are generated, the number of groups,
 // which is the `;` of the Rust's text plus one, without those in names, and that text in hexadecimal; `-` stands for none.
-use report_lines::;
 use text_fields::{
     Verdict, bytes_at, decimal_at, field, is_set, is_text, marks_at, names_at, numbers_at,
     records_at,

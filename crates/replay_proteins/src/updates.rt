@@ -1,7 +1,6 @@
 // Updates. A line is the number of groups, that of meta-peptides, the old and the new edges as `group.meta`, divided by `;`,
 // the marks given and those of the answer as digits; `-` stands for none.
 use crate::covers::{group_count, is_held, meta_count};
-use records::;
 use text_fields::{Verdict, are_marks, is_zero, marks_at, records_at};
 use records::Refusal;
 

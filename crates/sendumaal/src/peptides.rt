@@ -6,7 +6,6 @@ ghost use Rattle.sendumaal_calls.specs.Calls.{test_call};
 ghost use Rattle.sendumaal_calls.specs.PeptideCalls.{weight, weight_call, digest_weight, digest_mass_call, forms_call, reverse_call};
 
 use peptide::{Peptide};
-use records::;
 use sendumaal_calls::{counted, flipped, peptide_of, test_reverse, told, too_large, turn};
 
 pub fn sendumaal_base_mass(

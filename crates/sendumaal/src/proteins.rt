@@ -3,8 +3,6 @@ ghost use Rattle.std.specs.Prelude.{◌≡◌, List, [], ◌∷◌};
 ghost use Rattle.records.specs.Outcome.{outcome};
 ghost use Rattle.sendumaal.specs.ProteinCalls.{are_flags, report_call, proteins_call, line_call};
 
-use protein_groups::;
-use report_lines::;
 use sendumaal_calls::told_field;
 use records::Refusal;
 

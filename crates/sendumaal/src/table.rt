@@ -4,7 +4,6 @@ ghost use Rattle.modification_table.specs.Tables.{insert_outcome};
 ghost use Rattle.records.specs.Outcome.{outcome};
 ghost use Rattle.sendumaal_calls.specs.Calls.{insert_call};
 
-use modification::;
 
 pub fn sendumaal_modification_id(
     table: &mut [u8],

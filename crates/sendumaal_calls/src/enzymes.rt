@@ -5,7 +5,6 @@ ghost use Rattle.sendumaal_calls.specs.DigestCalls.{is_enzyme, kind_numbered, si
 
 use enzyme::{Enzyme, Kind, Side};
 use letters::LetterSet;
-use records::;
 use records::Refusal;
 
 // Whether numbers stand for a kind, a side and a flag.
