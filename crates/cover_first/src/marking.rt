@@ -20,7 +20,7 @@ fn flagged(on: bool, old: u32) -> u32
 fn fresh(a: u32) -> u32
     ensures { result ≡ bit (not (eqb a 1)) }
 {
-    if a == 1 { 0 } else { 1 }
+    u32::from(a != 1)
 }
 
 // Marks each group that holds the only edge of a meta-peptide.
@@ -28,15 +28,12 @@ fn forced(edges: &[u8], n: usize, w: &mut [u32], areas: Areas)
     requires { Unmarked areas edges.now n w.old }
     ensures { Forced areas edges.now w.old w.new n }
 {
-    let mut i = 0;
-    while i < n {
+    for i in 0..n {
         let g = group_of(edges, i);
         let x = meta_of(edges, i);
         let only = size_at(w, areas.mo + x) == 1;
         let at = areas.groups + areas.metas + g;
-        let v = flagged(only, w[at]);
-        w[at] = v;
-        i += 1;
+        w[at] = flagged(only, w[at]);
     }
 }
 
@@ -45,13 +42,10 @@ fn covered(edges: &[u8], n: usize, w: &mut [u32], groups: usize, metas: usize)
     requires { (groups + metas + groups ≤ length w.old) × InRange edges.now n groups metas × ((y : ℕ) → y < metas → get_or w.old (groups + y) 0 ≡ 0) × (n ≤ 1048576) }
     ensures { Covered groups metas edges.now w.old w.new n }
 {
-    let mut i = 0;
-    while i < n {
+    for i in 0..n {
         let g = group_of(edges, i);
         let x = meta_of(edges, i);
-        let v = flagged(w[groups + metas + g] == 1, w[groups + x]);
-        w[groups + x] = v;
-        i += 1;
+        w[groups + x] = flagged(w[groups + metas + g] == 1, w[groups + x]);
     }
 }
 
@@ -60,13 +54,10 @@ fn counts(edges: &[u8], n: usize, w: &mut [u32], groups: usize, metas: usize)
     requires { (groups + metas ≤ length w.old) × InRange edges.now n groups metas × ((y : ℕ) → y < groups → get_or w.old y 0 ≡ 0) × (n ≤ 1048576) }
     ensures { OpenCounted groups edges.now w.old w.new n }
 {
-    let mut i = 0;
-    while i < n {
+    for i in 0..n {
         let g = group_of(edges, i);
         let x = meta_of(edges, i);
-        let v = fresh(w[groups + x]);
-        w[g] = w[g] + v;
-        i += 1;
+        w[g] += fresh(w[groups + x]);
     }
 }
 

@@ -11,23 +11,23 @@ use Rattle.cover_first.proofs.marking.counts.Goals.{After-meta_of-x}
 use Rattle.cover_first.proofs.marking.counts.Goals as goal
 
 inside : (c : After-meta_of-x) → (c.group_of-g.result < length c.loop-i.w) × (c.args.groups + c.meta_of-x.result < length c.loop-i.w) × (get_or c.loop-i.w c.group_of-g.result 0 ≤ c.loop-i.i)
-inside c = rw (c.group_of-g.ensures, c.meta_of-x.ensures) (counted_inside c.args.groups c.args.metas c.args.edges.now c.args.n c.args.w.now c.requires.1 c.loop-i.w c.loop-i.i (omega arith) c.requires.0 c.loop-i.invariant.1)
+inside c = rw (c.group_of-g.ensures, c.meta_of-x.ensures) (counted_inside c.args.groups c.args.metas c.args.edges.now c.args.n c.args.w.now c.requires.1 c.loop-i.w c.loop-i.i (omega arith) c.requires.0 c.loop-i.invariant)
 
 small : (b : Bool) → bit b ≤ 1
 small true = omega arith
 small false = omega arith
 
 pub loop-i-init : goal.loop-i-init
-loop-i-init c = (omega arith, raised-start c.args.groups (group_at c.args.edges.now) (is_open c.args.groups c.args.edges.now c.args.w.now) c.args.w.now c.requires.2)
+loop-i-init c = raised-start c.args.groups (group_at c.args.edges.now) (is_open c.args.groups c.args.edges.now c.args.w.now) c.args.w.now c.requires.2
 
 pub overflow_add-w : goal.overflow_add-w
-overflow_add-w c = omega (arith, (inside (goal.at.overflow_add-w c).After-meta_of-x).2, c.requires.3, c.fresh-v.ensures, small (not (eqb (get_or c.loop-i.w (c.args.groups + c.meta_of-x.result) 0) 1)))
+overflow_add-w c = omega (arith, (inside (goal.at.overflow_add-w c).After-meta_of-x).2, c.requires.3, c.fresh.ensures, small (not (eqb (get_or c.loop-i.w (c.args.groups + c.meta_of-x.result) 0) 1)))
 
 pub loop-i-preserved : goal.loop-i-preserved
-loop-i-preserved c = (omega arith, rw c.group_of-g.ensures (counted_step c.args.groups c.args.metas c.args.edges.now c.args.n c.args.w.now c.requires.1 c.loop-i.w c.loop-i.i (omega arith) c.requires.0 c.loop-i.invariant.1 c.fresh-v.result (rw (← c.meta_of-x.ensures) c.fresh-v.ensures)))
+loop-i-preserved c = rw c.group_of-g.ensures (counted_step c.args.groups c.args.metas c.args.edges.now c.args.n c.args.w.now c.requires.1 c.loop-i.w c.loop-i.i (omega arith) c.requires.0 c.loop-i.invariant c.fresh.result (rw (← c.meta_of-x.ensures) c.fresh.ensures))
 
 pub returns : goal.returns
-returns c = subst (λ (z : ℕ). OpenCounted c.args.groups c.args.edges.now c.args.w.now c.loop-i.w z) (omega (arith, c.loop-i.invariant.0)) c.loop-i.invariant.1
+returns c = subst (λ (z : ℕ). OpenCounted c.args.groups c.args.edges.now c.args.w.now c.loop-i.w z) (omega arith) c.loop-i.invariant
 
 pub group_of-g-requires : goal.group_of-g-requires
 group_of-g-requires c = omega (arith, c.requires.3)
@@ -50,11 +50,8 @@ offset_bounds-w-g c = omega (arith, (inside (goal.at.offset_bounds-w-g c).After-
 pub bounds-w-g : goal.bounds-w-g
 bounds-w-g c = (inside (goal.at.bounds-w-g c).After-meta_of-x).0
 
-pub offset_bounds-w-g-in-loop-i : goal.offset_bounds-w-g-in-loop-i
-offset_bounds-w-g-in-loop-i c = omega (arith, (inside (goal.at.offset_bounds-w-g-in-loop-i c).After-meta_of-x).0)
-
 pub bounds-w-g-in-loop-i : goal.bounds-w-g-in-loop-i
 bounds-w-g-in-loop-i c = (inside (goal.at.bounds-w-g-in-loop-i c).After-meta_of-x).0
 
 pub shape_of-w : goal.shape_of-w
-shape_of-w c = c.loop-i.invariant.1.size
+shape_of-w c = c.loop-i.invariant.size

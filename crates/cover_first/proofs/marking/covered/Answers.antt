@@ -10,21 +10,19 @@ use Rattle.cover_first.proofs.marking.covered.Goals as goal
 inside : (c : After-meta_of-x) → let w = c.loop-i.w in let a = c.args in (a.groups + a.metas + c.group_of-g.result < length w) × (a.groups + c.meta_of-x.result < length w)
 inside c =
     let lp = c.loop-i in
-    rw (c.group_of-g.ensures, c.meta_of-x.ensures) (covered_inside c.args.groups c.args.metas c.args.edges.now c.args.n c.args.w.now c.requires.1 lp.w lp.i (omega arith) c.requires.0 lp.invariant.1)
+    rw (c.group_of-g.ensures, c.meta_of-x.ensures) (covered_inside c.args.groups c.args.metas c.args.edges.now c.args.n c.args.w.now c.requires.1 lp.w lp.i (omega arith) c.requires.0 lp.invariant)
 
 pub loop-i-init : goal.loop-i-init
-loop-i-init c = (omega arith, flags_start c.args.groups c.args.metas (meta_at c.args.edges.now) (in_marked c.args.groups c.args.metas c.args.edges.now c.args.w.now) c.args.w.now c.requires.2)
+loop-i-init c = flags_start c.args.groups c.args.metas (meta_at c.args.edges.now) (in_marked c.args.groups c.args.metas c.args.edges.now c.args.w.now) c.args.w.now c.requires.2
 
 pub loop-i-preserved : goal.loop-i-preserved
 loop-i-preserved c =
-    let lp = c.loop-i in (
-      omega arith,
-      rw c.meta_of-x.ensures
-          (covered_step c.args.groups c.args.metas c.args.edges.now c.args.n c.args.w.now c.requires.1 lp.w lp.i (omega arith) c.requires.0 lp.invariant.1 c.flagged-v.result (rw (← c.group_of-g.ensures, ← c.meta_of-x.ensures) c.flagged-v.ensures)),
-    )
+    let lp = c.loop-i in
+    rw c.meta_of-x.ensures
+    (covered_step c.args.groups c.args.metas c.args.edges.now c.args.n c.args.w.now c.requires.1 lp.w lp.i (omega arith) c.requires.0 lp.invariant c.flagged.result (rw (← c.group_of-g.ensures, ← c.meta_of-x.ensures) c.flagged.ensures))
 
 pub returns : goal.returns
-returns c = let e : c.loop-i.i ≡ c.args.n = omega (arith, c.loop-i.invariant.0) in rw e at c.loop-i.invariant.1
+returns c = let e : c.loop-i.i ≡ c.args.n = omega arith in rw e at c.loop-i.invariant
 
 pub group_of-g-requires : goal.group_of-g-requires
 group_of-g-requires c = omega (arith, c.requires.3)
@@ -63,4 +61,4 @@ pub bounds-w-groups-in-loop-i-2 : goal.bounds-w-groups-in-loop-i-2
 bounds-w-groups-in-loop-i-2 c = (inside (goal.at.bounds-w-groups-in-loop-i-2 c).After-meta_of-x).1
 
 pub shape_of-w : goal.shape_of-w
-shape_of-w c = c.loop-i.invariant.1.size
+shape_of-w c = c.loop-i.invariant.size

@@ -10,23 +10,21 @@ use Rattle.cover_first.proofs.marking.forced.Goals as goal
 inside : (c : After-meta_of-x) → let w = c.loop-i.w in let a = c.args.areas in (a.groups + a.metas + c.group_of-g.result < length w) × (a.mo + c.meta_of-x.result + 1 < length w) × (get_or w (a.mo + c.meta_of-x.result) 0 ≤ get_or w (a.mo + c.meta_of-x.result + 1) 0)
 inside c =
     let lp = c.loop-i in
-    rw (c.group_of-g.ensures, c.meta_of-x.ensures) (forced_inside c.args.areas c.args.edges.now c.args.n c.args.w.now c.requires.1 lp.w lp.i (omega arith) c.requires.0 lp.invariant.1)
+    rw (c.group_of-g.ensures, c.meta_of-x.ensures) (forced_inside c.args.areas c.args.edges.now c.args.n c.args.w.now c.requires.1 lp.w lp.i (omega arith) c.requires.0 lp.invariant)
 
 pub loop-i-init : goal.loop-i-init
 loop-i-init c =
     let a = c.args.areas in
-    (omega arith, flags_start (a.groups + a.metas) a.groups (group_at c.args.edges.now) (only_edge a.mo c.args.edges.now c.args.w.now) c.args.w.now (λ y b. c.requires.2 (a.groups + a.metas + y) (omega arith)))
+    flags_start (a.groups + a.metas) a.groups (group_at c.args.edges.now) (only_edge a.mo c.args.edges.now c.args.w.now) c.args.w.now (λ y b. c.requires.2 (a.groups + a.metas + y) (omega arith))
 
 pub loop-i-preserved : goal.loop-i-preserved
 loop-i-preserved c =
-    let lp = c.loop-i in (
-      omega arith,
-      rw c.group_of-g.ensures
-          (forced_step c.args.areas c.args.edges.now c.args.n c.args.w.now c.requires.1 lp.w lp.i (omega arith) c.requires.0 lp.invariant.1 c.flagged-v.result (rw (← c.group_of-g.ensures, ← c.meta_of-x.ensures, ← c.size_at-only.ensures) c.flagged-v.ensures)),
-    )
+    let lp = c.loop-i in
+    rw c.group_of-g.ensures
+    (forced_step c.args.areas c.args.edges.now c.args.n c.args.w.now c.requires.1 lp.w lp.i (omega arith) c.requires.0 lp.invariant c.flagged.result (rw (← c.group_of-g.ensures, ← c.meta_of-x.ensures, ← c.size_at-only.ensures) c.flagged.ensures))
 
 pub returns : goal.returns
-returns c = let e : c.loop-i.i ≡ c.args.n = omega (arith, c.loop-i.invariant.0) in rw e at c.loop-i.invariant.1
+returns c = let e : c.loop-i.i ≡ c.args.n = omega arith in rw e at c.loop-i.invariant
 
 pub group_of-g-requires : goal.group_of-g-requires
 group_of-g-requires c = omega (arith, c.requires.3)
@@ -59,4 +57,4 @@ pub bounds-w-at-in-loop-i : goal.bounds-w-at-in-loop-i
 bounds-w-at-in-loop-i c = (inside (goal.at.bounds-w-at-in-loop-i c).After-meta_of-x).0
 
 pub shape_of-w : goal.shape_of-w
-shape_of-w c = c.loop-i.invariant.1.size
+shape_of-w c = c.loop-i.invariant.size

@@ -1,10 +1,6 @@
 -- `forced` meets its contract. Assumes nothing.
-use Prim.Native.Nat.{◌-◌, ◌≤◌}
 use Rattle.cover_first.specs.FirstLaws.{Forced}
 use Rattle.cover_first.proofs.marking.forced.Given as goal
 
 abbrev pub invariant-loop-i : goal.invariant-loop-i
-invariant-loop-i l = (l.i ≤ l.n) × Forced l.areas l.edges l.initial.w l.w l.i
-
-abbrev pub decreases-loop-i : goal.decreases-loop-i
-decreases-loop-i l = l.n - l.i
+invariant-loop-i l = Forced l.areas l.edges l.initial.w l.w l.i
