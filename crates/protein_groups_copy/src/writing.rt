@@ -28,10 +28,8 @@ pub fn write_edges(w: &[u32], a: usize, b: usize, n: usize, out: &mut [u8])
     ensures { out.new ≡ fitted 8 1048576 out.old (map edge_bytes (standing_edges w.now a b n)) }
 {
     let room = room_for(out.len(), 8, 1048576);
-    let mut i = 0;
-    while i < n {
+    for i in 0..n {
         put_edge(w[b + i], w[a + i], i, room, out);
-        i += 1;
     }
 }
 
@@ -64,10 +62,8 @@ pub fn write_members(w: &[u32], o: usize, s: usize, n: usize, out: &mut [u8])
     ensures { out.new ≡ fitted 12 131072 out.old (map member_bytes (standing_members w.now o s n)) }
 {
     let room = room_for(out.len(), 12, 131072);
-    let mut j = 0;
-    while j < n {
+    for j in 0..n {
         let shown = shown_at(w, o, j);
         put_member(w[s + j], shown, j, room, out);
-        j += 1;
     }
 }

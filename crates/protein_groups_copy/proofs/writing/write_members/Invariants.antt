@@ -1,5 +1,4 @@
 -- `write_members` meets its contract: what is still to be written gives the whole. Assumes nothing.
-use Prim.Native.Nat.{◌-◌}
 use Rattle.protein_groups_spec.specs.Rows.{standing_member}
 use Rattle.protein_groups_members.specs.Members.{member_bytes}
 use Rattle.protein_groups_copy.specs.WritingLaws.{WrittenTo}
@@ -7,6 +6,3 @@ use Rattle.protein_groups_copy.proofs.writing.write_members.Given as goal
 
 abbrev pub invariant-loop-j : goal.invariant-loop-j
 invariant-loop-j l = WrittenTo 12 131072 member_bytes (standing_member l.w l.o l.s) l.n l.initial.out l.out l.j
-
-abbrev pub decreases-loop-j : goal.decreases-loop-j
-decreases-loop-j l = l.n - l.j
