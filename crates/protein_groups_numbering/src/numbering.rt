@@ -25,15 +25,13 @@ pub fn number_all(w: &mut [u32], b: usize, t: usize, m: usize, l: usize, n: usiz
     ensures { AllNumbered w.old w.new b t m l n result }
 {
     let mut found = 0u32;
-    let mut i = 0;
-    while i < n {
+    for i in 0..n {
         let at = l + i;
         let x = w[at];
         found = learn(w, b, t, m, found, x);
         let of = t + wide(x);
         let k = w[of] - 1;
         w[at] = k;
-        i += 1;
     }
     found
 }

@@ -10,12 +10,10 @@ fn copy_run(w: &mut [u32], from: usize, len: usize, a: usize, b: usize, g: u32)
     requires { (from + len ≤ a) × (a + len ≤ b) × (b + len ≤ length w.old) }
     ensures { RunCopied w.old w.new from len a b g }
 {
-    let mut i = 0;
-    while i < len {
+    for i in 0..len {
         let v = w[from + i];
         w[a + i] = v;
         w[b + i] = g;
-        i += 1;
     }
 }
 
@@ -40,15 +38,12 @@ pub fn spread_runs(w: &mut [u32], plan: Plan, t: usize) -> usize
 {
     let mut seen = 0u32;
     let mut k = 0;
-    let mut j = 0;
-    while j < t {
-        let next = j + 1;
+    for j in 0..t {
         let g = w[plan.runs + j];
         if g == seen {
             k += spread_text(w, plan, j, k, g);
             seen += 1;
         }
-        j = next;
     }
     k
 }
