@@ -17,40 +17,20 @@ pub fn position(a: usize, e: usize, n: usize) -> u8
     }
 }
 
-// Writes four bytes from a place on. They are known to stand there, so that a record is written without a test of its room.
-fn put_four(out: &mut [u8], at: usize, a: u8, b: u8, c: u8, d: u8)
-    requires { at + 4 ≤ length out.old }
-    ensures { out.new ≡ sets out.old at (a ∷ b ∷ c ∷ d ∷ []) }
-{
-    out[at] = a;
-    out[at + 1] = b;
-    out[at + 2] = c;
-    out[at + 3] = d;
-}
-
-// Writes a number as four bytes.
+// Writes a number as four bytes. They are known to stand there, so that a record is written without a test of its room.
 pub(crate) fn put_number(out: &mut [u8], at: usize, n: u32)
     requires { at + 4 ≤ length out.old }
     ensures { out.new ≡ sets out.old at (le 4 n) }
 {
-    let a = (n % 256) as u8;
-    let b = (n / 256 % 256) as u8;
-    let c = (n / 256 / 256 % 256) as u8;
-    let d = (n / 256 / 256 / 256 % 256) as u8;
-    put_four(out, at, a, b, c, d);
-}
-
-fn number(x: u8) -> u32
-    ensures { result ≡ x }
-{
-    x as u32
+    let bytes = n.to_le_bytes();
+    out[at..at + 4].copy_from_slice(&bytes);
 }
 
 // The four bytes behind start and end as one number, so that they are written at once.
 fn marks(missed: u8, semi: u8, place: u8) -> u32
     ensures { le 4 result ≡ missed ∷ semi ∷ place ∷ 0 ∷ [] }
 {
-    number(missed) + 256 * (number(semi) + 256 * number(place))
+    u32::from_le_bytes([missed, semi, place, 0])
 }
 
 // Writes the record of a range with this position, which occurs so many times, with `last` where the protein's number stands.

@@ -10,10 +10,8 @@ pub fn seal(out: &mut [u8], count: usize, p: u32)
     requires { 20 * count ≤ length out.old }
     ensures { out.new ≡ sealed p count out.old }
 {
-    let mut k = 0;
-    while k < count {
+    for k in 0..count {
         put_number(out, 20 * k + 12, p);
-        k += 1;
     }
 }
 

@@ -1,8 +1,5 @@
 -- `marks` meets its contract: bytes are the digits of the number that they stand for. Assumes nothing.
-use Prim.Native.Nat.{ℕ, ◌+◌, ◌*◌, ◌/◌, ◌%◌, ◌<◌}
-use native.Mathlib.Omega.{arith}
-use mathlib.Core.Path.{◌≡◌}
-use mathlib.Core.List.{[], ◌∷◌}
+use Rattle.std.proofs.Common.{◌≡◌, ℕ, ◌+◌, ◌*◌, ◌/◌, ◌%◌, ◌<◌, [], ◌∷◌, arith}
 use Rattle.records.specs.Le.{le}
 use Rattle.enzyme_keep.proofs.record.marks.Goals as goal
 
@@ -20,16 +17,5 @@ digits x y z f g h =
 
 pub returns : goal.returns
 returns c = let a = c.args in
-    rw (c.number.ensures, c.number-2.ensures, c.number-3.ensures) (digits a.missed a.semi a.place (omega arith) (omega arith) (omega arith))
-
-pub overflow_mul-result : goal.overflow_mul-result
-overflow_mul-result c = omega arith
-
-pub overflow_add-result : goal.overflow_add-result
-overflow_add-result c = omega arith
-
-pub overflow_mul-result-2 : goal.overflow_mul-result-2
-overflow_mul-result-2 c = omega arith
-
-pub overflow_add-result-2 : goal.overflow_add-result-2
-overflow_add-result-2 c = omega arith
+    let e : c.from_le_bytes.result ≡ a.missed + 256 * (a.semi + 256 * a.place) = omega arith in
+    rw e (digits a.missed a.semi a.place (omega arith) (omega arith) (omega arith))
