@@ -10,14 +10,11 @@ fn follow(out: &[u8], count: usize, head: usize, t: usize, n: usize) -> usize
     ensures { Has0 count head out.now result }
 {
     let mut at = t;
-    let mut i = 0;
-    while i < n {
+    for _ in 0..n {
         if at == 0 {
             return 0;
         }
-        let next = enzyme_list::behind(out, count, head, at);
-        at = next;
-        i += 1;
+        at = enzyme_list::behind(out, count, head, at);
     }
     at
 }
@@ -60,12 +57,8 @@ fn make_way(marks: &mut [u32], low: usize, high: usize)
     requires { (high + 3 ≤ length marks.old) × (low ≤ high) }
     ensures { MovedUp marks.old low high marks.new }
 {
-    let mut i = high;
-    while low < i {
-        let at = i - 1;
-        let x = marks[at];
-        marks[at + 3] = x;
-        i = at;
+    for i in (low..high).rev() {
+        marks[i + 3] = marks[i];
     }
 }
 
@@ -110,12 +103,7 @@ pub fn split(
 }
 
 fn joined(x: u32, y: u32) -> u32 {
-    if x < 1048576 {
-        if y < 1048576 {
-            return x + y;
-        }
-    }
-    x
+    if x < 1048576 && y < 1048576 { x + y } else { x }
 }
 
 // The records from sample j to the next but one.
@@ -135,8 +123,8 @@ pub fn thin(marks: &mut [u32], samples: usize) -> usize
     requires { 3 * samples ≤ length marks.old }
     ensures { Thinned marks.old samples result marks.new }
 {
-    let mut i = 0;
-    while 2 * i < samples {
+    let left = samples.div_ceil(2);
+    for i in 0..left {
         let from = 2 * i;
         let t = marks[3 * from];
         let head = marks[3 * from + 2];
@@ -144,7 +132,6 @@ pub fn thin(marks: &mut [u32], samples: usize) -> usize
         marks[3 * i] = t;
         marks[3 * i + 1] = size;
         marks[3 * i + 2] = head;
-        i += 1;
     }
-    i
+    left
 }

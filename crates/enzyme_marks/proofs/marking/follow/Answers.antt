@@ -6,23 +6,11 @@ use Rattle.enzyme_marks.proofs.marking.follow.Goals as goal
 pub returns-then-at-eq0 : goal.returns-then-at-eq0
 returns-then-at-eq0 c = λ p. absurd (omega arith)
 
-pub behind-next-requires : goal.behind-next-requires
-behind-next-requires c = let a = c.args in
-    (c.requires.0, has_few a.count a.head a.out.now c.loop-i.at c.loop-i.invariant)
+pub behind-at-requires : goal.behind-at-requires
+behind-at-requires c = let a = c.args in
+    (c.requires.0, has_few a.count a.head a.out.now c.loop.at c.loop.invariant)
 
-pub loop-i-preserved : goal.loop-i-preserved
-loop-i-preserved c = let a = c.args in
-    let l = c.loop-i in
-    rw c.behind-next.ensures (next-has a.count a.head a.out.now l.at l.invariant (λ z. omega arith))
-
-pub loop-i-init : goal.loop-i-init
-loop-i-init c = c.requires.1
-
-pub overflow_add-i : goal.overflow_add-i
-overflow_add-i c = omega arith
-
-pub loop-i-smaller : goal.loop-i-smaller
-loop-i-smaller c = omega arith
-
-pub returns : goal.returns
-returns c = c.loop-i.invariant
+pub loop-preserved : goal.loop-preserved
+loop-preserved c = let a = c.args in
+    let l = c.loop in
+    rw c.behind-at.ensures (next-has a.count a.head a.out.now l.at l.invariant (λ z. omega arith))

@@ -4,7 +4,4 @@ use Rattle.enzyme_search.specs.Marks.{MovedUp}
 use Rattle.enzyme_marks.proofs.marking.make_way.Given as goal
 
 abbrev pub invariant-loop-i : goal.invariant-loop-i
-invariant-loop-i l = (l.low ≤ l.i) × (l.i ≤ l.high) × MovedUp l.initial.marks l.i l.high l.marks
-
-abbrev pub decreases-loop-i : goal.decreases-loop-i
-decreases-loop-i l = l.i
+invariant-loop-i l = (l.low ≤ l.i) × MovedUp l.initial.marks l.i l.high l.marks
