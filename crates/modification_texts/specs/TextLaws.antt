@@ -24,7 +24,7 @@ use Rattle.records.specs.RoomLaws.{stored-text, fits-text}
 use Rattle.modification_kinds.specs.declared.specificity.Specificity.{Specificity}
 use Rattle.modification_kinds.specs.declared.specificity.Specificity.TheVariants.{Residue, PeptideN, PeptideC, ProteinN, ProteinC}
 use Rattle.modification_kinds.specs.Specificities.{kind_of, letter_of, specificity, sound}
-use Rattle.modification_texts.specs.Texts.{Parsed, first_wide, mark_of, mark_byte, letter_place, parsed_letter, parsed, text_of, write_outcome}
+use Rattle.modification_texts.specs.Texts.{first_wide, mark_of, mark_byte, letter_place, parsed_letter, parsed, text_of, write_outcome}
 use Rattle.records.specs.Answers.{Counted}
 
 -- ---- a text of at most two bytes in a buffer

@@ -1,7 +1,9 @@
 // Rule texts, read and written.
-ghost use Rattle.std.specs.Prelude.{◌≡◌, List, [], ◌∷◌, ◌<◌, length};
+ghost use Rattle.std.specs.Prelude.{◌≡◌, ℕ, List, [], ◌∷◌, ◌<◌, ◌≤◌, length, Err};
+ghost use Rattle.std.specs.Result.{result_map_both};
 ghost use Rattle.records.specs.Outcome.{outcome};
 ghost use Rattle.records.specs.Room.{counted, singly};
+ghost use Rattle.modification_kinds.specs.Specificities.{kind_of, specificity};
 ghost use Rattle.modification_texts.specs.Texts.{first_wide, mark_of, mark_byte, letter_place, parsed_letter, parsed, write_outcome};
 
 use letters::LetterSet;
@@ -12,53 +14,47 @@ use records::Refusal;
 fn first_wide(text: &[u8]) -> usize
     ensures { result ≡ first_wide text.now }
 {
-    let mut i = 0;
-    while i < text.len() {
-        if text[i] < 128 {
-            i += 1;
-        } else {
+    for (i, b) in text.iter().enumerate() {
+        if *b >= 128 {
             return i;
         }
     }
-    i
+    text.len()
 }
 
-// The kind that a first byte marks: a byte that is no mark is a residue.
-fn mark_of(b: u8) -> u8
-    ensures { result ≡ mark_of b }
+// The rule that a first byte marks, with a letter or 0: a byte that is no mark is a residue.
+fn marked(b: u8, letter: u8) -> Specificity
+    ensures { result ≡ specificity (mark_of b) letter }
 {
-    if b == 94 {
-        return 1;
+    match b {
+        b'^' => Specificity::PeptideN(letter),
+        b'$' => Specificity::PeptideC(letter),
+        b'[' => Specificity::ProteinN(letter),
+        b']' => Specificity::ProteinC(letter),
+        _ => Specificity::Residue(letter),
     }
-    if b == 36 {
-        return 2;
-    }
-    if b == 91 {
-        return 3;
-    }
-    if b == 93 {
-        return 4;
-    }
-    0
 }
 
 // Where the letter stands: behind the mark, or first.
-fn letter_place(kind: u8) -> usize
-    ensures { result ≡ letter_place kind }
+fn letter_place(b: u8) -> usize
+    ensures { result ≡ letter_place (mark_of b) }
 {
-    if kind == 0 { 0 } else { 1 }
+    match b {
+        b'^' | b'$' | b'[' | b']' => 1,
+        _ => 0,
+    }
 }
 
-// The rule of a kind whose letter, if any, stands at a place: it is a capital.
-fn parse_letter(text: &[u8], kind: u8, at: usize, alphabet: LetterSet) -> Result<Specificity, Refusal>
-    ensures { result ≡ parsed_letter text.now kind at alphabet }
+// The letter at a place, as a capital, or 0 where the text ends there.
+fn parse_letter(text: &[u8], at: usize, alphabet: LetterSet) -> Result<u8, Refusal>
+    ensures { (kind : ℕ) → result_map_both (specificity kind) (λ why. why) result ≡ parsed_letter text.now kind at alphabet }
 {
     if text.len() == at {
-        return Ok(modification_kinds::specificity_of(kind, 0));
+        return Ok(0);
     }
     let letter = records::byte_at(text, at);
     if alphabet.contains(letter) {
-        Ok(modification_kinds::specificity_of(kind, letters::capital(letter)))
+        Ok(letters::capital(letter))
     } else {
         Err(Refusal::Outside(at))
     }
@@ -68,74 +64,59 @@ fn parse_letter(text: &[u8], kind: u8, at: usize, alphabet: LetterSet) -> Result
 pub fn parse(text: &[u8], alphabet: LetterSet) -> Result<Specificity, Refusal>
     ensures { result ≡ parsed text.now alphabet }
 {
-    if text.len() == 0 {
+    if text.is_empty() {
         return Err(Refusal::EmptyText);
     }
     let wide = first_wide(text);
     if wide < text.len() {
         return Err(Refusal::Letter(wide));
     }
-    let kind = mark_of(records::byte_at(text, 0));
-    let at = letter_place(kind);
+    let first = text[0];
+    let at = letter_place(first);
     if at + 1 < text.len() {
         return Err(Refusal::LongText);
     }
-    parse_letter(text, kind, at, alphabet)
+    let letter = parse_letter(text, at, alphabet)?;
+    Ok(marked(first, letter))
 }
 
-// The byte that marks a kind above 0.
-fn mark_byte(kind: u8) -> u8
-    ensures { result ≡ mark_byte kind }
+// The byte that marks a kind but a residue's.
+fn mark_byte(rule: Specificity) -> u8
+    ensures { result ≡ mark_byte (kind_of rule) }
 {
-    if kind == 1 {
-        return 94;
+    match rule {
+        Specificity::PeptideN(_) => b'^',
+        Specificity::PeptideC(_) => b'$',
+        Specificity::ProteinN(_) => b'[',
+        Specificity::Residue(_) | Specificity::ProteinC(_) => b']',
     }
-    if kind == 2 {
-        return 36;
-    }
-    if kind == 3 {
-        return 91;
-    }
-    93
 }
 
-fn put_one(out: &mut [u8], a: u8) -> Result<u32, Refusal>
-    ensures { outcome result (out.new ∷ []) ≡ counted 1 2 out.old (singly (a ∷ [])) }
+// Stores what there is room for.
+fn put_text(text: &[u8], out: &mut [u8]) -> Result<u32, Refusal>
+    requires { length text.now ≤ 2 }
+    ensures { outcome result (out.new ∷ []) ≡ counted 1 2 out.old (singly text.now) }
 {
-    let room = out.len();
-    records::put_byte(out, 0, a);
-    if room < 1 {
+    records::put_at(out, 0, text);
+    if out.len() < text.len() {
         return Err(Refusal::Room);
     }
-    Ok(1)
-}
-
-fn put_two(out: &mut [u8], a: u8, b: u8) -> Result<u32, Refusal>
-    ensures { outcome result (out.new ∷ []) ≡ counted 1 2 out.old (singly (a ∷ b ∷ [])) }
-{
-    let room = out.len();
-    records::put_byte(out, 0, a);
-    records::put_byte(out, 1, b);
-    if room < 2 {
-        return Err(Refusal::Room);
-    }
-    Ok(2)
+    Ok(text.len() as u32)
 }
 
 // Writes a rule as a text.
 pub fn write(rule: Specificity, out: &mut [u8]) -> Result<u32, Refusal>
     ensures { outcome result (out.new ∷ []) ≡ write_outcome rule out.old }
 {
-    let kind = rule.kind();
     let letter = rule.letter();
-    if modification_kinds::is_sound(kind, letter) {
-        if kind == 0 {
-            return put_one(out, letter);
-        }
-        if letter == 0 {
-            return put_one(out, mark_byte(kind));
-        }
-        return put_two(out, mark_byte(kind), letter);
+    if !modification_kinds::is_sound(rule.kind(), letter) {
+        return Err(Refusal::Field(0));
     }
-    Err(Refusal::Field(0))
+    if let Specificity::Residue(_) = rule {
+        return put_text(&[letter], out);
+    }
+    if letter == 0 {
+        return put_text(&[mark_byte(rule)], out);
+    }
+    put_text(&[mark_byte(rule), letter], out)
 }

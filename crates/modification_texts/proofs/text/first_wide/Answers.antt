@@ -12,10 +12,10 @@ unfolding first_wide
 loop-i-init c = seeking_all
 
 pub loop-i-preserved : goal.loop-i-preserved
-loop-i-preserved c = seeking_on c.loop-i.invariant (omega arith) (ap not (lt-ltb _ 128 c.if-text-i-lt128.true))
+loop-i-preserved c = seeking_on c.loop-i.invariant (omega arith) (ap not (lt-ltb _ _ (omega arith)))
 
-pub returns-else-text-i-lt128 : goal.returns-else-text-i-lt128
-returns-else-text-i-lt128 c = seeking_stop c.loop-i.invariant (omega arith) (ap not (le-ltb _ 128 c.if-text-i-lt128.false))
+pub returns-then-b-ge128 : goal.returns-then-b-ge128
+returns-then-b-ge128 c = seeking_stop c.loop-i.invariant (omega arith) (ap not (le-ltb _ _ (omega arith)))
 
 pub returns : goal.returns
-returns c = seeking_end c.loop-i.invariant (omega arith)
+returns c = let e = seeking_end c.loop-i.invariant (omega arith) in omega arith

@@ -1,9 +1,0 @@
--- `letter_place` meets its contract. Assumes nothing.
-use borrow.Author.Tests.{eq-eqb, ne_eqb}
-use Rattle.modification_texts.proofs.text.letter_place.Goals as goal
-
-pub returns-then-kind-eq0 : goal.returns-then-kind-eq0
-returns-then-kind-eq0 c = rw (eq-eqb _ _ c.if-kind-eq0.true)
-
-pub returns-else-kind-eq0 : goal.returns-else-kind-eq0
-returns-else-kind-eq0 c = rw (ne_eqb _ _ c.if-kind-eq0.false)
