@@ -15,11 +15,9 @@ fn lower(w: &mut [u32], groups: usize, a: usize, e: usize)
     requires { Lowerable groups a e w.old }
     ensures { ((g : ℕ) → g < groups → get_or w.new g 0 + times g (slice a e w.old) ≡ get_or w.old g 0) × Framed 0 groups w.old w.new }
 {
-    let mut p = a;
-    while p < e {
+    for p in a..e {
         let g = wide(w[p]);
-        w[g] = w[g] - 1;
-        p += 1;
+        w[g] -= 1;
     }
 }
 
@@ -42,12 +40,9 @@ fn reach(edges: &[u8], n: usize, w: &mut [u32], areas: Areas, c: usize)
     ensures { Reaches areas (edges_to edges.now n) c w.old w.new }
 {
     let list = stretch_at(w, areas.go + c);
-    let e = list.till;
-    let mut p = list.from;
-    while p < e {
+    for p in list.from..list.till {
         let x = wide(w[p]);
         visit(edges, n, w, areas, x);
-        p += 1;
     }
 }
 

@@ -30,9 +30,6 @@ offset_bounds-w-g c = omega (arith, inside (goal.at.offset_bounds-w-g c).After-w
 pub bounds-w-g : goal.bounds-w-g
 bounds-w-g c = inside (goal.at.bounds-w-g c).After-wide-g
 
-pub offset_bounds-w-g-in-loop-p : goal.offset_bounds-w-g-in-loop-p
-offset_bounds-w-g-in-loop-p c = omega (arith, inside (goal.at.offset_bounds-w-g-in-loop-p c).After-wide-g)
-
 pub bounds-w-g-in-loop-p : goal.bounds-w-g-in-loop-p
 bounds-w-g-in-loop-p c = inside (goal.at.bounds-w-g-in-loop-p c).After-wide-g
 

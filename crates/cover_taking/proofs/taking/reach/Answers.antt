@@ -12,24 +12,24 @@ lists : (c : Start) → c.args.areas.go + c.args.c + 1 < length c.args.w.now
 lists c = (reaching_lists c.args.areas (edges_to c.args.edges.now c.args.n) c.args.c c.requires.1 c.args.w.now c.requires.0).1
 
 inside : (c : In-loop-p) → c.loop-p.p < length c.loop-p.w
-inside c = let lp = c.loop-p in reaching_inside c.args.areas (edges_to c.args.edges.now c.args.n) c.args.c c.requires.1 c.args.w.now c.requires.0 lp.w lp.p lp.invariant.1 (omega (arith, lp.invariant.0))
+inside c = let lp = c.loop-p in reaching_inside c.args.areas (edges_to c.args.edges.now c.args.n) c.args.c c.requires.1 c.args.w.now c.requires.0 lp.w lp.p lp.invariant (omega (arith, c.stretch_at-list.ensures.1))
 
 pub loop-p-init : goal.loop-p-init
-loop-p-init c = (c.stretch_at-list.ensures.1, rw c.stretch_at-list.ensures.0 (reaching_start c.args.areas (edges_to c.args.edges.now c.args.n) c.args.c c.requires.1 c.args.w.now c.requires.0))
+loop-p-init c = rw c.stretch_at-list.ensures.0 (reaching_start c.args.areas (edges_to c.args.edges.now c.args.n) c.args.c c.requires.1 c.args.w.now c.requires.0)
 
 pub visit-requires : goal.visit-requires
 visit-requires c =
     let lp = c.loop-p in
-    (lp.invariant.1.walk, rw c.wide-x.ensures.0 (reaching_meta c.args.areas (edges_to c.args.edges.now c.args.n) c.args.c c.requires.1 c.args.w.now c.requires.0 lp.w lp.p lp.invariant.1 (omega (arith, lp.invariant.0))))
+    (lp.invariant.walk, rw c.wide-x.ensures.0 (reaching_meta c.args.areas (edges_to c.args.edges.now c.args.n) c.args.c c.requires.1 c.args.w.now c.requires.0 lp.w lp.p lp.invariant (omega (arith, c.stretch_at-list.ensures.1))))
 
 pub loop-p-preserved : goal.loop-p-preserved
 loop-p-preserved c =
     let lp = c.loop-p in
     let call = c.visit in
-    (lp.invariant.0, reaching_step c.args.areas (edges_to c.args.edges.now c.args.n) c.args.c c.requires.1 c.args.w.now c.requires.0 lp.w lp.p lp.invariant.1 (omega (arith, lp.invariant.0)) call.new.w call.auto.w (rw (← c.wide-x.ensures.0) call.ensures))
+    reaching_step c.args.areas (edges_to c.args.edges.now c.args.n) c.args.c c.requires.1 c.args.w.now c.requires.0 lp.w lp.p lp.invariant (omega (arith, c.stretch_at-list.ensures.1)) call.new.w call.auto.w (rw (← c.wide-x.ensures.0) call.ensures)
 
 pub returns : goal.returns
-returns c = let lp = c.loop-p in reaches c.args.areas (edges_to c.args.edges.now c.args.n) c.args.c c.requires.1 c.args.w.now c.requires.0 lp.w lp.p lp.invariant.1 (omega (arith, lp.invariant.0))
+returns c = let lp = c.loop-p in reaches c.args.areas (edges_to c.args.edges.now c.args.n) c.args.c c.requires.1 c.args.w.now c.requires.0 lp.w lp.p lp.invariant (omega (arith, c.stretch_at-list.ensures.1))
 
 pub overflow_add-areas : goal.overflow_add-areas
 overflow_add-areas c = omega (arith, lists (goal.at.overflow_add-areas c).Start)
@@ -44,4 +44,4 @@ pub bounds-w-p : goal.bounds-w-p
 bounds-w-p c = inside (goal.at.bounds-w-p c).In-loop-p
 
 pub shape_of-w : goal.shape_of-w
-shape_of-w c = c.loop-p.invariant.1.size
+shape_of-w c = c.loop-p.invariant.size
