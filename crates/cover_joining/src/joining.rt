@@ -12,11 +12,8 @@ pub fn each_alone(w: &mut [u32], p: usize, n: usize)
     requires { (p + n ≤ length w.old) × (n ≤ 4294967295) }
     ensures { Puts (λ x. x) p (p + n) w.old w.new }
 {
-    let mut x = 0;
-    while x < n {
-        let own = x as u32;
-        w[p + x] = own;
-        x += 1;
+    for x in 0..n {
+        w[p + x] = x as u32;
     }
 }
 
@@ -28,6 +25,7 @@ pub fn lowest(w: &mut [u32], p: usize, n: usize, x: usize) -> usize
 {
     let mut y = x;
     let mut up = w[p + y] as usize;
+    // A while: each turn goes to where the nodes name.
     while up < y {
         let next = w[p + up];
         w[p + y] = next;
@@ -45,13 +43,7 @@ pub fn join(w: &mut [u32], p: usize, n: usize, x: usize, y: usize)
 {
     let a = lowest(w, p, n, x);
     let b = lowest(w, p, n, y);
-    let under_a = a as u32;
-    let under_b = b as u32;
-    if a < b {
-        w[p + b] = under_a;
-        return;
-    }
-    w[p + a] = under_b;
+    w[p + a.max(b)] = a.min(b) as u32;
 }
 
 // Joins the group and the meta-peptide of each of n records.
@@ -61,11 +53,9 @@ pub fn join_edges(edges: &[u8], n: usize, groups: usize, metas: usize, w: &mut [
     ensures { Joined (edge_links groups edges.now n) w.old w.new p (nodes groups metas) }
 {
     let size = 1 + groups + metas;
-    let mut i = 0;
-    while i < n {
+    for i in 0..n {
         let g = u32_at(edges, 8 * i) as usize;
         let m = u32_at(edges, 8 * i + 4) as usize;
         join(w, p, size, 1 + g, 1 + groups + m);
-        i += 1;
     }
 }

@@ -14,9 +14,6 @@ below c = let a = c.args in let lp = c.loop-up in finding_less a.w.now lp.w a.p 
 pub loop-up-init : goal.loop-up-init
 loop-up-init c = let a = c.args in (refl, finding_start a.w.now a.p a.n a.x _ c.requires.forest c.requires.x_lt_n refl)
 
-pub overflow_cast-y : goal.overflow_cast-y
-overflow_cast-y c = omega (arith, c.slice_known-in-loop-up-1.given (c.args.p + c.loop-up.up))
-
 pub overflow_add-up-in-loop-up : goal.overflow_add-up-in-loop-up
 overflow_add-up-in-loop-up c = omega (arith, below (goal.at.overflow_add-up-in-loop-up c).In-loop-up, c.loop-up.invariant.1.forest.room, c.loop-up.invariant.1.inside)
 
@@ -25,9 +22,6 @@ offset_bounds-w-p-in-loop-up-3 c = omega (arith, below (goal.at.offset_bounds-w-
 
 pub bounds-w-p-in-loop-up-3 : goal.bounds-w-p-in-loop-up-3
 bounds-w-p-in-loop-up-3 c = simp length-set (omega (arith, below (goal.at.bounds-w-p-in-loop-up-3 c).In-loop-up, c.loop-up.invariant.1.forest.room, c.loop-up.invariant.1.inside))
-
-pub overflow_cast-up-in-loop-up : goal.overflow_cast-up-in-loop-up
-overflow_cast-up-in-loop-up c = omega (arith, c.slice_known-in-loop-up-2-1.given (c.args.p + get_or c.loop-up.w (c.args.p + c.loop-up.up) 0))
 
 pub loop-up-preserved : goal.loop-up-preserved
 loop-up-preserved c =
@@ -38,9 +32,6 @@ loop-up-preserved c =
 
 pub returns : goal.returns
 returns c = let a = c.args in let lp = c.loop-up in finding_end a.w.now lp.w a.p a.n a.x lp.y lp.up lp.invariant.1 c.loop-up-test.false
-
-pub overflow_cast-up : goal.overflow_cast-up
-overflow_cast-up c = omega (arith, c.slice_known-1.given (c.args.p + c.args.x))
 
 pub loop-up-smaller : goal.loop-up-smaller
 loop-up-smaller c = below (goal.at.loop-up-smaller c).In-loop-up
