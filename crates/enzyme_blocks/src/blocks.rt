@@ -3,36 +3,21 @@
 ghost use Rattle.std.specs.Prelude.{◌≡◌, ℕ, ◌+◌, ◌-◌, ◌*◌, ◌≤◌, ◌<◌, min, length, get_or};
 ghost use Rattle.enzyme_blocks.specs.Blocks.{Above, Leasts, Blocked};
 
-pub fn lesser(x: u32, y: u32) -> u32
-    ensures { result ≡ min x y }
-{
-    if x < y { x } else { y }
-}
-
 // Where the block of `width` starts from a on ends, of end starts.
 pub fn block_end(a: usize, width: usize, end: usize) -> usize
     requires { (a ≤ 65536) × (width ≤ 4096) }
     ensures { result ≡ min (a + width) end }
 {
-    if a + width < end { a + width } else { end }
-}
-
-// The number of two bytes as one of four.
-pub fn number(x: u16) -> u32
-    ensures { (result ≡ x) × (result < 65536) }
-{
-    x as u32
+    (a + width).min(end)
 }
 
 fn least_of(longest: &[u16], from: usize, to: usize) -> u32
     requires { to ≤ length longest.now }
     ensures { Above longest.now from to result }
 {
-    let mut least: u32 = 4294967295;
-    let mut i = from;
-    while i < to {
-        least = lesser(least, number(longest[i]));
-        i += 1;
+    let mut least = u32::MAX;
+    for i in from..to {
+        least = least.min(u32::from(longest[i]));
     }
     least
 }
@@ -42,12 +27,9 @@ fn fill_blocks(longest: &[u16], n: usize, width: usize, at: usize, least: &mut [
     requires { (n ≤ 65536) × (n ≤ length longest.now) × (0 < width) × (width ≤ 4096) × (n ≤ width * (length least.old - at)) }
     ensures { Leasts width at n longest.now least.new × ((i : ℕ) → i < at → get_or least.new i 0 ≡ get_or least.old i 0) }
 {
-    let mut b = 0;
-    let mut a = 0;
-    while a < n {
+    for b in 0..n.div_ceil(width) {
+        let a = width * b;
         least[at + b] = least_of(longest, a, block_end(a, width, n));
-        b += 1;
-        a += width;
     }
 }
 

@@ -3,4 +3,4 @@
 
 mod blocks;
 
-pub use blocks::{block_end, fill_least, lesser, number};
+pub use blocks::{block_end, fill_least};

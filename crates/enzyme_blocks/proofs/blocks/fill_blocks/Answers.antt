@@ -1,58 +1,39 @@
 -- `fill_blocks` meets its contract: the blocks so far have their least. Assumes nothing.
-use native.Mathlib.Omega.{arith}
-use native.Mathlib.Nat.{mul-zero}
-use mathlib.Core.Path.{◌≡◌, refl, sym, ◌∙◌}
-use Prim.Native.Nat.{◌+◌, ◌-◌, ◌<◌, min}
-use lib.ListN.{length, length-set}
-use lib.Seq.{get_or-set_other}
+use Rattle.std.proofs.Common.{◌≡◌, ℕ, ◌+◌, ◌-◌, ◌*◌, ◌<◌, ◌≤◌, min, length, arith, ◌∙◌, refl, mul-zero, mul-le-mul_left, get_or-set_other}
+use Rattle.std.specs.Int.{div_ceil}
+use Rattle.std.proofs.lemmas.Grind.{div_ceil_times}
 use Rattle.enzyme_blocks.specs.BlockLaws.{leasts_on, blocks_below}
-use Rattle.enzyme_blocks.proofs.blocks.fill_blocks.Goals.{After-least_of}
+use Rattle.enzyme_blocks.proofs.blocks.fill_blocks.Goals.{In-loop-b}
 use Rattle.enzyme_blocks.proofs.blocks.fill_blocks.Goals as goal
 
+-- a block starts before n
+starts_below : (n w b : ℕ) → 0 < w → b < div_ceil n w → w * b < n
+starts_below n w b h g =
+    let u : w * (b + 1) ≤ w * div_ceil n w = mul-le-mul_left w (omega arith) in
+    omega (arith, div_ceil_times n w h)
+
 -- the table has a place for this block
-room : (c : After-least_of) → c.args.at + c.loop-a.b < length c.loop-a.least
-room c = let t = blocks_below c.args.width c.loop-a.b c.args.n (length c.args.least.now - c.args.at) (omega arith) c.requires.4 in
-    omega arith
+room : (c : In-loop-b) → (c.args.width * c.loop-b.b < c.args.n) × (c.args.at + c.loop-b.b < length c.loop-b.least)
+room c = let a = c.args in
+    let s = starts_below a.n a.width c.loop-b.b (omega arith) (omega (arith, c.div_ceil-b-end.ensures)) in
+    let t = blocks_below a.width c.loop-b.b a.n (length a.least.now - a.at) s c.requires.4 in
+    (s, omega arith)
 
-pub loop-a-init : goal.loop-a-init
-loop-a-init c = (refl, sym (mul-zero c.args.width), λ d i h k. absurd (omega arith), λ i h. refl)
+pub loop-b-init : goal.loop-b-init
+loop-b-init c = (λ d i h k. absurd (omega (arith, mul-zero c.args.width)), λ i h. refl)
 
-pub loop-a-preserved : goal.loop-a-preserved
-loop-a-preserved c = let a = c.args in
-    let l = c.loop-a in
-    let x = c.least_of.result in (
-      length-set l.least (a.at + l.b) x ∙ l.invariant.0,
-      omega arith,
-      leasts_on a.width a.at a.n a.longest.now l.least l.a l.b x l.invariant.1 l.invariant.2 (rw c.block_end.ensures at c.least_of.ensures) (room (goal.at.loop-a-preserved c).After-least_of),
-      λ i h. get_or-set_other l.least (a.at + l.b) i x 0 (λ z. omega arith) ∙ l.invariant.3 i h,
-    )
+pub loop-b-preserved : goal.loop-b-preserved
+loop-b-preserved c = let a = c.args in
+    let l = c.loop-b in
+    let x = c.least_of.result in
+    let s = a.width * l.b in
+    let e : a.width * (l.b + 1) ≡ s + a.width = omega arith in
+    let r = room (goal.at.loop-b-preserved c).In-loop-b in
+    (rw e (leasts_on a.width a.at a.n a.longest.now l.least s l.b x refl l.invariant.0 (rw c.block_end.ensures at c.least_of.ensures) r.1), λ i h. get_or-set_other l.least (a.at + l.b) i x 0 (λ z. omega arith) ∙ l.invariant.1 i h)
 
 pub returns : goal.returns
-returns c = let n = c.args.n in
-    let l = c.loop-a in
-    let e : min l.a n ≡ n = omega arith in
-    (rw e at l.invariant.2, l.invariant.3)
-
-pub block_end-requires : goal.block_end-requires
-block_end-requires c = omega arith
-
-pub least_of-requires : goal.least_of-requires
-least_of-requires c = omega arith
-
-pub overflow_add-least : goal.overflow_add-least
-overflow_add-least c = omega (arith, room (goal.at.overflow_add-least c).After-least_of)
-
-pub offset_bounds-least-at : goal.offset_bounds-least-at
-offset_bounds-least-at c = omega (arith, room (goal.at.offset_bounds-least-at c).After-least_of)
-
-pub overflow_add-b : goal.overflow_add-b
-overflow_add-b c = omega (arith, room (goal.at.overflow_add-b c).After-least_of)
-
-pub overflow_add-a : goal.overflow_add-a
-overflow_add-a c = omega arith
-
-pub loop-a-smaller : goal.loop-a-smaller
-loop-a-smaller c = omega arith
-
-pub shape_of-least : goal.shape_of-least
-shape_of-least c = omega arith
+returns c = let a = c.args in
+    let l = c.loop-b in
+    let e : min (a.width * l.b) a.n ≡ a.n = let f : l.b ≡ div_ceil a.n a.width = omega (arith, c.div_ceil-b-end.ensures) in
+    rw f (omega (arith, div_ceil_times a.n a.width (omega arith))) in
+    (rw e at l.invariant.0, l.invariant.1)

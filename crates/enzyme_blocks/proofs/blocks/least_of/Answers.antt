@@ -7,21 +7,8 @@ pub loop-i-init : goal.loop-i-init
 loop-i-init c = λ j h k. absurd (omega arith)
 
 pub loop-i-preserved : goal.loop-i-preserved
-loop-i-preserved c = let a = c.args in
-    let l = c.loop-i in
-    rw (c.lesser-least.ensures, c.number.ensures.0) (above_on a.longest.now a.from l.i l.least l.invariant)
+loop-i-preserved c = let l = c.loop-i in
+    rw (c.min-least.ensures, c.from.ensures) (above_on c.args.longest.now c.args.from l.i l.least l.invariant)
 
 pub returns : goal.returns
 returns c = λ j h k. c.loop-i.invariant j h (omega arith)
-
-pub offset_bounds-longest-i : goal.offset_bounds-longest-i
-offset_bounds-longest-i c = omega arith
-
-pub bounds-longest-i : goal.bounds-longest-i
-bounds-longest-i c = omega arith
-
-pub overflow_add-i : goal.overflow_add-i
-overflow_add-i c = omega arith
-
-pub loop-i-smaller : goal.loop-i-smaller
-loop-i-smaller c = omega arith
