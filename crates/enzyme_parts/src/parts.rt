@@ -25,6 +25,7 @@ fn offer_halves(
 {
     let mut c = a + 1;
     let mut at = run;
+    // A while: each turn goes to the next cut of which one part is not too long.
     while c < e {
         let x = offer_range(letters, far, a, c, 0, 1, times, terms, out, marks, at);
         at = offer_range(letters, far, c, e, 0, 1, times, terms, out, marks, x);
@@ -50,11 +51,10 @@ fn offer_endings(
     requires { (a < 4294967296) × RangesReady letters.now far.now (loaded times (endings missed e (suc a) (z - suc a))) run out.old marks.old }
     ensures { Offers letters.now far.now terms (loaded times (endings missed e (suc a) (z - suc a))) run out.old marks.old result out.new marks.new }
 {
-    let mut c = first_cut(a + 1, e, terms.maximum);
+    let first = first_cut(a + 1, e, terms.maximum);
     let mut at = run;
-    while c < z {
+    for c in first..z {
         at = offer_range(letters, far, c, e, missed, 1, times, terms, out, marks, at);
-        c += 1;
     }
     at
 }
@@ -77,11 +77,9 @@ fn offer_openings(
     ensures { Offers letters.now far.now terms (loaded times (openings missed a (suc b) (e - suc b))) run out.old marks.old result out.new marks.new }
 {
     let stop = last_cut(a, e, terms.maximum);
-    let mut c = b + 1;
     let mut at = run;
-    while c < stop {
+    for c in b + 1..stop {
         at = offer_range(letters, far, a, c, missed, 1, times, terms, out, marks, at);
-        c += 1;
     }
     at
 }

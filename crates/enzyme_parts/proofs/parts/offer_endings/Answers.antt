@@ -12,29 +12,23 @@ use Rattle.enzyme_parts.proofs.parts.offer_endings.Goals as goal
 pub overflow_add-a : goal.overflow_add-a
 overflow_add-a c = omega (arith, c.requires.0)
 
-pub first_cut-c-requires : goal.first_cut-c-requires
-first_cut-c-requires c = omega (arith, c.requires.0)
+pub first_cut-first-requires : goal.first_cut-first-requires
+first_cut-first-requires c = omega (arith, c.requires.0)
 
 pub loop-c-init : goal.loop-c-init
 loop-c-init c =
     let a = c.args in
-    let q = c.first_cut-c.ensures in
+    let q = c.first_cut-first.ensures in
     endings-pass a.times a.missed a.e a.z (a.a + 1) _ q.0 q.1 (rw (add-one a.a) (underway_start c.requires.1))
 
 pub offer_range-at-requires : goal.offer_range-at-requires
-offer_range-at-requires c = let a = c.args in let l = c.loop-c in range-first (ap (loaded a.times) (endings-on a.missed a.e l.c a.z (omega (arith, c.loop-c-test.true)))) l.invariant
-
-pub overflow_add-c : goal.overflow_add-c
-overflow_add-c c = omega (arith, c.loop-c-test.true)
-
-pub loop-c-smaller : goal.loop-c-smaller
-loop-c-smaller c = omega (arith, c.loop-c-test.true)
+offer_range-at-requires c = let a = c.args in let l = c.loop-c in range-first (ap (loaded a.times) (endings-on a.missed a.e l.c a.z (omega arith))) l.invariant
 
 pub loop-c-preserved : goal.loop-c-preserved
 loop-c-preserved c =
     let a = c.args in
     let l = c.loop-c in
-    range-on (ap (loaded a.times) (endings-on a.missed a.e l.c a.z (omega (arith, c.loop-c-test.true)))) l.invariant c.offer_range-at.ensures (omega arith) (omega arith)
+    range-on (ap (loaded a.times) (endings-on a.missed a.e l.c a.z (omega arith))) l.invariant c.offer_range-at.ensures (omega arith) (omega arith)
 
 pub returns : goal.returns
 returns c =

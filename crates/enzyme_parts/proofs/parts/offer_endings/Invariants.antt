@@ -7,6 +7,3 @@ use Rattle.enzyme_parts.proofs.parts.offer_endings.Given as goal
 
 abbrev pub invariant-loop-c : goal.invariant-loop-c
 invariant-loop-c l = Underway l.letters l.far l.terms (loaded l.times (endings l.missed l.e (suc l.a) (l.z - suc l.a))) l.initial.at l.initial.out l.initial.marks (loaded l.times (endings l.missed l.e l.c (l.z - l.c))) l.at l.out l.marks
-
-abbrev pub decreases-loop-c : goal.decreases-loop-c
-decreases-loop-c l = l.z - l.c

@@ -8,26 +8,17 @@ use Rattle.enzyme_parts.specs.PassLaws.{openings-pass}
 use Rattle.enzyme_parts.specs.WalkLaws.{openings-on}
 use Rattle.enzyme_parts.proofs.parts.offer_openings.Goals as goal
 
-pub overflow_add-c : goal.overflow_add-c
-overflow_add-c c = omega (arith, c.requires.1)
-
 pub loop-c-init : goal.loop-c-init
 loop-c-init c = rw (add-one c.args.b) (underway_start c.requires.2)
 
 pub offer_range-at-requires : goal.offer_range-at-requires
-offer_range-at-requires c = let a = c.args in let l = c.loop-c in range-first (ap (loaded a.times) (openings-on a.missed a.a l.c a.e (omega (arith, c.loop-c-test.true, c.last_cut-stop.ensures.0)))) l.invariant
-
-pub overflow_add-c-in-loop-c : goal.overflow_add-c-in-loop-c
-overflow_add-c-in-loop-c c = omega (arith, c.loop-c-test.true)
-
-pub loop-c-smaller : goal.loop-c-smaller
-loop-c-smaller c = omega (arith, c.loop-c-test.true)
+offer_range-at-requires c = let a = c.args in let l = c.loop-c in range-first (ap (loaded a.times) (openings-on a.missed a.a l.c a.e (omega (arith, c.last_cut-stop.ensures.0)))) l.invariant
 
 pub loop-c-preserved : goal.loop-c-preserved
 loop-c-preserved c =
     let a = c.args in
     let l = c.loop-c in
-    range-on (ap (loaded a.times) (openings-on a.missed a.a l.c a.e (omega (arith, c.loop-c-test.true, c.last_cut-stop.ensures.0)))) l.invariant c.offer_range-at.ensures (omega arith) (omega arith)
+    range-on (ap (loaded a.times) (openings-on a.missed a.a l.c a.e (omega (arith, c.last_cut-stop.ensures.0)))) l.invariant c.offer_range-at.ensures (omega arith) (omega arith)
 
 pub returns : goal.returns
 returns c =

@@ -7,6 +7,3 @@ use Rattle.enzyme_parts.proofs.parts.offer_openings.Given as goal
 
 abbrev pub invariant-loop-c : goal.invariant-loop-c
 invariant-loop-c l = Underway l.letters l.far l.terms (loaded l.times (openings l.missed l.a (suc l.b) (l.e - suc l.b))) l.initial.at l.initial.out l.initial.marks (loaded l.times (openings l.missed l.a l.c (l.e - l.c))) l.at l.out l.marks
-
-abbrev pub decreases-loop-c : goal.decreases-loop-c
-decreases-loop-c l = l.stop - l.c
