@@ -19,7 +19,7 @@ use Rattle.modification_rules.specs.declared.rule.Rule.{Rule}
 use Rattle.modification_kinds.specs.declared.specificity.Specificity.{Specificity}
 use Rattle.modification_kinds.specs.declared.specificity.Specificity.TheVariants.{Residue, PeptideN, PeptideC, ProteinN, ProteinC}
 use Rattle.modification_kinds.specs.Specificities.{kind_of, letter_of, specificity, sound}
-use Rattle.modification_rules.specs.Rules.{Read, good_rule, rule_at, read_rule, first_bad_rule, most_rules, tested_length, tested_rules, sound_rule, rule_bytes, write_rule_outcome}
+use Rattle.modification_rules.specs.Rules.{good_rule, rule_at, read_rule, first_bad_rule, most_rules, tested_length, tested_rules, sound_rule, rule_bytes, write_rule_outcome}
 use Rattle.records.specs.Answers.{Passed, Tested}
 
 -- ---- the tests of a list of rules, one after the other

@@ -1,6 +1,7 @@
 -- Document 01, the rule record, 8 bytes: "kind u8, letter u8, id u8 (not 0), zero, limit u32 (all ones: no limit; always so
 -- in a fixed rule)".
 use Rattle.std.specs.Prelude.{ℕ, ◌+◌, ◌*◌, ◌/◌, ◌%◌, Bool, true, false, cond, not, ◌&&◌, ◌||◌, List, [], ◌∷◌, length, get_or, ltb, eqb, Result, Ok, Err}
+use Rattle.records.specs.declared.refusal.Refusal.{Refusal}
 use Rattle.records.specs.declared.refusal.Refusal.TheVariants.{Size, Length, Field, Room}
 use Rattle.records.specs.Le.{le, number_at}
 use Rattle.records.specs.Tested.{and_then, field_tested}

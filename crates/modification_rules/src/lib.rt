@@ -3,4 +3,4 @@
 
 mod rule;
 
-pub use rule::{Read, Rule, first_bad_rule, read_rule, test_rules, write_rule};
+pub use rule::{Rule, first_bad_rule, read_rule, test_rules, write_rule};

@@ -3,7 +3,7 @@ ghost use Rattle.std.specs.Prelude.{◌≡◌, List, [], ◌∷◌, ◌+◌, ◌
 ghost use Rattle.std.proofs.lemmas.List.Edits.{sets};
 ghost use Rattle.records.specs.Le.{le};
 ghost use Rattle.records.specs.Outcome.{outcome};
-ghost use Rattle.modification_rules.specs.Rules.{good_rule, rule_at, read_rule, first_bad_rule, most_rules, tested_length, tested_rules, write_rule_outcome};
+ghost use Rattle.modification_rules.specs.Rules.{good_rule, rule_at, read_rule, first_bad_rule, most_rules, tested_length, tested_rules, rule_bytes, write_rule_outcome};
 
 use modification_kinds::Specificity;
 use records::Refusal;
@@ -35,15 +35,12 @@ pub fn first_bad_rule(rules: &[u8], fixed: bool) -> usize
     ensures { result ≡ first_bad_rule fixed rules.now }
 {
     let n = rules.len() / 8;
-    let mut r = 0;
-    while r < n {
-        if is_good(rules, r, fixed) {
-            r += 1;
-        } else {
+    for r in 0..n {
+        if !is_good(rules, r, fixed) {
             return r;
         }
     }
-    r
+    n
 }
 
 // How many rules a list may have.
@@ -81,10 +78,8 @@ pub fn read_rule(rules: &[u8], r: usize) -> Result<Rule, Refusal>
     ensures { result ≡ read_rule rules.now r }
 {
     test_length(rules, true)?;
-    if r < rules.len() / 8 {
-        if is_good(rules, r, false) {
-            return Ok(rule_at(rules, r));
-        }
+    if r < rules.len() / 8 && is_good(rules, r, false) {
+        return Ok(rule_at(rules, r));
     }
     Err(Refusal::Field(r))
 }
@@ -106,14 +101,15 @@ fn rule_at(rules: &[u8], r: usize) -> Rule
 }
 
 // Stores the eight bytes of a rule.
-fn put_rule(out: &mut [u8], kind: u8, letter: u8, id: u8, limit: u32)
-    ensures { out.new ≡ sets out.old 0 (kind ∷ letter ∷ id ∷ 0 ∷ le 4 limit) }
+fn put_rule(out: &mut [u8], rule: Rule)
+    ensures { out.new ≡ sets out.old 0 (rule_bytes rule) }
 {
-    records::put_byte(out, 0, kind);
-    records::put_byte(out, 1, letter);
-    records::put_byte(out, 2, id);
+    let on = rule.on;
+    records::put_byte(out, 0, on.kind());
+    records::put_byte(out, 1, on.letter());
+    records::put_byte(out, 2, rule.id);
     records::put_byte(out, 3, 0);
-    records::put_u32(out, 4, limit);
+    records::put_u32(out, 4, rule.limit);
 }
 
 // Writes a rule as a record.
@@ -121,15 +117,12 @@ pub fn write_rule(rule: Rule, out: &mut [u8]) -> Result<(), Refusal>
     ensures { outcome result (out.new ∷ []) ≡ write_rule_outcome rule out.old }
 {
     let on = rule.on;
-    let kind = on.kind();
-    let letter = on.letter();
-    let id = rule.id;
-    if modification_kinds::is_sound(kind, letter) & !(id == 0) {
-        if out.len() < 8 {
-            return Err(Refusal::Room);
-        }
-        put_rule(out, kind, letter, id, rule.limit);
-        return Ok(());
+    if !modification_kinds::is_sound(on.kind(), on.letter()) || rule.id == 0 {
+        return Err(Refusal::Field(0));
     }
-    Err(Refusal::Field(0))
+    if out.len() < 8 {
+        return Err(Refusal::Room);
+    }
+    put_rule(out, rule);
+    Ok(())
 }

@@ -13,17 +13,11 @@ loop-r-init c = seeking_all
 pub is_good-requires : goal.is_good-requires
 is_good-requires c = omega arith
 
-pub overflow_add-r : goal.overflow_add-r
-overflow_add-r c = omega arith
-
-pub loop-r-smaller : goal.loop-r-smaller
-loop-r-smaller c = omega arith
-
 pub loop-r-preserved : goal.loop-r-preserved
-loop-r-preserved c = seeking_on c.loop-r.invariant (omega arith) (ap not (sym c.is_good.ensures ∙ c.if-is_good.true))
+loop-r-preserved c = seeking_on c.loop-r.invariant (omega arith) (ap not (sym c.is_good.ensures ∙ c.if-not-is_good.false))
 
-pub returns-else-is_good : goal.returns-else-is_good
-returns-else-is_good c = seeking_stop c.loop-r.invariant (omega arith) (ap not (sym c.is_good.ensures ∙ c.if-is_good.false))
+pub returns-then-not-is_good : goal.returns-then-not-is_good
+returns-then-not-is_good c = seeking_stop c.loop-r.invariant (omega arith) (ap not (sym c.is_good.ensures ∙ c.if-not-is_good.true))
 
 pub returns : goal.returns
-returns c = seeking_end c.loop-r.invariant (omega arith)
+returns c = let e = seeking_end c.loop-r.invariant (omega arith) in omega arith

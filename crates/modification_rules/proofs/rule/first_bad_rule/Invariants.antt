@@ -1,11 +1,7 @@
 -- `first_bad_rule` meets its contract. Assumes nothing.
-use Prim.Native.Nat.{◌-◌}
 use Rattle.records.specs.SeekingLaws.{Seeking}
 use Rattle.modification_rules.specs.Rules.{no_rule, first_bad_rule}
 use Rattle.modification_rules.proofs.rule.first_bad_rule.Given as goal
 
 abbrev pub invariant-loop-r : goal.invariant-loop-r
 invariant-loop-r l = Seeking (no_rule l.fixed l.rules) l.n l.r (first_bad_rule l.fixed l.rules)
-
-abbrev pub decreases-loop-r : goal.decreases-loop-r
-decreases-loop-r l = l.n - l.r
