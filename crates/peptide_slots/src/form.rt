@@ -16,22 +16,17 @@ pub struct Form {
 pub fn empty() -> Form
     ensures { result.slots ≡ replicate 66 0 }
 {
-    let slots = [0u8; 66];
-    Form { slots }
+    Form { slots: [0; 66] }
 }
 
 // The ids that a peptide has.
 pub fn bare(nterm: u8, cterm: u8, ids: [u8; 64]) -> Form
     ensures { result.slots ≡ nterm ∷ cterm ∷ ids }
 {
-    let mut slots = [0u8; 66];
-    let mut k = 0;
+    let mut slots = [0; 66];
     slots[0] = nterm;
     slots[1] = cterm;
-    while k < 64 {
-        slots[2 + k] = ids[k];
-        k += 1;
-    }
+    slots[2..66].copy_from_slice(&ids);
     Form { slots }
 }
 
@@ -39,14 +34,12 @@ pub fn bare(nterm: u8, cterm: u8, ids: [u8; 64]) -> Form
 pub fn fill_site(form: Form, site: u16, rules: &[u8]) -> Form
     ensures { result.slots ≡ fill_site rules.now form.slots site }
 {
-    let old = form.slots;
-    let slot = (site % 128) as usize;
-    let rule = (site / 128) as usize;
+    let slot = usize::from(site % 128);
+    let rule = usize::from(site / 128);
     let id = records::byte_at(rules, rule * 8 + 2);
-    let mut slots = old;
+    let mut slots = form.slots;
     if slot < 66 {
-        let v = hits::filled(id, old[slot]);
-        slots[slot] = v;
+        slots[slot] = hits::filled(id, slots[slot]);
     }
     Form { slots }
 }
@@ -56,10 +49,8 @@ pub fn with_all(form: Form, sites: &[u16], rules: &[u8]) -> Form
     ensures { result.slots ≡ apply rules.now form.slots sites.now }
 {
     let mut out = form;
-    let mut j = 0;
-    while j < sites.len() {
-        out = fill_site(out, sites[j], rules);
-        j += 1;
+    for site in sites {
+        out = fill_site(out, *site, rules);
     }
     out
 }
@@ -68,13 +59,9 @@ pub fn with_all(form: Form, sites: &[u16], rules: &[u8]) -> Form
 pub fn overlaid(table: Form, form: Form) -> Form
     ensures { result.slots ≡ overlay table.slots form.slots }
 {
-    let from = table.slots;
-    let old = form.slots;
-    let mut slots = old;
-    let mut k = 0;
-    while k < 66 {
-        slots[k] = hits::filled(from[k], old[k]);
-        k += 1;
+    let mut slots = form.slots;
+    for k in 0..66 {
+        slots[k] = hits::filled(table.slots[k], form.slots[k]);
     }
     Form { slots }
 }
@@ -84,10 +71,5 @@ pub fn put_form(form: Form, out: &mut [u8], from: usize)
     requires { from + 66 ≤ length out.old }
     ensures { out.new ≡ sets out.old from form.slots }
 {
-    let slots = form.slots;
-    let mut j = 0;
-    while j < 66 {
-        out[from + j] = slots[j];
-        j += 1;
-    }
+    out[from..from + 66].copy_from_slice(&form.slots);
 }

@@ -8,10 +8,8 @@ pub fn mirrored(xs: [u8; 64], n: usize) -> [u8; 64]
     ensures { result ≡ mirror n xs }
 {
     let mut out = xs;
-    let mut i = 1;
-    while i + 1 < n {
-        out[i] = xs[n - 1 - i];
-        i += 1;
+    if 2 < n {
+        out[1..n - 1].reverse();
     }
     out
 }
@@ -21,11 +19,10 @@ pub fn zero_from(xs: [u8; 64], n: usize) -> bool
     requires { n ≤ 64 }
     ensures { result ≡ all_zero (drop n xs) }
 {
+    // No early end: all places are looked at side by side.
     let mut all = true;
-    let mut i = n;
-    while i < 64 {
-        all = all & (xs[i] == 0);
-        i += 1;
+    for x in &xs[n..64] {
+        all &= *x == 0;
     }
     all
 }

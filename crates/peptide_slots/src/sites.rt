@@ -5,7 +5,7 @@ ghost use Rattle.peptide_slots.specs.WroteLaws.{Wrote};
 ghost use Rattle.peptide_slots.specs.Used.{used};
 ghost use Rattle.peptide_slots.specs.UsedLaws.{UsedFirst};
 
-use crate::hits;
+use crate::hits::Rule;
 
 // The site at a place of a list; 0 past its end.
 pub fn site_at(sites: &[u16], k: usize) -> u16
@@ -27,48 +27,27 @@ fn put_if(out: &mut [u16], at: usize, hit: bool, v: u16) -> usize
 }
 
 // The residues that a rule hits, written from `at` on.
-fn push_places(
-    letters: [u8; 64],
-    n: usize,
-    kind: u8,
-    position: u8,
-    letter: u8,
-    base: u16,
-    out: &mut [u16],
-    at: usize,
-) -> usize
-    requires { (n ≤ 64) × (base ≤ 4096) × (at + n ≤ length out.old) }
-    ensures { Wrote out.old at (places_of letters n kind position letter base) out.new result }
+fn push_places(rule: Rule, letters: [u8; 64], n: usize, out: &mut [u16], at: usize) -> usize
+    requires { (n ≤ 64) × (rule.base ≤ 4096) × (at + n ≤ length out.old) }
+    ensures { Wrote out.old at (places_of letters n rule.kind rule.position rule.letter rule.base) out.new result }
 {
     let mut next = at;
-    let mut k = 0;
-    while k < n {
-        let hit = hits::hits_at(kind, position, letter, n, k, letters[k]);
+    for k in 0..n {
         let slot = (k + 2) as u16;
-        next = put_if(out, next, hit, base + slot);
-        k += 1;
+        next = put_if(out, next, rule.hits_at(n, k, letters[k]), rule.base + slot);
     }
     next
 }
 
 // The slots that a rule hits, written from `at` on: a rule without a letter hits a terminal slot, one with a letter residues.
-fn push_slots(
-    letters: [u8; 64],
-    n: usize,
-    kind: u8,
-    position: u8,
-    letter: u8,
-    base: u16,
-    out: &mut [u16],
-    at: usize,
-) -> usize
-    requires { (n ≤ 64) × (base ≤ 4096) × (at + 66 ≤ length out.old) }
-    ensures { Wrote out.old at (slot_numbers letters n kind position letter base) out.new result }
+fn push_slots(rule: Rule, letters: [u8; 64], n: usize, out: &mut [u16], at: usize) -> usize
+    requires { (n ≤ 64) × (rule.base ≤ 4096) × (at + 66 ≤ length out.old) }
+    ensures { Wrote out.old at (slot_numbers letters n rule.kind rule.position rule.letter rule.base) out.new result }
 {
-    let bare = letter == 0;
-    let first = put_if(out, at, bare & hits::at_first(kind, position), base);
-    let second = put_if(out, first, bare & hits::at_last(kind, position), base + 1);
-    push_places(letters, n, kind, position, letter, base, out, second)
+    let bare = rule.letter == 0;
+    let first = put_if(out, at, bare & rule.at_first(), rule.base);
+    let second = put_if(out, first, bare & rule.at_last(), rule.base + 1);
+    push_places(rule, letters, n, out, second)
 }
 
 // The sites of all rules, in order.
@@ -76,15 +55,15 @@ pub fn collect(letters: [u8; 64], n: usize, position: u8, rules: &[u8], out: &mu
     requires { (n ≤ 64) × (length rules.now ≤ 256) × (2112 ≤ length out.old) }
     ensures { Wrote out.old 0 (all_sites letters n position rules.now) out.new result }
 {
-    let count = rules.len() / 8;
     let mut at = 0;
-    let mut r = 0;
-    while r < count {
-        let kind = rules[r * 8];
-        let letter = rules[r * 8 + 1];
-        let rule = r as u16;
-        at = push_slots(letters, n, kind, position, letter, rule * 128, out, at);
-        r += 1;
+    for r in 0..rules.len() / 8 {
+        let rule = Rule {
+            kind: rules[r * 8],
+            position,
+            letter: rules[r * 8 + 1],
+            base: r as u16 * 128,
+        };
+        at = push_slots(rule, letters, n, out, at);
     }
     at
 }
@@ -96,13 +75,11 @@ fn keep_used(rules: &[u8], m: usize, out: &mut [u16]) -> usize
     ensures { UsedFirst rules.now out.old out.new m result }
 {
     let mut next = 0;
-    let mut i = 0;
-    while i < m {
+    for i in 0..m {
         let site = out[i];
-        let rule = (site / 128) as usize;
+        let rule = usize::from(site / 128);
         let limit = records::u32_at(rules, rule * 8 + 4);
         next = put_if(out, next, limit != 0, site);
-        i += 1;
     }
     next
 }

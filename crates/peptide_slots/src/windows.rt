@@ -9,10 +9,8 @@ pub fn window(bytes: &[u8], from: usize) -> [u8; 64]
     ensures { result ≡ window 64 from bytes.now }
 {
     let mut out = [0u8; 64];
-    let mut i = 0;
-    while i < 64 {
+    for i in 0..64 {
         out[i] = records::byte_at(bytes, from + i);
-        i += 1;
     }
     out
 }

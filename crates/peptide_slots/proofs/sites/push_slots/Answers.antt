@@ -20,7 +20,7 @@ returns c =
     let p = c.put_if-first in
     let q = c.put_if-second in
     let r = c.push_places in
-    slots_wrote a.letters a.n a.kind a.position a.letter a.base _ _ a.out.now a.at p.new.out p.result q.new.out q.result _ r.result
+    slots_wrote a.letters a.n a.rule.kind a.rule.position a.rule.letter a.rule.base _ _ a.out.now a.at p.new.out p.result q.new.out q.result _ r.result
     c.at_first.ensures
     c.at_last.ensures
     p.ensures
