@@ -5,4 +5,4 @@ mod naming;
 mod text;
 
 pub use naming::{Step, entry_number, tag_length, walk};
-pub use text::{By, Part, Range, Unfit, list_of, name_of, number_at, range_of};
+pub use text::{By, Range, Unfit, list_of, name_of, number_at, range_of};

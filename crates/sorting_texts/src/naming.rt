@@ -6,7 +6,8 @@ ghost use Rattle.sorting_texts.specs.Walk.{Stood, WalksOn};
 
 use crate::text;
 
-// A number, and where the walk goes on.
+// A number, and where the walk goes on. It is 0 where nothing is left: no zero stands in a text (`entry_whole`), and laws of walks
+// compare such numbers, so it is no Option.
 #[derive(Clone, Copy)]
 pub struct Step {
     pub number: u32,
@@ -18,14 +19,12 @@ pub struct Step {
 pub fn tag_length(keys: &[u32]) -> usize
     ensures { result ≡ length (tag_in keys.now) }
 {
-    let mut i = 0;
-    while i < 16 {
+    for i in 0..16 {
         if text::number_at(keys, i) == 0 {
             return i;
         }
-        i += 1;
     }
-    i
+    16
 }
 
 // Byte k of the x-th name; past its 64 bytes 0.
@@ -35,8 +34,7 @@ fn name_byte(letters: &[u8], x: u32, k: usize) -> u8
     if 64 <= k {
         return 0;
     }
-    let from = x as usize * 64;
-    records::byte_at(letters, from + k)
+    records::byte_at(letters, x as usize * 64 + k)
 }
 
 // How many numbers of an entry's text are the tag's, of t.
@@ -55,8 +53,7 @@ pub fn entry_number(letters: &[u8], keys: &[u32], t: usize, x: u32, i: usize) ->
     if i < p {
         text::number_at(keys, i)
     } else {
-        let b = name_byte(letters, x / 4, i - p);
-        b as u32
+        u32::from(name_byte(letters, x / 4, i - p))
     }
 }
 
@@ -72,11 +69,10 @@ pub fn walk(letters: &[u8], keys: &[u32], t: usize, at: usize, i: usize) -> Step
     let x = text::number_at(keys, at);
     let number = entry_number(letters, keys, t, x, i);
     if number != 0 {
-        let next = i + 1;
         return Step {
             number,
             at,
-            i: next,
+            i: i + 1,
         };
     }
     let next = at + 1;

@@ -1,9 +1,8 @@
 // What numbers stand for, and where it stands.
-ghost use Rattle.std.specs.Prelude.{◌≡◌, ◌+◌, ◌*◌, ◌/◌, ◌%◌, min, eqb, get_or};
+ghost use Rattle.std.specs.Prelude.{◌≡◌, ◌+◌, ◌*◌, ◌/◌, ◌%◌, eqb, get_or};
 ghost use Rattle.std.proofs.Math.Seq.{slice};
 ghost use Rattle.sorting_spec.specs.Joined.{name_of};
 ghost use Rattle.sorting_texts.specs.Text.{list_among};
-ghost use Rattle.sorting_texts.specs.TextLaws.{TextStands};
 
 // What numbers are sorted by: each stands for a list of numbers, its text.
 #[derive(Clone, Copy)]
@@ -30,18 +29,10 @@ pub enum By {
 #[derive(Clone, Copy)]
 pub struct Unfit;
 
-// A part of a slice.
-#[derive(Clone, Copy)]
-pub struct Part {
-    pub from: usize,
-    pub to: usize,
-}
-
 // A part of the letters, and whether it is a decoy's.
 #[derive(Clone, Copy)]
-pub struct Range {
-    pub from: usize,
-    pub to: usize,
+pub struct Range<'a> {
+    pub letters: &'a [u8],
     pub decoy: bool,
 }
 
@@ -49,49 +40,46 @@ pub struct Range {
 pub fn number_at(keys: &[u32], i: usize) -> u32
     ensures { result ≡ get_or keys.now i 0 }
 {
-    if i < keys.len() { keys[i] } else { 0 }
+    keys.get(i).copied().unwrap_or(0)
 }
 
-// The part from..to of n.
-fn cut(from: usize, to: usize, n: usize) -> Part
-    ensures { (result.to ≡ min to n) × (result.from ≡ min from (min to n)) }
+// The part from..to, as far as there is one.
+fn part<T: Copy>(items: &[T], from: usize, to: usize) -> &[T]
+    ensures { result.now ≡ slice from to items.now }
 {
-    let to = if to <= n { to } else { n };
-    let from = if from <= to { from } else { to };
-    Part { from, to }
+    let front = &items[..to.min(items.len())];
+    &front[from.min(front.len())..]
 }
 
-// Where x's list stands among the keys.
-pub fn list_of(keys: &[u32], base: u32, x: u32) -> Part
-    ensures { TextStands result.from result.to keys.now (list_among base keys.now x) }
+// x's list among the keys.
+pub fn list_of(keys: &[u32], base: u32, x: u32) -> &[u32]
+    ensures { result.now ≡ list_among base keys.now x }
 {
-    let i = x as usize;
     let lists = base as usize;
-    let from = number_at(keys, i) as usize;
-    let to = number_at(keys, i + 1) as usize;
-    cut(lists + from, lists + to, keys.len())
+    let i = x as usize;
+    let from = lists + number_at(keys, i) as usize;
+    let to = lists + number_at(keys, i + 1) as usize;
+    part(keys, from, to)
 }
 
-// Where x's name stands among the letters.
-pub fn name_of(letters: &[u8], x: u32) -> Part
-    ensures { TextStands result.from result.to letters.now (name_of letters.now x) }
+// x's name among the letters.
+pub fn name_of(letters: &[u8], x: u32) -> &[u8]
+    ensures { result.now ≡ name_of letters.now x }
 {
     let from = x as usize * 64;
-    cut(from, from + 64, letters.len())
+    part(letters, from, from + 64)
 }
 
-// Where x's letters stand among the letters.
-pub fn range_of(letters: &[u8], keys: &[u32], n: u32, x: u32) -> Range
-    ensures { (result.decoy ≡ eqb (get_or keys.now (2 * n + x) 0 % 2) 1) × TextStands result.from result.to letters.now (slice (get_or keys.now (n + x) 0) (get_or keys.now (n + x) 0 + get_or keys.now (2 * n + x) 0 / 2) letters.now) }
+// x's letters among the letters.
+pub fn range_of<'a>(letters: &'a [u8], keys: &[u32], n: u32, x: u32) -> Range<'a>
+    ensures { (result.decoy ≡ eqb (get_or keys.now (2 * n + x) 0 % 2) 1) × (result.letters.now ≡ slice (get_or keys.now (n + x) 0) (get_or keys.now (n + x) 0 + get_or keys.now (2 * n + x) 0 / 2) letters.now) }
 {
     let i = x as usize;
     let k = n as usize;
     let from = number_at(keys, k + i) as usize;
     let third = number_at(keys, 2 * k + i) as usize;
-    let part = cut(from, from + third / 2, letters.len());
     Range {
-        from: part.from,
-        to: part.to,
+        letters: part(letters, from, from + third / 2),
         decoy: third % 2 == 1,
     }
 }

@@ -19,4 +19,4 @@ pub returns-else-i-p : goal.returns-else-i-p
 returns-else-i-p c =
     let p = c.tag_part-p.result in
     let e : p ≡ cond (eqb (c.args.x / 2 % 2) 1) (length (tag_in c.args.keys.now)) 0 = rw (sym c.requires.0) c.tag_part-p.ensures in
-    c.name_byte-b.ensures ∙ sym (entry_name c.args.letters.now c.args.keys.now c.args.x p e c.args.i (omega arith) c.requires.1)
+    c.from.ensures ∙ c.name_byte.ensures ∙ sym (entry_name c.args.letters.now c.args.keys.now c.args.x p e c.args.i (omega arith) c.requires.1)

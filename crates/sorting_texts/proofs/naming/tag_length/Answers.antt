@@ -16,12 +16,3 @@ loop-i-preserved c =
 
 pub returns : goal.returns
 returns c = omega (arith, tag_short c.args.keys.now)
-
-pub loop-i-init : goal.loop-i-init
-loop-i-init c = omega arith
-
-pub overflow_add-i : goal.overflow_add-i
-overflow_add-i c = omega arith
-
-pub loop-i-smaller : goal.loop-i-smaller
-loop-i-smaller c = omega arith

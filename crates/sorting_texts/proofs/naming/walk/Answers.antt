@@ -14,8 +14,8 @@ returns-then-n-at c =
 pub entry_number-number-requires : goal.entry_number-number-requires
 entry_number-number-requires c = (c.requires.tag, rw c.number_at-x.ensures c.requires.within)
 
-pub overflow_add-next : goal.overflow_add-next
-overflow_add-next c = let a = c.args in omega (arith, c.requires.within, entry_short a.letters.now a.keys.now (get_or a.keys.now a.at 0))
+pub overflow_add-result : goal.overflow_add-result
+overflow_add-result c = let a = c.args in omega (arith, c.requires.within, entry_short a.letters.now a.keys.now (get_or a.keys.now a.at 0))
 
 pub returns-then-number-ne0 : goal.returns-then-number-ne0
 returns-then-number-ne0 c =
