@@ -11,7 +11,7 @@ use Rattle.records.specs.declared.refusal.Refusal.{Refusal}
 use Rattle.records.specs.declared.refusal.Refusal.TheVariants.{Size, TableFull, Length, Room}
 use Rattle.records.specs.Outcome.{outcome, only}
 use Rattle.modification_table.specs.Tables.{Entered, same_mass, first_equal, tested_table, entry_bytes, entered_outcome, insert_outcome}
-use Rattle.records.specs.Answers.{Passed, Tested}
+use Rattle.records.specs.Answers.{Passed}
 
 nan_left : (x y : Float) → is_nan x ≡ true → eq x y ≡ false
 unfolding is_nan eq

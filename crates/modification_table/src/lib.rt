@@ -3,4 +3,4 @@
 
 mod table;
 
-pub use table::{insert};
+pub use table::insert;

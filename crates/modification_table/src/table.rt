@@ -33,15 +33,13 @@ fn first_equal(table: &[u8], mass: u32, name: u32, count: usize) -> usize
     requires { count ≤ 255 }
     ensures { result ≡ first_equal table.now mass name count }
 {
-    let mut i = 0;
-    while i < count {
+    for i in 0..count {
         let at = i * 8;
         if same_mass(records::u32_at(table, at), mass) & (records::u32_at(table, at + 4) == name) {
             return i;
         }
-        i += 1;
     }
-    i
+    count
 }
 
 // The tests before the table is searched.

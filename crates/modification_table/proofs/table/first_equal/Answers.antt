@@ -17,23 +17,11 @@ tested : (c : After-u32_at-in-loop-i) → let a = c.args in
     equal_entry a.table.now a.mass a.name c.loop-i.i ≡ (c.same_mass.result && eqb c.u32_at-in-loop-i.result a.name)
 tested c = rw (c.same_mass.ensures, c.u32_at.ensures, c.u32_at-in-loop-i.ensures)
 
-pub overflow_mul-at : goal.overflow_mul-at
-overflow_mul-at c = omega arith
-
-pub overflow_add-at : goal.overflow_add-at
-overflow_add-at c = omega arith
-
 pub returns-then-same_mass-u32_at : goal.returns-then-same_mass-u32_at
 returns-then-same_mass-u32_at c = seeking_stop c.loop-i.invariant (omega arith) (tested (goal.at.returns-then-same_mass-u32_at c).After-u32_at-in-loop-i ∙ c.if-same_mass-u32_at.true)
-
-pub overflow_add-i : goal.overflow_add-i
-overflow_add-i c = omega arith
-
-pub loop-i-smaller : goal.loop-i-smaller
-loop-i-smaller c = omega arith
 
 pub loop-i-preserved : goal.loop-i-preserved
 loop-i-preserved c = seeking_on c.loop-i.invariant (omega arith) (tested (goal.at.loop-i-preserved c).After-u32_at-in-loop-i ∙ c.if-same_mass-u32_at.false)
 
 pub returns : goal.returns
-returns c = seeking_end c.loop-i.invariant (omega arith)
+returns c = let e = seeking_end c.loop-i.invariant (omega arith) in omega arith

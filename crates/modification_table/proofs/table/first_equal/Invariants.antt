@@ -1,11 +1,7 @@
 -- `first_equal` meets its contract. Assumes nothing.
-use Prim.Native.Nat.{◌-◌}
 use Rattle.records.specs.SeekingLaws.{Seeking}
 use Rattle.modification_table.specs.Tables.{equal_entry, first_equal}
 use Rattle.modification_table.proofs.table.first_equal.Given as goal
 
 abbrev pub invariant-loop-i : goal.invariant-loop-i
 invariant-loop-i l = Seeking (equal_entry l.table l.mass l.name) l.count l.i (first_equal l.table l.mass l.name l.count)
-
-abbrev pub decreases-loop-i : goal.decreases-loop-i
-decreases-loop-i l = l.count - l.i
