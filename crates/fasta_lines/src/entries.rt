@@ -6,16 +6,9 @@ ghost use Rattle.fasta_lines.specs.Lines.{entry_length};
 pub fn entry_len(s: &[u8]) -> usize
     ensures { (result ≡ entry_length s.now) × (result ≤ length s.now) }
 {
-    let mut i = 1;
-    while i < s.len() {
-        let next = i + 1;
-        if s[i] == 62 {
-            if s[i - 1] == 10 {
-                return i;
-            }
-            i = next;
-        } else {
-            i = next;
+    for i in 1..s.len() {
+        if s[i] == 62 && s[i - 1] == 10 {
+            return i;
         }
     }
     s.len()

@@ -47,16 +47,10 @@ pub(crate) fn goes_on(kind: Run, b: u8, next: u8) -> bool
 pub fn run_len(kind: Run, s: &[u8]) -> usize
     ensures { (result ≡ run_of kind s.now) × (result ≤ length s.now) }
 {
-    let mut i = 0;
-    while i < s.len() {
-        let next = i + 1;
-        let b = s[i];
-        let c = byte_at(s, next);
-        if goes_on(kind, b, c) {
-            i = next;
-        } else {
+    for (i, b) in s.iter().enumerate() {
+        if !goes_on(kind, *b, byte_at(s, i + 1)) {
             return i;
         }
     }
-    i
+    s.len()
 }

@@ -13,16 +13,9 @@ fn letter_count(s: &[u8]) -> usize
     ensures { result ≡ length (together s.now) }
 {
     let mut n = 0;
-    let mut i = 0;
-    while i < s.len() {
-        let next = i + 1;
-        let b = s[i];
-        let c = byte_at(s, next);
-        if line_end(b, c) {
-            i = next;
-        } else {
+    for (i, b) in s.iter().enumerate() {
+        if !line_end(*b, byte_at(s, i + 1)) {
             n += 1;
-            i = next;
         }
     }
     n
@@ -43,16 +36,13 @@ pub fn is_too_long(s: &[u8]) -> bool
 pub fn has_bad(s: &[u8]) -> bool
     ensures { result ≡ ltb (run_of Letters s.now) (length s.now) }
 {
-    if s.len() == 0 {
+    if s.is_empty() {
         return false;
     }
     let last = s.len() - 1;
     let mut found = false;
-    let mut i = 0;
-    while i < last {
-        let next = i + 1;
-        found = found | !goes_on(Run::Letters, s[i], s[next]);
-        i = next;
+    for i in 0..last {
+        found |= !goes_on(Run::Letters, s[i], s[i + 1]);
     }
     found | !goes_on(Run::Letters, s[last], 0)
 }
@@ -72,16 +62,10 @@ pub fn put_letters(s: &[u8], out: &mut [u8]) -> usize
     ensures { (result ≡ length (together s.now)) × (out.new ≡ sets out.old 0 (capitals (together s.now))) }
 {
     let mut k = 0;
-    let mut i = 0;
-    while i < s.len() {
-        let next = i + 1;
-        let b = s[i];
-        if 64 < b {
-            put_byte(out, k, raised(b));
+    for b in s {
+        if 64 < *b {
+            put_byte(out, k, raised(*b));
             k += 1;
-            i = next;
-        } else {
-            i = next;
         }
     }
     k

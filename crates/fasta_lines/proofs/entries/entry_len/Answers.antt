@@ -10,6 +10,7 @@ use lib.Dec.{eqb}
 use borrow.Author.Tests.{ne_eqb}
 use Rattle.fasta_lines.specs.Lines.{entry_length}
 use Rattle.fasta_lines.specs.LineLaws.{entry-on, entry_found, entry_end}
+use Rattle.fasta_lines.proofs.entries.entry_len.Goals.{else-s-i-eq62-via-then-s-i-eq62+else-s-i-eq10, else-s-i-eq62-via-else-s-i-eq62}
 use Rattle.fasta_lines.proofs.entries.entry_len.Goals as goal
 
 pub loop-i-init : goal.loop-i-init
@@ -26,35 +27,14 @@ passed : (s : List ℕ) (i : ℕ) → 1 ≤ i → i < length s → (eqb (get_or 
     → (1 ≤ i + 1) × (i + 1 - 1 ≤ length s) × (i + 1 - 1 + entry_length (drop (i + 1 - 1) s) ≡ entry_length s)
 passed s i h l e inv = let f : i + 1 - 1 ≡ i = omega arith in rw f (omega arith, omega arith, entry-on s i h l e ∙ inv)
 
-pub loop-i-preserved-then-s-i-eq62 : goal.loop-i-preserved-then-s-i-eq62
-loop-i-preserved-then-s-i-eq62 c =
-    let s = c.args.s.now in
-    let l = c.loop-i in
-    passed s l.i l.invariant.0 (omega arith) (rw (ne_eqb (get_or s (l.i - 1) 0) 10 c.if-s-i-eq10.false)) l.invariant.2
-
 pub loop-i-preserved : goal.loop-i-preserved
 loop-i-preserved c =
     let s = c.args.s.now in
     let l = c.loop-i in
-    passed s l.i l.invariant.0 (omega arith) (rw (ne_eqb (get_or s l.i 0) 62 c.if-s-i-eq62.false) (and-false (eqb (get_or s (l.i - 1) 0) 10))) l.invariant.2
+    elim c.else-s-i-eq62.branch [
+      | else-s-i-eq62-via-then-s-i-eq62+else-s-i-eq10 w ↦ passed s l.i l.invariant.0 (omega arith) (rw (ne_eqb (get_or s (l.i - 1) 0) 10 w.if-s-i-eq10.false)) l.invariant.2
+      | else-s-i-eq62-via-else-s-i-eq62 w ↦ passed s l.i l.invariant.0 (omega arith) (rw (ne_eqb (get_or s l.i 0) 62 w.if-s-i-eq62.false) (and-false (eqb (get_or s (l.i - 1) 0) 10))) l.invariant.2
+    ]
 
 pub returns : goal.returns
 returns c = let l = c.loop-i in (sym (entry_end c.args.s.now l.i l.invariant.0 (omega arith) l.invariant.1) ∙ l.invariant.2, omega arith)
-
-pub overflow_add-next : goal.overflow_add-next
-overflow_add-next c = omega arith
-
-pub bounds-s-i : goal.bounds-s-i
-bounds-s-i c = omega arith
-
-pub overflow_sub-i : goal.overflow_sub-i
-overflow_sub-i c = omega arith
-
-pub bounds-s-i-then-s-i-eq62 : goal.bounds-s-i-then-s-i-eq62
-bounds-s-i-then-s-i-eq62 c = omega arith
-
-pub loop-i-smaller-then-s-i-eq62 : goal.loop-i-smaller-then-s-i-eq62
-loop-i-smaller-then-s-i-eq62 c = omega arith
-
-pub loop-i-smaller : goal.loop-i-smaller
-loop-i-smaller c = omega arith

@@ -8,6 +8,3 @@ use Rattle.fasta_lines.proofs.entries.entry_len.Given as goal
 
 abbrev pub invariant-loop-i : goal.invariant-loop-i
 invariant-loop-i l = (1 ≤ l.i) × (l.i - 1 ≤ length l.s) × (l.i - 1 + entry_length (drop (l.i - 1) l.s) ≡ entry_length l.s)
-
-abbrev pub decreases-loop-i : goal.decreases-loop-i
-decreases-loop-i l = length l.s - l.i

@@ -1,12 +1,9 @@
 -- `run_len` meets its contract: what was passed and the run of the rest are the whole run. Assumes nothing.
-use Prim.Native.Nat.{◌+◌, ◌-◌, ◌≤◌}
+use Prim.Native.Nat.{◌+◌}
 use mathlib.Core.Path.{◌≡◌}
-use lib.ListN.{length, drop}
+use lib.ListN.{drop}
 use Rattle.fasta_lines.specs.Lines.{run_of}
 use Rattle.fasta_lines.proofs.runs.run_len.Given as goal
 
 abbrev pub invariant-loop-i : goal.invariant-loop-i
-invariant-loop-i l = (l.i ≤ length l.s) × (l.i + run_of l.kind (drop l.i l.s) ≡ run_of l.kind l.s)
-
-abbrev pub decreases-loop-i : goal.decreases-loop-i
-decreases-loop-i l = length l.s - l.i
+invariant-loop-i l = l.i + run_of l.kind (drop l.i l.s) ≡ run_of l.kind l.s
