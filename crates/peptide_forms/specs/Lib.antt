@@ -3,6 +3,7 @@
 pub mod Enumeration
 pub mod Passing
 pub mod Packed
+pub mod Listed
 pub mod PassingLaws
 pub mod SizeLaws
 pub mod UsedLaws

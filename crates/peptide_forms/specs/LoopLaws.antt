@@ -1,17 +1,18 @@
 -- The two loops of the listing. The inner one speaks of what it wrote since it began, the outer one of the whole. Assumes
 -- nothing.
-use Rattle.std.specs.Prelude.{ℕ, suc, ◌+◌, ◌-◌, ◌*◌, ◌≤◌, ◌<◌, ◌≡◌, refl, Bool, true, false, length}
+use Rattle.std.specs.Prelude.{ℕ, suc, ◌+◌, ◌-◌, ◌*◌, ◌≤◌, ◌<◌, ◌≡◌, refl, Bool, true, false, length, Some, None}
 use Rattle.std.proofs.Common.{sym, ap, ◌∙◌, subst, add-one}
 use mathlib.Core.List.{List, [], ◌∷◌, ◌++◌, map, append-nil}
 use native.Mathlib.Omega.{arith}
 use Rattle.std.proofs.lemmas.List.Edits.{sets}
 use Rattle.lists.specs.Lists.{keep}
 use Rattle.records.specs.RoomLaws.{Standing, standing-more}
-use Rattle.peptide_choices.specs.declared.choice.Stepped.{Stepped}
+use Rattle.peptide_choices.specs.declared.choice.Choice.{Choice}
+use Rattle.peptide_choices.specs.Stepped.{Stepped}
 use Rattle.peptide_choices.specs.Choices.{choices_of, by_size}
 use Rattle.peptide_choices.specs.KeepLaws.{MayStepOver}
-use Rattle.peptide_choices.specs.LoopLaws.{ChoicesLeft, Moved, word_in, choices-moved, choices-ended, left-first, count_left, fewer}
-use Rattle.peptide_choices.specs.Steps.{begun_choice, stepped}
+use Rattle.peptide_choices.specs.LoopLaws.{ChoicesLeft, Moved, choices-moved, choices-ended, left-first, count_left, fewer}
+use Rattle.peptide_choices.specs.Steps.{begun_choice, stepped, word}
 use Rattle.peptide_forms.specs.Enumeration.{most_forms, cap_reached, up_to_cap}
 use Rattle.peptide_forms.specs.SizeLaws.{larger_none, sizes-none}
 use Rattle.peptide_forms.specs.RunLaws.{todo, todo-same, todo_stop, todo-take, todo-none, RunSoFar, Finished, run-done, run_full}
@@ -67,19 +68,19 @@ module _ {ok : List ℕ → Bool} {form : List ℕ → List ℕ} {m limit cap ro
   pub here_first : {n count : ℕ} {old : List ℕ} → 1 ≤ n → n ≤ limit → count ≤ room → Here ok form m limit cap n room count old old count (begun_choice n m)
   here_first {n} a b h = record { low = a; high = b; xs = choices_of n m 0; left = left-first m n; within = h; len = refl; grown = omega arith; none = λ q. refl; runs = λ first all q s g. g }
 
-  module _ {n k₀ : ℕ} {old out : List ℕ} {k : ℕ} {s : Stepped} (h : Here ok form m limit cap n room k₀ old out k s) where
+  module _ {n k₀ : ℕ} {old out : List ℕ} {k : ℕ} {c : Choice} (h : Here ok form m limit cap n room k₀ old out k (Some c)) where
     abbrev more : List (List ℕ)
     more = by_size m (suc n) (limit - n)
 
     abbrev start : List (List ℕ)
     start = map form (todo ok cap k₀ (choices_of n m 0 ++ more))
 
-    module _ {kept : ℕ} (e : s.more ≡ true) (r : MayStepOver ok (word_in s) kept) where
-      pub got : Moved ok m n kept s h.xs
-      got = choices-moved ok m n kept s h.xs h.left e r
+    module _ {kept : ℕ} (r : MayStepOver ok (word c) kept) where
+      pub got : Moved ok m n kept c h.xs
+      got = choices-moved ok m n kept c h.xs h.left r
 
       -- a choice that does not pass takes none with it that does
-      pub skipped : ok (word_in s) ≡ false → Here ok form m limit cap n room k₀ old out k (stepped s.choice kept)
+      pub skipped : ok (word c) ≡ false → Here ok form m limit cap n room k₀ old out k (stepped c kept)
       skipped f =
           record {
             low = h.low;
@@ -97,14 +98,14 @@ module _ {ok : List ℕ → Bool} {form : List ℕ → List ℕ} {m limit cap ro
           }
 
       -- the form of a choice that passes is the next one
-      pub next_is : ok (word_in s) ≡ true → cap_reached cap k ≡ false → RunSoFar room start old k₀ (form (word_in s) ∷ map form (todo ok cap (k + 1) (got.rest ++ more))) out k
+      pub next_is : ok (word c) ≡ true → cap_reached cap k ≡ false → RunSoFar room start old k₀ (form (word c) ∷ map form (todo ok cap (k + 1) (got.rest ++ more))) out k
       next_is f g =
-          runs_as form room start old k₀ (todo ok cap k (h.xs ++ more)) (word_in s ∷ todo ok cap (k + 1) (got.rest ++ more)) out k
-          (ap (λ (z : List (List ℕ)). todo ok cap k (z ++ more)) (got.yes f) ∙ todo-take ok cap k (word_in s) (got.rest ++ more) f g)
+          runs_as form room start old k₀ (todo ok cap k (h.xs ++ more)) (word c ∷ todo ok cap (k + 1) (got.rest ++ more)) out k
+          (ap (λ (z : List (List ℕ)). todo ok cap k (z ++ more)) (got.yes f) ∙ todo-take ok cap k (word c) (got.rest ++ more) f g)
           h.runs
 
-      pub took : (newer : List ℕ) → ok (word_in s) ≡ true → cap_reached cap k ≡ false → k < room → length newer ≡ length out → newer ≡ sets out (66 * k) (form (word_in s))
-          → Here ok form m limit cap n room k₀ old newer (k + 1) (stepped s.choice kept)
+      pub took : (newer : List ℕ) → ok (word c) ≡ true → cap_reached cap k ≡ false → k < room → length newer ≡ length out → newer ≡ sets out (66 * k) (form (word c))
+          → Here ok form m limit cap n room k₀ old newer (k + 1) (stepped c kept)
       took newer f g i l w =
           record {
             low = h.low;
@@ -118,23 +119,28 @@ module _ {ok : List ℕ → Bool} {form : List ℕ → List ℕ} {m limit cap ro
             runs =
                 λ first all q z t.
                 subst (λ (o : List ℕ). Standing 66 most_forms first all (map form (todo ok cap (k + 1) (got.rest ++ more))) o (k + 1)) (sym w)
-                (standing-more 66 most_forms first all z (form (word_in s)) (map form (todo ok cap (k + 1) (got.rest ++ more))) out k (next_is f g first all q z t) (omega arith));
+                (standing-more 66 most_forms first all z (form (word c)) (map form (todo ok cap (k + 1) (got.rest ++ more))) out k (next_is f g first all q z t) (omega arith));
           }
 
-      pub less : count_left m n (stepped s.choice kept) < count_left m n s
-      less = fewer ok m n kept s h.xs h.left got
+      pub less : count_left m n (stepped c kept) < count_left m n (Some c)
+      less = fewer ok m n kept c h.xs h.left got
 
-    pub stopped : cap_reached cap k ≡ true → RunSoFar room start old k₀ [] out k
-    stopped g = runs_as form room start old k₀ (todo ok cap k (h.xs ++ more)) [] out k (todo_stop ok cap k (h.xs ++ more) g) h.runs
+  module _ {n k₀ : ℕ} {old out : List ℕ} {k : ℕ} {s : Stepped} (h : Here ok form m limit cap n room k₀ old out k s) where
+    pub stopped : cap_reached cap k ≡ true → RunSoFar room (map form (todo ok cap k₀ (choices_of n m 0 ++ by_size m (suc n) (limit - n)))) old k₀ [] out k
+    stopped g =
+        runs_as form room (map form (todo ok cap k₀ (choices_of n m 0 ++ by_size m (suc n) (limit - n)))) old k₀ (todo ok cap k (h.xs ++ by_size m (suc n) (limit - n))) [] out k
+        (todo_stop ok cap k (h.xs ++ by_size m (suc n) (limit - n)) g)
+        h.runs
 
+  module _ {n k₀ : ℕ} {old out : List ℕ} {k : ℕ} (h : Here ok form m limit cap n room k₀ old out k None) where
     -- a size of which none was taken has none that passes
-    pub none_of_size : s.more ≡ false → k ≡ k₀ → keep ok (choices_of n m 0) ≡ []
-    none_of_size e q = h.none q ∙ ap (keep ok) (choices-ended m n s h.xs h.left e)
+    pub none_of_size : k ≡ k₀ → keep ok (choices_of n m 0) ≡ []
+    none_of_size q = h.none q ∙ ap (keep ok) (choices-ended m n h.xs h.left)
 
-    pub all_of_size : s.more ≡ false → RunSoFar room start old k₀ (map form (todo ok cap k (by_size m (n + 1) (limit + 1 - (n + 1))))) out k
-    all_of_size e =
-        runs_as form room start old k₀ (todo ok cap k (h.xs ++ more)) (todo ok cap k (by_size m (n + 1) (limit + 1 - (n + 1)))) out k
-        (ap (λ (q : List (List ℕ)). todo ok cap k (q ++ more)) (choices-ended m n s h.xs h.left e)
+    pub all_of_size : RunSoFar room (map form (todo ok cap k₀ (choices_of n m 0 ++ by_size m (suc n) (limit - n)))) old k₀ (map form (todo ok cap k (by_size m (n + 1) (limit + 1 - (n + 1))))) out k
+    all_of_size =
+        runs_as form room (map form (todo ok cap k₀ (choices_of n m 0 ++ by_size m (suc n) (limit - n)))) old k₀ (todo ok cap k (h.xs ++ by_size m (suc n) (limit - n))) (todo ok cap k (by_size m (n + 1) (limit + 1 - (n + 1)))) out k
+        (ap (λ (q : List (List ℕ)). todo ok cap k (q ++ by_size m (suc n) (limit - n))) (choices-ended m n h.xs h.left)
         ∙ ap (λ (q : ℕ). todo ok cap k (by_size m q (limit - n))) (sym (add-one n))
         ∙ ap (λ (q : ℕ). todo ok cap k (by_size m (n + 1) q)) (let g : limit - n ≡ limit + 1 - (n + 1) = omega arith in g))
         h.runs
@@ -148,38 +154,42 @@ module _ {ok : List ℕ → Bool} {form : List ℕ → List ℕ} {m limit cap ro
     so_far : (rest : List (List ℕ)) → RunSoFar room (map form (todo ok cap k₀ (choices_of n m 0 ++ by_size m (suc n) (limit - n)))) old k₀ rest out k → RunSoFar room (whole ok form m limit cap) first 1 rest out k
     so_far rest run = λ f all q s t. run f all q s (runs_as form room (whole ok form m limit cap) first 1 (todo ok cap k₀ (by_size m n (limit + 1 - n))) (todo ok cap k₀ (choices_of n m 0 ++ by_size m (suc n) (limit - n))) old k₀ (at_size ok m limit cap n k₀ h.high) o.runs f all q s t)
 
-    pub answer_no_room : {kept : ℕ} → s.more ≡ true → MayStepOver ok (word_in s) kept → ok (word_in s) ≡ true → cap_reached cap k ≡ false → room ≤ k → Finished room (whole ok form m limit cap) first out (record { fits = false; count = k })
-    answer_no_room e r f g q =
-        let rest : List (List ℕ) = map form (todo ok cap (k + 1) ((got h e r).rest ++ by_size m (suc n) (limit - n))) in
-        run_full room (whole ok form m limit cap) first out k (form (word_in s)) rest q (so_far (form (word_in s) ∷ rest) (next_is h e r f g))
-
-    pub answer_cap : cap_reached cap k ≡ true → Finished room (whole ok form m limit cap) first out (record { fits = true; count = k })
+    pub answer_cap : cap_reached cap k ≡ true → Finished room (whole ok form m limit cap) first out (Some k)
     answer_cap g = run-done room (whole ok form m limit cap) first out k (so_far [] (stopped h g))
 
+  -- at a choice
+  module _ {first old out : List ℕ} {k₀ k n : ℕ} {c : Choice} (o : Outer ok form m limit cap room first old k₀ n) (h : Here ok form m limit cap n room k₀ old out k (Some c)) where
+    pub answer_no_room : {kept : ℕ} → MayStepOver ok (word c) kept → ok (word c) ≡ true → cap_reached cap k ≡ false → room ≤ k → Finished room (whole ok form m limit cap) first out None
+    answer_no_room r f g q =
+        let rest : List (List ℕ) = map form (todo ok cap (k + 1) ((got h r).rest ++ by_size m (suc n) (limit - n))) in
+        run_full room (whole ok form m limit cap) first out k (form (word c)) rest q (so_far o h (form (word c) ∷ rest) (next_is h r f g))
+
+  -- where none is left
+  module _ {first old out : List ℕ} {k₀ k n : ℕ} (o : Outer ok form m limit cap room first old k₀ n) (h : Here ok form m limit cap n room k₀ old out k None) where
     -- after a size of which none passes no larger one has any
     nothing_left : ((p q : List ℕ) → ok p ≡ false → ok (p ++ q) ≡ false) → keep ok (choices_of n m 0) ≡ [] → (i : ℕ) → keep ok (by_size m (n + 1) i) ≡ []
     nothing_left bad e i = ap (λ (z : ℕ). keep ok (by_size m z i)) (add-one n) ∙ sizes-none ok bad m (suc n) i (larger_none ok bad m n e)
 
-    pub answer_none : ((p q : List ℕ) → ok p ≡ false → ok (p ++ q) ≡ false) → s.more ≡ false → k ≡ k₀ → Finished room (whole ok form m limit cap) first out (record { fits = true; count = k })
+    pub answer_none : ((p q : List ℕ) → ok p ≡ false → ok (p ++ q) ≡ false) → k ≡ k₀ → Finished room (whole ok form m limit cap) first out (Some k)
     unfolding up_to_cap
-    answer_none bad e q =
+    answer_none bad q =
         run-done room (whole ok form m limit cap) first out k
-        (so_far []
+        (so_far o h []
         (runs_as form room (map form (todo ok cap k₀ (choices_of n m 0 ++ by_size m (suc n) (limit - n)))) old k₀ (todo ok cap k (by_size m (n + 1) (limit + 1 - (n + 1)))) [] out k
-        (ap (up_to_cap cap k) (nothing_left bad (none_of_size h e q) (limit + 1 - (n + 1))))
-        (all_of_size h e)))
+        (ap (up_to_cap cap k) (nothing_left bad (none_of_size h q) (limit + 1 - (n + 1))))
+        (all_of_size h)))
 
-    pub outer_next : s.more ≡ false → Outer ok form m limit cap room first out k (n + 1)
-    outer_next e =
+    pub outer_next : Outer ok form m limit cap room first out k (n + 1)
+    outer_next =
         record {
           low = omega arith;
           high = let g : n ≤ limit = h.high in omega arith;
           within = h.within;
-          len = len_now;
-          runs = so_far (map form (todo ok cap k (by_size m (n + 1) (limit + 1 - (n + 1))))) (all_of_size h e);
+          len = len_now o h;
+          runs = so_far o h (map form (todo ok cap k (by_size m (n + 1) (limit + 1 - (n + 1))))) (all_of_size h);
         }
 
-  pub answer_end : {first out : List ℕ} {k n : ℕ} → limit < n → Outer ok form m limit cap room first out k n → Finished room (whole ok form m limit cap) first out (record { fits = true; count = k })
+  pub answer_end : {first out : List ℕ} {k n : ℕ} → limit < n → Outer ok form m limit cap room first out k n → Finished room (whole ok form m limit cap) first out (Some k)
   unfolding by_size
   answer_end {first} {out} {k} {n} h o =
       let z : limit + 1 - n ≡ 0 = omega arith in

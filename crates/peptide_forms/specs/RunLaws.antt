@@ -1,8 +1,8 @@
 -- What the listing goes by: the choices still to come, a form by the table of the fixed rules, and how a run ends. Assumes
 -- nothing.
-use Rattle.std.specs.Prelude.{ℕ, zero, suc, ◌+◌, ◌≤◌, ◌<◌, ◌≡◌, Bool, true, false, not, length, get_or, take, drop, eqb}
+use Rattle.std.specs.Prelude.{ℕ, zero, suc, ◌+◌, ◌≤◌, ◌<◌, ◌≡◌, Bool, true, false, not, length, get_or, take, drop, eqb, Some, None, is_some, IfSome}
 use Rattle.std.proofs.Math.Path.{refl, ap}
-use Rattle.std.proofs.Common.{sym, ◌∙◌, true≢false, arith, add-one, get_or-take, length-take-le, le-leb, ne_eqb}
+use Rattle.std.proofs.Common.{sym, ◌∙◌, arith, add-one, get_or-take, length-take-le, le-leb, ne_eqb}
 use Rattle.std.proofs.Math.Bool.{and-false}
 use mathlib.Core.List.{List, [], ◌∷◌}
 use Rattle.std.proofs.lemmas.Bool.{lt-leb}
@@ -14,7 +14,7 @@ use Rattle.peptide_slots.specs.Filling.{fill_site, apply}
 use Rattle.peptide_slots.specs.FillLaws.{apply-on, apply_end, length-apply}
 use Rattle.peptide_slots.specs.Overlays.{overlay}
 use Rattle.peptide_slots.specs.OverlayLaws.{length-overlay}
-use Rattle.peptide_forms.specs.declared.listing.Listed.{Listed}
+use Rattle.peptide_forms.specs.Listed.{Listed}
 use Rattle.peptide_forms.specs.Enumeration.{most_forms, no_cap, cap_reached, up_to_cap}
 use Rattle.peptide_forms.specs.Packed.{packed_chosen}
 
@@ -92,7 +92,7 @@ chosen_end rules form sites xs n j l h =
 -- where one form of all stands in old, and rest is still to come, all stand in new, or the first that fit
 pub record Finished (room : ℕ) (rest : List (List ℕ)) (old new : List ℕ) (r : Listed) : Type 0 where
   pub ends : (first : List ℕ) (all : List (List ℕ)) → room ≡ room_of 66 most_forms first → Sized 66 all → Standing 66 most_forms first all rest old 1
-      → (new ≡ fitted 66 most_forms first all) × (r.fits ≡ fits 66 most_forms first all) × (r.fits ≡ true → r.count ≡ length all)
+      → (new ≡ fitted 66 most_forms first all) × (is_some r ≡ fits 66 most_forms first all) × IfSome r (λ (count : ℕ). count ≡ length all)
 
 -- what a run has done so far, from wherever it began
 abbrev pub RunSoFar : ℕ → List (List ℕ) → List ℕ → ℕ → List (List ℕ) → List ℕ → ℕ → Type 0
@@ -100,21 +100,21 @@ RunSoFar room rest₀ old count₀ rest out count =
     (first : List ℕ) (all : List (List ℕ)) → room ≡ room_of 66 most_forms first → Sized 66 all
     → Standing 66 most_forms first all rest₀ old count₀ → Standing 66 most_forms first all rest out count
 
-pub run-done : (room : ℕ) (rest : List (List ℕ)) (old out : List ℕ) (count : ℕ) → RunSoFar room rest old 1 [] out count → Finished room rest old out (record { fits = true; count = count })
+pub run-done : (room : ℕ) (rest : List (List ℕ)) (old out : List ℕ) (count : ℕ) → RunSoFar room rest old 1 [] out count → Finished room rest old out (Some count)
 run-done room rest old out count run = record { ends = done }
   where
     done : (first : List ℕ) (all : List (List ℕ)) → room ≡ room_of 66 most_forms first → Sized 66 all → Standing 66 most_forms first all rest old 1
-        → (out ≡ fitted 66 most_forms first all) × (true ≡ fits 66 most_forms first all) × (true ≡ true → count ≡ length all)
+        → (out ≡ fitted 66 most_forms first all) × (true ≡ fits 66 most_forms first all) × (count ≡ length all)
     done first all e s h =
         let d = standing-done 66 most_forms first all s out count (run first all e s h) in
-        (d.0, sym d.1, λ q. d.2)
+        (d.0, sym d.1, d.2)
 
 pub run_full : (room : ℕ) (rest : List (List ℕ)) (old out : List ℕ) (count : ℕ) (c : List ℕ) (more : List (List ℕ)) → room ≤ count → RunSoFar room rest old 1 (c ∷ more) out count
-    → Finished room rest old out (record { fits = false; count = count })
+    → Finished room rest old out None
 run_full room rest old out count c more l run = record { ends = full }
   where
     full : (first : List ℕ) (all : List (List ℕ)) → room ≡ room_of 66 most_forms first → Sized 66 all → Standing 66 most_forms first all rest old 1
-        → (out ≡ fitted 66 most_forms first all) × (false ≡ fits 66 most_forms first all) × (false ≡ true → count ≡ length all)
+        → (out ≡ fitted 66 most_forms first all) × (false ≡ fits 66 most_forms first all) × Unit {0}
     full first all e s h =
         let d = standing_full 66 most_forms first all s c more out count (run first all e s h) (omega arith) in
-        (d.0, sym d.1, λ q. absurd (true≢false (sym q)))
+        (d.0, sym d.1, tt)

@@ -4,4 +4,4 @@
 mod listing;
 mod passing;
 
-pub use listing::{Listed, list_forms};
+pub use listing::list_forms;

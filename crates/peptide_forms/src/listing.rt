@@ -12,26 +12,15 @@ use crate::passing;
 use peptide_choices::Choice;
 use peptide_slots::Form;
 
-// Whether all forms have room, and how many stand there.
-#[derive(Clone, Copy)]
-pub struct Listed {
-    pub fits: bool,
-    pub count: usize,
-}
-
 // The chosen sites, one after another.
 fn with_choice(form: Form, c: Choice, sites: &[u16], rules: &[u8]) -> Form
     requires { c.n ≤ 8 }
     ensures { result.slots ≡ apply rules.now form.slots (packed_chosen sites.now (take c.n c.at)) }
 {
-    let n = c.n;
-    let at = c.at;
     let mut out = form;
-    let mut j = 0;
-    while j < n {
-        let site = peptide_slots::site_at(sites, at[j]);
+    for place in &c.at[0..c.n] {
+        let site = peptide_slots::site_at(sites, *place);
         out = peptide_slots::fill_site(out, site, rules);
-        j += 1;
     }
     out
 }
@@ -45,7 +34,8 @@ fn made(bare: Form, table: Form, c: Choice, sites: &[u16], rules: &[u8]) -> Form
     peptide_slots::overlaid(table, picked)
 }
 
-// Writes the forms of all choices that pass behind the unchanged one, which stands at place 0 already. Where a choice
+// Writes the forms of all choices that pass behind the unchanged one, which stands at place 0 already, and answers how many
+// stand there, or nothing where one has no room. Where a choice
 // clashes, the counter skips all that begin with the places that do. After a size of which no choice passes none of a
 // larger one does.
 pub fn list_forms(
@@ -57,36 +47,33 @@ pub fn list_forms(
     cap: usize,
     room: usize,
     out: &mut [u8],
-) -> Listed
+) -> Option<usize>
     requires { (limit ≤ 8) × (1 ≤ room) × (room ≡ room_of 66 most_forms out.old) }
     ensures { Finished room (map (quick bare.slots table.slots sites.now rules.now) (todo (packed_passes sites.now rules.now) cap 1 (by_size (length sites.now) 1 limit))) out.old out.new result }
 {
     let m = sites.len();
     let mut count = 1;
-    let mut n = 1;
-    'outer: while n <= limit {
+    for n in 1..=limit {
         let had = count;
-        let mut s = Choice::first(n, m);
-        while s.more {
-            let c = s.choice;
+        let mut left = Choice::first(n, m);
+        while let Some(c) = left {
             let kept = passing::reach(c, sites, rules);
             if kept == n {
                 if cap <= count {
-                    break 'outer;
+                    return Some(count);
                 }
                 if room <= count {
-                    return Listed { fits: false, count };
+                    return None;
                 }
-                let next = made(bare, table, c, sites, rules);
-                peptide_slots::put_form(next, out, 66 * count);
+                let form = made(bare, table, c, sites, rules);
+                peptide_slots::put_form(form, out, 66 * count);
                 count += 1;
             }
-            s = c.next_past(kept);
+            left = c.next_past(kept);
         }
         if count == had {
             break;
         }
-        n += 1;
     }
-    Listed { fits: true, count }
+    Some(count)
 }

@@ -1,54 +1,38 @@
 // How far a choice of sites goes well: no slot twice, no rule more often than its limit.
-ghost use Rattle.std.specs.Prelude.{◌≡◌, ◌≤◌, ◌<◌, take, get_or};
-ghost use Rattle.lists.specs.Lists.{bit};
+ghost use Rattle.std.specs.Prelude.{◌≡◌, ◌≤◌, ◌<◌, take, get_or, length, if◌then◌else◌, Some, None};
+ghost use Rattle.peptide_forms.specs.Passing.{free, uses};
 ghost use Rattle.peptide_forms.specs.PassingLaws.{may_join};
-ghost use Rattle.peptide_forms.specs.TurnLaws.{UsesTallied, FineUpTo};
+ghost use Rattle.peptide_forms.specs.TurnLaws.{FineUpTo};
 
 use peptide_choices::Choice;
 
-// Whether a slot is free among some places, and how often they use a rule.
-#[derive(Clone, Copy)]
-struct Taken {
-    free: bool,
-    uses: u32,
-}
-
-fn one_if(b: bool) -> u32
-    ensures { (result ≡ bit b) × (result ≤ 1) }
-{
-    if b { 1 } else { 0 }
-}
-
-// What the first j places take of a slot and a rule.
-fn tally(at: [usize; 8], j: usize, slot: u16, rule: u16, sites: &[u16]) -> Taken
-    requires { j ≤ 8 }
-    ensures { UsesTallied sites.now slot rule (take j at) j result.free result.uses }
+// How often some places use a rule, or nothing where one of them has the slot.
+fn uses_if_free(places: &[usize], slot: u16, rule: u16, sites: &[u16]) -> Option<u32>
+    requires { length places.now ≤ 8 }
+    ensures { result ≡ if free sites.now slot places.now then Some (uses sites.now rule places.now) else None }
 {
     let mut free = true;
     let mut uses = 0;
-    let mut i = 0;
-    while i < j {
-        let site = peptide_slots::site_at(sites, at[i]);
-        let more = one_if(site / 128 == rule);
-        free = free & !(site % 128 == slot);
-        uses = uses + more;
-        i += 1;
+    for place in places {
+        let site = peptide_slots::site_at(sites, *place);
+        free &= site % 128 != slot;
+        uses += u32::from(site / 128 == rule);
     }
-    Taken { free, uses }
+    free.then_some(uses)
 }
 
-// Whether the place at j may join those before it.
-fn joins(at: [usize; 8], j: usize, sites: &[u16], rules: &[u8]) -> bool
-    requires { j < 8 }
-    ensures { result ≡ may_join sites.now rules.now (take j at) (get_or at j 0) }
+// Whether a place may join those before it.
+fn joins(before: &[usize], place: usize, sites: &[u16], rules: &[u8]) -> bool
+    requires { length before.now ≤ 8 }
+    ensures { result ≡ may_join sites.now rules.now before.now place }
 {
-    let site = peptide_slots::site_at(sites, at[j]);
-    let slot = site % 128;
+    let site = peptide_slots::site_at(sites, place);
     let rule = site / 128;
-    let r = rule as usize;
-    let seen = tally(at, j, slot, rule, sites);
-    let limit = records::u32_at(rules, r * 8 + 4);
-    seen.free & (seen.uses < limit)
+    let limit = records::u32_at(rules, usize::from(rule) * 8 + 4);
+    match uses_if_free(before, site % 128, rule, sites) {
+        Some(uses) => uses < limit,
+        None => false,
+    }
 }
 
 // How many places of a choice go well together: all, if the choice passes.
@@ -56,15 +40,10 @@ pub(crate) fn reach(c: Choice, sites: &[u16], rules: &[u8]) -> usize
     requires { c.n ≤ 8 }
     ensures { FineUpTo sites.now rules.now (take c.n c.at) result }
 {
-    let n = c.n;
-    let at = c.at;
-    let mut j = 0;
-    while j < n {
-        if joins(at, j, sites, rules) {
-            j += 1;
-        } else {
+    for j in 0..c.n {
+        if !joins(&c.at[0..j], c.at[j], sites, rules) {
             return j;
         }
     }
-    n
+    c.n
 }
