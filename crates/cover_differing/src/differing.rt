@@ -27,15 +27,15 @@ pub fn differs_at(
     let hn = ho + groups;
     let no = hn + groups;
     let of_old = Links {
-        groups: groups,
-        metas: metas,
+        groups,
+        metas,
         records: on,
         heads: ho,
         nexts: no,
     };
     let of_new = Links {
-        groups: groups,
-        metas: metas,
+        groups,
+        metas,
         records: nn,
         heads: hn,
         nexts: no + on,

@@ -13,26 +13,28 @@ pub enum Pass {
     Clear,
 }
 
-// The count after a record.
-fn change(pass: Pass, v: u32) -> u32
-    requires { v < 4294967295 }
-    ensures { result ≡ changed pass v }
-{
-    match pass {
-        Pass::Up => v + 1,
-        Pass::Off => if v == 0 { 0 } else { v - 1 },
-        Pass::Clear => 0,
+impl Pass {
+    // The count after a record.
+    fn change(self, v: u32) -> u32
+        requires { v < 4294967295 }
+        ensures { result ≡ changed self v }
+    {
+        match self {
+            Pass::Up => v + 1,
+            Pass::Off => v.saturating_sub(1),
+            Pass::Clear => 0,
+        }
     }
-}
 
-// Whether the count is one to tell of: too small to take a record off, or not zero where it is cleared.
-fn tells(pass: Pass, v: u32) -> bool
-    ensures { result ≡ telling pass v }
-{
-    match pass {
-        Pass::Up => false,
-        Pass::Off => v == 0,
-        Pass::Clear => v != 0,
+    // Whether the count is one to tell of: too small to take a record off, or not zero where it is cleared.
+    fn tells(self, v: u32) -> bool
+        ensures { result ≡ telling self v }
+    {
+        match self {
+            Pass::Up => false,
+            Pass::Off => v == 0,
+            Pass::Clear => v != 0,
+        }
     }
 }
 
@@ -44,14 +46,13 @@ pub(crate) fn go_along(edges: &[u8], w: &mut [u32], links: Links, g: usize, pass
 {
     let mut told = false;
     let mut h = wide(w[links.heads + g]);
+    // A while: each turn goes to the record that the last one names.
     while 0 < h {
         let i = h - 1;
         let m = wide(u32_at(edges, 8 * i + 4));
         let v = w[m];
-        let tell = tells(pass, v);
-        let next = change(pass, v);
-        told = told | tell;
-        w[m] = next;
+        told |= pass.tells(v);
+        w[m] = pass.change(v);
         h = wide(w[links.nexts + i]);
     }
     told

@@ -17,20 +17,20 @@ loop-h-init c = pass-start c.requires.walkable c.requires.g_lt_groups.0 c.requir
 pub bounds-w-m : goal.bounds-w-m
 bounds-w-m c = meta_in c.requires.walkable c.loop-h.invariant c.loop-h-test.true (meta (goal.at.bounds-w-m c).After-wide-m)
 
-pub change-next-requires : goal.change-next-requires
-change-next-requires c = meta-small c.requires.walkable c.loop-h.invariant c.loop-h-test.true (meta (goal.at.change-next-requires c).After-wide-m)
+pub change-requires : goal.change-requires
+change-requires c = meta-small c.requires.walkable c.loop-h.invariant c.loop-h-test.true (meta (goal.at.change-requires c).After-wide-m)
 
 pub bounds-w-m-in-loop-h : goal.bounds-w-m-in-loop-h
 bounds-w-m-in-loop-h c = meta_in c.requires.walkable c.loop-h.invariant c.loop-h-test.true (meta (goal.at.bounds-w-m-in-loop-h c).After-wide-m)
 
 pub bounds-w-links-in-loop-h : goal.bounds-w-links-in-loop-h
-bounds-w-links-in-loop-h c = next_in c.requires.walkable c.loop-h.invariant c.loop-h-test.true (meta (goal.at.bounds-w-links-in-loop-h c).After-wide-m) c.change-next.ensures
+bounds-w-links-in-loop-h c = next_in c.requires.walkable c.loop-h.invariant c.loop-h-test.true (meta (goal.at.bounds-w-links-in-loop-h c).After-wide-m) c.change.ensures
 
 pub loop-h-smaller : goal.loop-h-smaller
-loop-h-smaller c = rw c.wide-h-in-loop-h.ensures.0 (next_falls c.requires.walkable c.loop-h.invariant c.loop-h-test.true (meta (goal.at.loop-h-smaller c).After-wide-m) c.change-next.ensures)
+loop-h-smaller c = rw c.wide-h-in-loop-h.ensures.0 (next_falls c.requires.walkable c.loop-h.invariant c.loop-h-test.true (meta (goal.at.loop-h-smaller c).After-wide-m) c.change.ensures)
 
 pub loop-h-preserved : goal.loop-h-preserved
-loop-h-preserved c = rw (c.wide-h-in-loop-h.ensures.0, c.tells-tell.ensures) (pass-turn c.requires.walkable c.loop-h.invariant c.loop-h-test.true (meta (goal.at.loop-h-preserved c).After-wide-m) c.change-next.ensures)
+loop-h-preserved c = rw (c.wide-h-in-loop-h.ensures.0, c.tells-told.ensures) (pass-turn c.requires.walkable c.loop-h.invariant c.loop-h-test.true (meta (goal.at.loop-h-preserved c).After-wide-m) c.change.ensures)
 
 pub shape_of-w : goal.shape_of-w
 shape_of-w c = c.loop-h.invariant.long
