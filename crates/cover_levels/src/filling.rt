@@ -10,11 +10,8 @@ pub(crate) fn copy_field(edges: &[u8], n: usize, f: usize, w: &mut [u32], a: usi
     requires { (a + n ≤ length w.old) × (n ≤ 1048576) × (f ≤ 4) }
     ensures { Puts (λ i. number_at 4 edges.now (8 * i + f)) a (a + n) w.old w.new }
 {
-    let mut i = 0;
-    while i < n {
-        let v = u32_at(edges, 8 * i + f);
-        w[a + i] = v;
-        i += 1;
+    for i in 0..n {
+        w[a + i] = u32_at(edges, 8 * i + f);
     }
 }
 
@@ -23,10 +20,7 @@ pub(crate) fn numbers(w: &mut [u32], a: usize, n: usize)
     requires { (a + n ≤ length w.old) × (n ≤ 4294967295) }
     ensures { Puts (λ i. n - 1 - i) a (a + n) w.old w.new }
 {
-    let mut i = 0;
-    while i < n {
-        let v = (n - 1 - i) as u32;
-        w[a + i] = v;
-        i += 1;
+    for i in 0..n {
+        w[a + i] = (n - 1 - i) as u32;
     }
 }

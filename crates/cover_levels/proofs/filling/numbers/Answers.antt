@@ -5,10 +5,10 @@ use Rattle.cover_edges.specs.PutLaws.{puts_none, puts_step}
 use Rattle.cover_levels.proofs.filling.numbers.Goals as goal
 
 pub returns : goal.returns
-returns c = let e : c.loop-i.i ≡ c.args.n = omega arith in rw e at c.loop-i.invariant.1
+returns c = let e : c.loop-i.i ≡ c.args.n = omega arith in rw e at c.loop-i.invariant
 
 pub loop-i-init : goal.loop-i-init
-loop-i-init c = (omega arith, puts_none)
+loop-i-init c = puts_none
 
 pub loop-i-preserved : goal.loop-i-preserved
-loop-i-preserved c = let lp = c.loop-i in (omega arith, puts_step lp.i lp.invariant.1 (omega arith) refl)
+loop-i-preserved c = let lp = c.loop-i in puts_step lp.i lp.invariant (omega arith) refl
