@@ -15,15 +15,12 @@ fn takers(w: &mut [u32], e: usize, m: u32, o: usize) -> usize
     ensures { Takers w.old w.new e m o result }
 {
     let mut k = 0;
-    let mut i = 0u32;
-    while i < m {
-        let next = i + 1;
+    for i in 0..m {
         let at = e + wide(i);
         if w[at] < w[at + 1] {
             w[o + k] = i;
             k += 1;
         }
-        i = next;
     }
     k
 }
