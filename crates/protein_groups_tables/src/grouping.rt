@@ -44,11 +44,9 @@ fn count_from(w: &mut [u32], o: usize, n: u32)
     requires { o + n ≤ length w.old }
     ensures { Rowed w.old w.new o n n }
 {
-    let mut i = 0u32;
-    while i < n {
+    for i in 0..n {
         let at = o + wide(i);
         w[at] = i;
-        i += 1;
     }
 }
 
