@@ -4,7 +4,7 @@ ghost use Rattle.protein_groups_tests.specs.Testing.{too_large, uneven, needed, 
 ghost use Rattle.records.specs.Tested.{and_then};
 
 use cover_edges::{first_bad_edge, first_bad_mark};
-use records::{Refusal, and_then, field_tested};
+use records::{Refusal, field_tested};
 
 fn too_large(pairs: &[u8], peptides: u32, proteins: u32) -> bool
     ensures { result ≡ too_large pairs.now peptides proteins }
@@ -51,12 +51,18 @@ fn contents_tested(pairs: &[u8], flags: &[u8], peptides: u32, proteins: u32) -> 
     requires { too_large pairs.now peptides proteins ≡ false }
     ensures { result ≡ and_then (pairs_tested pairs.now peptides proteins) (flags_tested flags.now) }
 {
-    let paired = pairs_tested(pairs, peptides, proteins);
-    and_then(paired, flags_tested(flags))
+    pairs_tested(pairs, peptides, proteins)?;
+    flags_tested(flags)
 }
 
 // The first refusal that applies before the groups are made.
-pub fn tested(pairs: &[u8], flags: &[u8], peptides: u32, proteins: u32, words: usize) -> Result<(), Refusal>
+pub fn tested(
+    pairs: &[u8],
+    flags: &[u8],
+    peptides: u32,
+    proteins: u32,
+    words: usize,
+) -> Result<(), Refusal>
     ensures { result ≡ tested pairs.now flags.now peptides proteins words }
 {
     if too_large(pairs, peptides, proteins) {
