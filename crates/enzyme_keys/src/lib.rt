@@ -4,5 +4,5 @@
 mod keys;
 mod reading;
 
-pub use keys::{Key, le};
-pub use reading::{end_of, long, name_on, rank_of, start_of, wide};
+pub use keys::{Key, Sorting};
+pub use reading::{end_of, name_on, rank_of, start_of};
