@@ -9,6 +9,7 @@ use Rattle.enzyme_cuts.specs.Cutting.{Range, site, part, seen_in}
 use Rattle.enzyme_cuts.specs.KeepLaws.{seen_in_append}
 use Rattle.enzyme_list.specs.declared.walk.Place.{Place}
 use Rattle.enzyme_list.specs.declared.walk.Place.TheVariants.{Same, Behind}
+use Rattle.std.specs.declared.cmp.Ordering.TheVariants.{Less}
 use Rattle.enzyme_order.specs.Order.{compared}
 use Rattle.enzyme_order.specs.OrderLaws.{order_trans}
 use Rattle.enzyme_list.specs.Chain.{record_text, Lower, Upper, Rises, ListFrom, ranges_of, FoundIn, Begun, Tells, is_same}
@@ -26,16 +27,16 @@ module _ (s : List ℕ) (ks : List Range) (ls : List ℕ) (head : ℕ) (new : Li
   pub begun_first : (c : List ℕ) → ListFrom s ks ls head c → Begun s ks ls head 0 new
   begun_first c l = record { c = c; listed = l; xs = []; ys = c; whole = refl; last = refl; lower = tt }
 
-  rising_lower : (t : ℕ) (xs ys : List ℕ) → compared (record_text s ks t) new ≡ 0 → Rises s ks (xs ++ (t ∷ ys)) → Lower s ks new (xs ++ (t ∷ []))
+  rising_lower : (t : ℕ) (xs ys : List ℕ) → compared (record_text s ks t) new ≡ Less → Rises s ks (xs ++ (t ∷ ys)) → Lower s ks new (xs ++ (t ∷ []))
   rising_lower t [] ys o r = (o, tt)
   rising_lower t (x ∷ xs) ys o r = (order_trans (record_text s ks x) (record_text s ks t) new (at xs r.0) o, rising_lower t xs ys o r.1)
     where
-      at : (xs : List ℕ) → Upper s ks (record_text s ks x) (xs ++ (t ∷ ys)) → compared (record_text s ks x) (record_text s ks t) ≡ 0
+      at : (xs : List ℕ) → Upper s ks (record_text s ks x) (xs ++ (t ∷ ys)) → compared (record_text s ks x) (record_text s ks t) ≡ Less
       at [] u = u.0
       at (z ∷ zs) u = at zs u.1
 
   -- at any record of the list that is below the letters
-  pub begun_at : (t : ℕ) (xs ys : List ℕ) → ListFrom s ks ls head (xs ++ (t ∷ ys)) → compared (record_text s ks t) new ≡ 0 → Begun s ks ls head t new
+  pub begun_at : (t : ℕ) (xs ys : List ℕ) → ListFrom s ks ls head (xs ++ (t ∷ ys)) → compared (record_text s ks t) new ≡ Less → Begun s ks ls head t new
   begun_at t xs ys l o = record {
     c = xs ++ (t ∷ ys);
     listed = l;

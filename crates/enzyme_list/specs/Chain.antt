@@ -3,6 +3,7 @@ use Rattle.std.specs.Prelude.{ℕ, zero, suc, ◌-◌, ◌≤◌, ◌<◌, ◌�
 use Rattle.enzyme_cuts.specs.Cutting.{Range, site, part, seen_in}
 use Rattle.enzyme_list.specs.declared.walk.Place.{Place}
 use Rattle.enzyme_list.specs.declared.walk.Place.TheVariants.{Same, Behind}
+use Rattle.std.specs.declared.cmp.Ordering.TheVariants.{Less}
 use Rattle.enzyme_order.specs.Order.{compared}
 
 -- the letters of record t; records are numbered from 1
@@ -26,11 +27,11 @@ last_record p (t ∷ ts) = last_record t ts
 -- each record is below the letters new; the letters new are below each
 abbrev pub Lower : List ℕ → List Range → List ℕ → List ℕ → Type 0
 Lower s ks new [] = Unit {0}
-Lower s ks new (t ∷ ts) = (compared (record_text s ks t) new ≡ 0) × Lower s ks new ts
+Lower s ks new (t ∷ ts) = (compared (record_text s ks t) new ≡ Less) × Lower s ks new ts
 
 abbrev pub Upper : List ℕ → List Range → List ℕ → List ℕ → Type 0
 Upper s ks new [] = Unit {0}
-Upper s ks new (t ∷ ts) = (compared new (record_text s ks t) ≡ 0) × Upper s ks new ts
+Upper s ks new (t ∷ ts) = (compared new (record_text s ks t) ≡ Less) × Upper s ks new ts
 
 -- each record is below all behind it
 abbrev pub Rises : List ℕ → List Range → List ℕ → Type 0

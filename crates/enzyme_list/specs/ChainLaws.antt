@@ -13,6 +13,8 @@ use Rattle.enzyme_keep.specs.Buffer.{range_at, ranges_in}
 use Rattle.enzyme_keep.specs.BufferLaws.{length-ranges}
 use Rattle.enzyme_list.specs.declared.walk.Place.{Place}
 use Rattle.enzyme_list.specs.declared.walk.Place.TheVariants.{Same, Behind}
+use Rattle.std.specs.declared.cmp.Ordering.{Ordering}
+use Rattle.std.specs.declared.cmp.Ordering.TheVariants.{Less, Equal, Greater}
 use Rattle.enzyme_order.specs.Order.{compared}
 use Rattle.enzyme_order.specs.OrderLaws.{order_self, order_equal, order_flip, order_trans}
 use Rattle.enzyme_list.specs.Chain.{record_text, next_of, LinkedThrough, last_record, Lower, Upper, Rises, ranges_of, Between, FoundAt, FoundIn, FoundFrom, Sought, EndsWithin, Begun, depth}
@@ -88,7 +90,7 @@ module _ (s : List ℕ) (ks : List Range) where
   lower_append new [] ys p q = q
   lower_append new (x ∷ xs) ys p q = (p.0, lower_append new xs ys p.1 q)
 
-  upper_trans : (a b : List ℕ) (ts : List ℕ) → compared a b ≡ 0 → Upper s ks b ts → Upper s ks a ts
+  upper_trans : (a b : List ℕ) (ts : List ℕ) → compared a b ≡ Less → Upper s ks b ts → Upper s ks a ts
   upper_trans a b [] h u = tt
   upper_trans a b (t ∷ ts) h u = (order_trans a b (record_text s ks t) h u.0, upper_trans a b ts h u.1)
 
@@ -102,7 +104,7 @@ module _ (s : List ℕ) (ks : List Range) where
       rw (ranges_append xs (t ∷ ys), seen_in_append s (ranges_of ks xs) (ranges_of ks (t ∷ ys)) new, z) (or-true (seen_in s (ranges_of ks xs) new))
 
   module _ (ls new : List ℕ) where
-    pub found_from-on : (prev t : ℕ) (r : Place) → 0 < t → compared (record_text s ks t) new ≡ 0 → FoundFrom s ks ls new t (get_or ls (t - 1) 0) r → FoundFrom s ks ls new prev t r
+    pub found_from-on : (prev t : ℕ) (r : Place) → 0 < t → compared (record_text s ks t) new ≡ Less → FoundFrom s ks ls new t (get_or ls (t - 1) 0) r → FoundFrom s ks ls new prev t r
     found_from-on prev t r h o told xs ys p q l k = go ys l k
       where
         go : (ys : List ℕ) → LinkedThrough ls t ys → Rises s ks ys → FoundIn s ks new (xs ++ ys) r
@@ -114,7 +116,7 @@ module _ (s : List ℕ) (ks : List Range) where
             let g : FoundIn s ks new (xs ++ (t ∷ us)) r = rw (append_assoc xs (t ∷ []) us) at f in
             rw (← e) g
 
-    pub found_from-same : (prev t : ℕ) → 0 < t → compared (record_text s ks t) new ≡ 1 → FoundFrom s ks ls new prev t (Same t)
+    pub found_from-same : (prev t : ℕ) → 0 < t → compared (record_text s ks t) new ≡ Equal → FoundFrom s ks ls new prev t (Same t)
     found_from-same prev t h o xs ys p q l k = go ys l
       where
         go : (ys : List ℕ) → LinkedThrough ls t ys → FoundAt s ks new (xs ++ ys) t
@@ -123,14 +125,14 @@ module _ (s : List ℕ) (ks : List Range) where
             let e : u ≡ t = sym l.0 in
             record { xs = xs; ys = us; whole = ap (λ (v : ℕ). xs ++ (v ∷ us)) e; letters = order_equal (record_text s ks t) new o }
 
-    pub found_from_stop : (prev t : ℕ) → 0 < t → compared (record_text s ks t) new ≡ 2 → FoundFrom s ks ls new prev t (Behind prev)
+    pub found_from_stop : (prev t : ℕ) → 0 < t → compared (record_text s ks t) new ≡ Greater → FoundFrom s ks ls new prev t (Behind prev)
     found_from_stop prev t h o xs ys p q l k = record { xs = xs; ys = ys; whole = refl; last = p; lower = q; upper = go ys l k }
       where
         go : (ys : List ℕ) → LinkedThrough ls t ys → Rises s ks ys → Upper s ks new ys
         go [] e k = tt
         go (u ∷ us) l k =
             let e = l.0 in
-            let d : compared new (record_text s ks u) ≡ 0 = order_flip (record_text s ks u) new (rw (← e) o) in
+            let d : compared new (record_text s ks u) ≡ Less = order_flip (record_text s ks u) new (rw (← e) o) in
             (d, upper_trans new (record_text s ks u) us d k.0)
 
     pub found_from_end : (prev : ℕ) → FoundFrom s ks ls new prev 0 (Behind prev)
@@ -196,10 +198,10 @@ module _ (s : List ℕ) (ks : List Range) (ls : List ℕ) (head p : ℕ) (new : 
 unlike : (a b : List ℕ) → (a ≡ b → ⊥) → same a b ≡ false
 unlike a b h = ⊎_elim (λ (e : same a b ≡ true). absurd (h (same-eq a b e))) (λ (e : same a b ≡ false). e) (truth? (same a b))
 
-pub below_unlike : (a b : List ℕ) → compared a b ≡ 0 → a ≡ b → ⊥
+pub below_unlike : (a b : List ℕ) → compared a b ≡ Less → a ≡ b → ⊥
 below_unlike a b o e =
-    let z : ◌≡◌ {A = ℕ} 1 0 = sym (order_self b) ∙ (rw e at o) in
-    omega arith
+    let z : ◌≡◌ {A = Ordering} Equal Less = sym (order_self b) ∙ (rw e at o) in
+    cc
 
 module _ (s : List ℕ) (ks : List Range) (new : List ℕ) where
   lower_unseen : (xs : List ℕ) → Lower s ks new xs → seen_in s (ranges_of ks xs) new ≡ false

@@ -4,6 +4,7 @@ use Rattle.std.proofs.Common.{sym, subst, ap, ◌∙◌, arith, length-append, l
 use Rattle.std.proofs.Math.ListN.{get_or-append}
 use Rattle.std.proofs.lemmas.List.{get_or_at}
 use Rattle.enzyme_cuts.specs.Cutting.{Range, site, part}
+use Rattle.std.specs.declared.cmp.Ordering.TheVariants.{Less}
 use Rattle.enzyme_order.specs.Order.{compared}
 use Rattle.enzyme_list.specs.Chain.{record_text, next_of, LinkedThrough, last_record, Lower, Upper, Rises, ListFrom, PlaceFor, links_with, head_with}
 use Rattle.enzyme_list.specs.ChainLaws.{below_unlike, last-from, linked_behind}
@@ -36,7 +37,7 @@ module _ (s : List ℕ) (ks : List Range) where
   upper_others p (y ∷ ys) u =
       (λ e. below_unlike (record_text s ks p) (record_text s ks y) u.0 (ap (record_text s ks) (sym e)), upper_others p ys u.1)
 
-  upper_last : (a : List ℕ) (u : ℕ) (xs ys : List ℕ) → Upper s ks a (u ∷ (xs ++ ys)) → compared a (record_text s ks (last_record u xs)) ≡ 0
+  upper_last : (a : List ℕ) (u : ℕ) (xs ys : List ℕ) → Upper s ks a (u ∷ (xs ++ ys)) → compared a (record_text s ks (last_record u xs)) ≡ Less
   upper_last a u [] ys h = h.0
   upper_last a u (x ∷ xs) ys h = upper_last a x xs ys h.1
 
@@ -126,7 +127,7 @@ module _ (s : List ℕ) (ks : List Range) (r : Range) where
       (rw (text_grown t a.0 a.1) (upper_grown (record_text s ks t) ts a.2 h.0), rises_grown ts a.2 h.1)
 
 module _ (s : List ℕ) (ks : List Range) (v : ℕ) where
-  upper_splice : (a : List ℕ) (xs ys : List ℕ) → compared a (record_text s ks v) ≡ 0 → Upper s ks a (xs ++ ys) → Upper s ks a (xs ++ (v ∷ ys))
+  upper_splice : (a : List ℕ) (xs ys : List ℕ) → compared a (record_text s ks v) ≡ Less → Upper s ks a (xs ++ ys) → Upper s ks a (xs ++ (v ∷ ys))
   upper_splice a [] ys o h = (o, h)
   upper_splice a (x ∷ xs) ys o h = (h.0, upper_splice a xs ys o h.1)
 

@@ -19,6 +19,7 @@ use Rattle.enzyme_keep.specs.StepLaws.{offers-one}
 use Rattle.enzyme_keep.specs.Steps.{digest_room, decided, offered, unless_full, offers, untold}
 use Rattle.enzyme_list.specs.declared.walk.Place.{Place}
 use Rattle.enzyme_list.specs.declared.walk.Place.TheVariants.{Same, Behind}
+use Rattle.std.specs.declared.cmp.Ordering.TheVariants.{Less}
 use Rattle.enzyme_order.specs.Order.{compared}
 use Rattle.enzyme_list.specs.Chain.{record_text, next_of, LinkedThrough, ListFrom, Between, FoundAt, Sought, Begun, PlaceFor, Tells, is_same}
 use Rattle.enzyme_list.specs.ChainLaws.{range-read, last_snoc, linked_one, linked_behind}
@@ -275,7 +276,7 @@ pub keeps_begun : (s : List ℕ) (count head : ℕ) (out new : List ℕ) → Kee
 keeps_begun s count head out new k = begun_first s (ranges_in count out) (links_in count out) head new k.c k.listed
 
 -- or at a record of the list that is below
-pub has_begun : (s : List ℕ) (count head : ℕ) (out : List ℕ) (t : ℕ) (new : List ℕ) → Keeps s count head out → Has count head out t → compared (record_text s (ranges_in count out) t) new ≡ 0 → Begun s (ranges_in count out) (links_in count out) head t new
+pub has_begun : (s : List ℕ) (count head : ℕ) (out : List ℕ) (t : ℕ) (new : List ℕ) → Keeps s count head out → Has count head out t → compared (record_text s (ranges_in count out) t) new ≡ Less → Begun s (ranges_in count out) (links_in count out) head t new
 has_begun s count head out t new k h o =
     let e : k.c ≡ h.xs ++ (t ∷ h.ys) = linked_one (links_in count out) head k.c (h.xs ++ (t ∷ h.ys)) k.listed.linked h.linked in
     let l : ListFrom s (ranges_in count out) (links_in count out) head (h.xs ++ (t ∷ h.ys)) = rw e at k.listed in

@@ -5,8 +5,10 @@ ghost use Rattle.enzyme_cuts.specs.Work.{RangesWithin};
 ghost use Rattle.enzyme_keep.specs.Buffer.{ranges_in};
 ghost use Rattle.enzyme_order.specs.Order.{compared};
 
+use std::cmp::Ordering;
+
 // How record j stands to the letters a..e.
-pub fn order_at(letters: &[u8], out: &[u8], count: usize, j: usize, a: usize, e: usize) -> u8
+pub fn order_at(letters: &[u8], out: &[u8], count: usize, j: usize, a: usize, e: usize) -> Ordering
     requires { (20 * count ≤ length out.now) × RangesWithin (length letters.now) (ranges_in count out.now) × (j < count) × (a ≤ e) × (e ≤ length letters.now) }
     ensures { result ≡ compared (part letters.now (get_or (ranges_in count out.now) j (site 0 0))) (part letters.now (site a e)) }
 {

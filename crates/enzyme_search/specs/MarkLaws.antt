@@ -5,6 +5,7 @@ use Rattle.lists.specs.FrameLaws.{framed_none, framed_then, framed_within, frame
 use Rattle.lists.specs.Tests.{same?, below?}
 use Rattle.enzyme_cuts.specs.Cutting.{Range}
 use Rattle.enzyme_keep.specs.Buffer.{ranges_in, links_in}
+use Rattle.std.specs.declared.cmp.Ordering.TheVariants.{Less}
 use Rattle.enzyme_order.specs.Order.{compared}
 use Rattle.enzyme_list.specs.Chain.{record_text, next_of, Begun}
 use Rattle.enzyme_list.specs.Offer.{Keeps, Has}
@@ -79,7 +80,7 @@ has_few count head out t h = ⊎_elim (λ (y : 0 < t). (has_within count head ou
 pub chained_first : (count head : ℕ) (out : List ℕ) → Chained count head out → Has0 count head out head
 chained_first count head out c p = has_first count head out c.0 c.1 p
 
-pub below_here : (s : List ℕ) (ks : List Range) (marks : List ℕ) (samples : ℕ) (new : List ℕ) (m : ℕ) → m < samples → compared (record_text s ks (mark_at marks m)) new ≡ 0 → Below s ks marks samples new (m + 1)
+pub below_here : (s : List ℕ) (ks : List Range) (marks : List ℕ) (samples : ℕ) (new : List ℕ) (m : ℕ) → m < samples → compared (record_text s ks (mark_at marks m)) new ≡ Less → Below s ks marks samples new (m + 1)
 below_here s ks marks samples new m l o =
     let e : m + 1 - 1 ≡ m = omega arith in
     record { within = omega arith; below = λ p. rw e o }

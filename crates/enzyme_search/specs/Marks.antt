@@ -4,6 +4,7 @@ use Rattle.std.specs.Prelude.{ℕ, ◌+◌, ◌-◌, ◌*◌, ◌≤◌, ◌<◌
 use Rattle.lists.specs.FrameLaws.{Framed}
 use Rattle.enzyme_cuts.specs.Cutting.{Range}
 use Rattle.enzyme_keep.specs.Buffer.{links_in}
+use Rattle.std.specs.declared.cmp.Ordering.TheVariants.{Less}
 use Rattle.enzyme_order.specs.Order.{compared}
 use Rattle.enzyme_list.specs.Chain.{record_text, LinkedThrough}
 use Rattle.enzyme_list.specs.Offer.{Has}
@@ -30,7 +31,7 @@ pub record SamplesNumbered (count : ℕ) (marks : List ℕ) (samples : ℕ) : Ty
 -- sample r is below the letters new, or r is 0
 pub record Below (s : List ℕ) (ks : List Range) (marks : List ℕ) (samples : ℕ) (new : List ℕ) (r : ℕ) : Type 0 where
   pub within : r ≤ samples
-  pub below : 0 < r → compared (record_text s ks (mark_at marks (r - 1))) new ≡ 0
+  pub below : 0 < r → compared (record_text s ks (mark_at marks (r - 1))) new ≡ Less
 
 -- there is a list from head on
 abbrev pub Chained : ℕ → ℕ → List ℕ → Type 0

@@ -67,7 +67,7 @@ fn stands_below(
         return false;
     }
     let t = marks[3 * j] as usize;
-    enzyme_list::order_at(letters, out, count, t - 1, a, e) == 0
+    enzyme_list::order_at(letters, out, count, t - 1, a, e).is_lt()
 }
 
 // How many samples are below the letters a..e, if they rise.
@@ -119,7 +119,7 @@ pub fn last_below(
     let j = k - 1;
     let t = marks[3 * j] as usize;
     let o = enzyme_list::order_at(letters, out, count, t - 1, a, e);
-    if o == 0 {
+    if o.is_lt() {
         return k;
     }
     0
