@@ -84,16 +84,23 @@ pub fn offer_owns(
     requires { (m < length starts.now) × TablesServe order.now runs.now rank.now share.now g m × RangesReady letters.now far.now (weigh_owns (weight_in order.now runs.now rank.now share.now g (suc missed)) missed (sites_in starts.now m)) run out.old marks.old }
     ensures { Offers letters.now far.now terms (weigh_owns (weight_in order.now runs.now rank.now share.now g (suc missed)) missed (sites_in starts.now m)) run out.old marks.old result out.new marks.new }
 {
-    let mut i = 0;
-    let mut j = missed as usize;
+    let on = missed as usize;
     let mut at = run;
-    while j < m {
+    for i in 0..m.saturating_sub(on) {
         let times = weight_of(order, runs, rank, share, g, m, missed, i);
         at = offer_weighed(
-            letters, far, starts, i, j, missed, times, terms, out, marks, at,
+            letters,
+            far,
+            starts,
+            i,
+            i + on,
+            missed,
+            times,
+            terms,
+            out,
+            marks,
+            at,
         );
-        i += 1;
-        j += 1;
     }
     at
 }

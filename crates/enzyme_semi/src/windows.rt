@@ -51,13 +51,21 @@ fn offer_windows(
     requires { (m < length starts.now) × RangesReady letters.now far.now (loaded 1 (windows missed (sites_in starts.now m))) run out.old marks.old }
     ensures { Offers letters.now far.now terms (loaded 1 (windows missed (sites_in starts.now m))) run out.old marks.old result out.new marks.new }
 {
-    let mut i = 0;
-    let mut j = missed as usize;
+    let on = missed as usize;
     let mut at = run;
-    while j < m {
-        at = offer_window(letters, far, starts, i, j, missed, terms, out, marks, at);
-        i += 1;
-        j += 1;
+    for i in 0..m.saturating_sub(on) {
+        at = offer_window(
+            letters,
+            far,
+            starts,
+            i,
+            i + on,
+            missed,
+            terms,
+            out,
+            marks,
+            at,
+        );
     }
     at
 }
@@ -77,13 +85,9 @@ pub fn offer_all_windows(
     requires { (m < length starts.now) × (missed < 255) × RangesReady letters.now far.now (loaded 1 (windows_from 0 (suc missed) (sites_in starts.now m))) run out.old marks.old }
     ensures { Offers letters.now far.now terms (loaded 1 (windows_from 0 (suc missed) (sites_in starts.now m))) run out.old marks.old result out.new marks.new }
 {
-    let mut k: u8 = 0;
-    let mut left = missed + 1;
     let mut at = run;
-    while 0 < left {
+    for k in 0..=missed {
         at = offer_windows(letters, far, starts, m, k, terms, out, marks, at);
-        k += 1;
-        left -= 1;
     }
     at
 }
