@@ -7,7 +7,7 @@ use Rattle.std.proofs.Math.ListN.{length}
 use Rattle.std.specs.Float.{fin, binary32}
 use Rattle.std.specs.Float.Ieee.{add, eq}
 use borrow.Author.Tests.{le-leb, lt-leb, lt-ltb, le-ltb, ltb-false, eqb-true, eq-eqb, ne_eqb, not-false}
-use Rattle.peptide_mass.specs.Masses.{Weighed, wrong_size, mass_of, add_all, no_mass, first_no_mass, tested_letters, tested_part, weighed}
+use Rattle.peptide_mass.specs.Masses.{wrong_size, mass_of, add_all, no_mass, first_no_mass, tested_letters, tested_part, weighed}
 use Rattle.lists.specs.Tests.{neither}
 use Rattle.records.specs.declared.refusal.Refusal.{Refusal}
 use Rattle.records.specs.declared.refusal.Refusal.TheVariants.{Size, Letter, Length, Field}

@@ -1,5 +1,6 @@
 // The base mass.
-ghost use Rattle.std.specs.Prelude.{◌≡◌, ℕ, ◌≤◌, ◌<◌, length, get_or};
+ghost use Rattle.std.specs.Prelude.{◌≡◌, ℕ, ◌≤◌, ◌<◌, length, get_or, IfSome};
+ghost use Rattle.std.specs.Option.{unwrap_or};
 ghost use Rattle.peptide_mass.specs.Masses.{no_mass, first_no_mass, add_all, tested_letters, tested_part, weighed};
 ghost use Rattle.letters.specs.Letters.{capital, is_letter};
 
@@ -11,25 +12,24 @@ pub fn has_no_mass(masses: &[f32], b: u8) -> bool
     ensures { result ≡ no_mass masses.now b }
 {
     if letters::is_letter(b) {
-        let k = (letters::capital(b) - 65) as usize;
+        let k = usize::from(letters::capital(b) - 65);
         return masses[k] == 0.0;
     }
     true
 }
 
-// The index of the first such byte, or the length.
-fn first_no_mass(letters: &[u8], masses: &[f32]) -> usize
+// The index of the first such byte.
+fn first_no_mass(letters: &[u8], masses: &[f32]) -> Option<usize>
     requires { length masses.now ≡ 26 }
-    ensures { result ≡ first_no_mass masses.now letters.now }
+    ensures first { unwrap_or result (length letters.now) ≡ first_no_mass masses.now letters.now }
+    ensures within { IfSome result (λ bad. bad < length letters.now) }
 {
-    let mut i = 0;
-    while i < letters.len() {
-        if has_no_mass(masses, letters[i]) {
-            return i;
+    for (i, b) in letters.iter().enumerate() {
+        if has_no_mass(masses, *b) {
+            return Some(i);
         }
-        i += 1;
     }
-    i
+    None
 }
 
 // The tests of letters that are weighed.
@@ -43,11 +43,10 @@ fn test_letters(letters: &[u8], masses: &[f32]) -> Result<(), Refusal>
     if masses.len() != 26 {
         return Err(Refusal::Length);
     }
-    let bad = first_no_mass(letters, masses);
-    if bad < n {
-        return Err(Refusal::Letter(bad));
+    match first_no_mass(letters, masses) {
+        Some(bad) => Err(Refusal::Letter(bad)),
+        None => Ok(()),
     }
-    Ok(())
 }
 
 // The tests of a part of a protein that becomes a peptide.
@@ -69,11 +68,9 @@ fn sum(letters: &[u8], masses: &[f32], water: f32) -> f32
     ensures { result ≡ add_all masses.now water letters.now }
 {
     let mut mass = water;
-    let mut i = 0;
-    while i < letters.len() {
-        let k = (letters::capital(letters[i]) - 65) as usize;
+    for b in letters {
+        let k = usize::from(letters::capital(*b) - 65);
         mass = mass + masses[k];
-        i += 1;
     }
     mass
 }

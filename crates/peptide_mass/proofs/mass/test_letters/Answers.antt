@@ -1,4 +1,5 @@
 -- `test_letters` meets its contract: one test after the other. Assumes nothing.
+use Rattle.std.proofs.Common.{length, arith}
 use Rattle.peptide_mass.specs.MassLaws.{letters-size, letters-length, letters_letter, letters-passed}
 use Rattle.peptide_mass.proofs.mass.test_letters.Goals as goal
 
@@ -8,12 +9,12 @@ returns-then-n c = letters-size c.args.letters.now c.args.masses.now c.if-n.true
 pub returns-then-masses-ne26 : goal.returns-then-masses-ne26
 returns-then-masses-ne26 c = letters-length c.args.letters.now c.args.masses.now c.if-n.false c.if-masses-ne26.true
 
-pub returns-then-bad-n : goal.returns-then-bad-n
-returns-then-bad-n c =
+pub returns-in-Some : goal.returns-in-Some
+returns-in-Some c =
     let a = c.args in
-    letters_letter a.letters.now a.masses.now c.if-n.false c.if-masses-ne26.false c.first_no_mass-bad.result c.first_no_mass-bad.ensures c.if-bad-n.true
+    letters_letter a.letters.now a.masses.now c.if-n.false c.if-masses-ne26.false c.in-Some.bad c.in-Some.ensures.first c.in-Some.ensures.within
 
-pub returns : goal.returns
-returns c =
+pub returns-in-None : goal.returns-in-None
+returns-in-None c =
     let a = c.args in
-    letters-passed a.letters.now a.masses.now c.if-n.false c.if-masses-ne26.false c.first_no_mass-bad.result c.first_no_mass-bad.ensures c.if-bad-n.false
+    letters-passed a.letters.now a.masses.now c.if-n.false c.if-masses-ne26.false (length a.letters.now) c.in-None.ensures.first (omega arith)
