@@ -6,7 +6,7 @@ ghost use Rattle.cover_spec.specs.Cover.{listed};
 fn mark(x: u32) -> u8
     ensures { result ≡ bit (eqb x 1) }
 {
-    if x == 1 { 1 } else { 0 }
+    u8::from(x == 1)
 }
 
 // A byte for each mark.
@@ -14,10 +14,7 @@ pub(crate) fn write_marks(w: &[u32], a: usize, out: &mut [u8])
     requires { a + length out.old ≤ length w.now }
     ensures { out.new ≡ listed (length out.old) (λ g. bit (eqb (get_or w.now (a + g) 0) 1)) }
 {
-    let mut i = 0;
-    while i < out.len() {
-        let b = mark(w[a + i]);
-        out[i] = b;
-        i += 1;
+    for i in 0..out.len() {
+        out[i] = mark(w[a + i]);
     }
 }

@@ -1,5 +1,5 @@
 // The levels, from the most edges down: at each the groups that have exactly so many edges left are taken, in their order.
-ghost use Rattle.std.specs.Prelude.{ℕ, ◌+◌, ◌-◌, ◌<◌, ◌≡◌, true, false, eqb, get_or};
+ghost use Rattle.std.specs.Prelude.{ℕ, ◌+◌, ◌-◌, ◌<◌, ◌≡◌, false, eqb, get_or};
 ghost use Rattle.cover_tables.specs.StepLaws.{Walk, Levels};
 ghost use Rattle.cover_spec.specs.Cover.{of_group, cover};
 ghost use Rattle.cover_edges.specs.Edges.{edges_to};
@@ -22,15 +22,11 @@ fn step(edges: &[u8], n: usize, w: &mut [u32], areas: Areas, d: usize, i: usize)
 
 // Whether the group at place i of the order has d edges or more.
 fn more(edges: &[u8], n: usize, w: &[u32], areas: Areas, d: usize, i: usize) -> bool
-    requires { Walk areas (edges_to edges.now n) w.now }
-    ensures { (result ≡ true → i < areas.groups) × (result ≡ false → i < areas.groups → of_group (get_or w.now (areas.od + i) 0) (edges_to edges.now n) < d) }
+    requires { Walk areas (edges_to edges.now n) w.now × (i < areas.groups) }
+    ensures { result ≡ false → of_group (get_or w.now (areas.od + i) 0) (edges_to edges.now n) < d }
 {
-    if i < areas.groups {
-        let c = wide(w[areas.od + i]);
-        d <= size_at(w, areas.go + c)
-    } else {
-        false
-    }
+    let c = wide(w[areas.od + i]);
+    d <= size_at(w, areas.go + c)
 }
 
 // Walks level d.
@@ -38,10 +34,11 @@ fn sweep(edges: &[u8], n: usize, w: &mut [u32], areas: Areas, d: usize)
     requires { Levels areas (edges_to edges.now n) d 0 w.old × (0 < d) }
     ensures { Levels areas (edges_to edges.now n) (d - 1) 0 w.new }
 {
-    let mut i = 0;
-    while more(edges, n, w, areas, d, i) {
+    for i in 0..areas.groups {
+        if !more(edges, n, w, areas, d, i) {
+            return;
+        }
         step(edges, n, w, areas, d, i);
-        i += 1;
     }
 }
 
@@ -50,9 +47,7 @@ pub(crate) fn descend(edges: &[u8], n: usize, w: &mut [u32], areas: Areas, top: 
     requires { Levels areas (edges_to edges.now n) top 0 w.old }
     ensures { (g : ℕ) → g < areas.groups → eqb (get_or w.new (areas.groups + areas.metas + g) 0) 1 ≡ cover areas.groups (edges_to edges.now n) g }
 {
-    let mut d = top;
-    while d > 0 {
-        sweep(edges, n, w, areas, d);
-        d -= 1;
+    for below in (0..top).rev() {
+        sweep(edges, n, w, areas, below + 1);
     }
 }

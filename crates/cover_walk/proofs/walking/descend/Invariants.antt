@@ -5,8 +5,5 @@ use Rattle.cover_tables.specs.StepLaws.{Levels}
 use Rattle.cover_edges.specs.Edges.{edges_to}
 use Rattle.cover_walk.proofs.walking.descend.Given as goal
 
-abbrev pub invariant-loop-d : goal.invariant-loop-d
-invariant-loop-d l = (length l.w ≡ length l.initial.w) × Levels l.areas (edges_to l.edges l.n) l.d 0 l.w
-
-abbrev pub decreases-loop-d : goal.decreases-loop-d
-decreases-loop-d l = l.d
+abbrev pub invariant-loop-below : goal.invariant-loop-below
+invariant-loop-below l = (length l.w ≡ length l.initial.w) × Levels l.areas (edges_to l.edges l.n) l.below 0 l.w
