@@ -22,12 +22,9 @@ fn mix(given: &[u8], groups: usize, metas: usize, w: &mut [u32], k: usize, marks
     ensures { (old new : List Edge) → PartsTell old new groups metas w.old → Mixed old new given.now k marks.old marks.new }
 {
     let size = 1 + groups + metas;
-    let mut g = 0;
-    while g < k {
+    for g in 0..k {
         let low = lowest(w, metas, size, 1 + g);
-        let mark = picked(low, marks[g], given[g]);
-        marks[g] = mark;
-        g += 1;
+        marks[g] = picked(low, marks[g], given[g]);
     }
 }
 

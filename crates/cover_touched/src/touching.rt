@@ -62,10 +62,8 @@ fn join_differing(
     requires forest { Forest w.old metas (nodes groups metas) }
     ensures { Joined (seeds (differing (edges_to old.now on) (edges_to new.now nn)) groups) w.old w.new metas (nodes groups metas) }
 {
-    let mut g = 0;
-    while g < groups {
+    for g in 0..groups {
         join_if(old, on, new, nn, groups, metas, w, g);
-        g += 1;
     }
 }
 

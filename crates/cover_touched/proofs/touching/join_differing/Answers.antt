@@ -10,12 +10,12 @@ use Rattle.cover_touched.proofs.touching.join_differing.Goals as goal
 pub loop-g-init : goal.loop-g-init
 loop-g-init c =
     let a = c.args in
-    (omega arith, refl, c.requires.groups_linked, seeds-start (differing (edges_to a.old.now a.on) (edges_to a.new.now a.nn)) a.w.now a.metas (nodes a.groups a.metas) c.requires.forest)
+    (refl, c.requires.groups_linked, seeds-start (differing (edges_to a.old.now a.on) (edges_to a.new.now a.nn)) a.w.now a.metas (nodes a.groups a.metas) c.requires.forest)
 
 pub join_if-requires : goal.join_if-requires
 join_if-requires c =
     let lp = c.loop-g in
-    record { groups_linked = lp.invariant.2; forest = lp.invariant.3.forest; g_lt_groups = c.loop-g-test.true }
+    record { groups_linked = lp.invariant.1; forest = lp.invariant.2.forest; g_lt_groups = omega arith }
 
 pub loop-g-preserved : goal.loop-g-preserved
 loop-g-preserved c =
@@ -23,14 +23,13 @@ loop-g-preserved c =
     let lp = c.loop-g in
     let call = c.join_if in
     let next = call.new.w in (
-      omega arith,
-      call.auto.w ∙ lp.invariant.1,
-      linked_same lp.w next call.auto.w call.ensures.rest lp.invariant.2,
-      seeds-turn (differing (edges_to a.old.now a.on) (edges_to a.new.now a.nn)) a.w.now lp.w next a.metas (nodes a.groups a.metas) lp.g lp.invariant.3 call.ensures,
+      call.auto.w ∙ lp.invariant.0,
+      linked_same lp.w next call.auto.w call.ensures.rest lp.invariant.1,
+      seeds-turn (differing (edges_to a.old.now a.on) (edges_to a.new.now a.nn)) a.w.now lp.w next a.metas (nodes a.groups a.metas) lp.g lp.invariant.2 call.ensures,
     )
 
 pub returns : goal.returns
-returns c = let a = c.args in let lp = c.loop-g in seeds_end (differing (edges_to a.old.now a.on) (edges_to a.new.now a.nn)) a.w.now lp.w a.metas (nodes a.groups a.metas) lp.g a.groups (omega arith) lp.invariant.3
+returns c = let a = c.args in let lp = c.loop-g in seeds_end (differing (edges_to a.old.now a.on) (edges_to a.new.now a.nn)) a.w.now lp.w a.metas (nodes a.groups a.metas) lp.g a.groups (omega arith) lp.invariant.2
 
 pub shape_of-w : goal.shape_of-w
-shape_of-w c = c.loop-g.invariant.1
+shape_of-w c = c.loop-g.invariant.0

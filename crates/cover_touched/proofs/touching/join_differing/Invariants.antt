@@ -1,5 +1,4 @@
 -- `join_differing` meets its contract. Assumes nothing.
-use Prim.Native.Nat.{◌-◌, ◌≤◌}
 use mathlib.Core.Path.{◌≡◌}
 use lib.ListN.{length}
 use Rattle.cover_joining.specs.Joining.{Joined, nodes}
@@ -9,7 +8,4 @@ use Rattle.cover_touched.specs.Touching.{seeds}
 use Rattle.cover_touched.proofs.touching.join_differing.Given as goal
 
 abbrev pub invariant-loop-g : goal.invariant-loop-g
-invariant-loop-g l = (l.g ≤ l.groups) × (length l.w ≡ length l.initial.w) × GroupsLinked l.old l.on l.new l.nn l.groups l.metas l.w × Joined (seeds (differing (edges_to l.old l.on) (edges_to l.new l.nn)) l.g) l.initial.w l.w l.metas (nodes l.groups l.metas)
-
-abbrev pub decreases-loop-g : goal.decreases-loop-g
-decreases-loop-g l = l.groups - l.g
+invariant-loop-g l = (length l.w ≡ length l.initial.w) × GroupsLinked l.old l.on l.new l.nn l.groups l.metas l.w × Joined (seeds (differing (edges_to l.old l.on) (edges_to l.new l.nn)) l.g) l.initial.w l.w l.metas (nodes l.groups l.metas)
