@@ -12,19 +12,9 @@ pub fn note_list(list: &[u32], w: &mut [u32], c: usize)
     requires { (c ≤ length w.old) × ((i : ℕ) → i < length list.now → get_or list.now i 0 < c) × ((p : ℕ) → p < c → get_or w.old p 0 ≡ 0) }
     ensures { ListNoted list.now w.old w.new c }
 {
-    let mut i = 0;
-    while i < list.len() {
-        let p = list[i] as usize;
-        w[p] = 1;
-        i += 1;
+    for p in list {
+        w[*p as usize] = 1;
     }
-}
-
-// The flag of a decoy, and of a target.
-fn flag_of(decoy: bool) -> u8
-    ensures { result ≡ cond decoy 1 0 }
-{
-    if decoy { 1 } else { 0 }
 }
 
 // A note, where there is a hit, else what stood there.
@@ -42,7 +32,8 @@ fn note_group(members: &[u8], i: usize, marks: &[u8], decoy: bool, w: &mut [u32]
     let at = 12 * i;
     let g = u32_at(members, at) as usize;
     let p = u32_at(members, at + 4) as usize;
-    let hit = (byte_at(members, at + 8) == flag_of(decoy)) & (w[p] == 1) & (byte_at(marks, g) == 1);
+    let flag = u8::from(decoy);
+    let hit = (byte_at(members, at + 8) == flag) & (w[p] == 1) & (byte_at(marks, g) == 1);
     w[c + g] = noted(hit, w[c + g]);
 }
 
@@ -59,9 +50,7 @@ pub fn note_groups(
     requires { (n ≤ 131072) × (c + m ≤ length w.old) × ((i : ℕ) → i < n → number_at 4 members.now (12 * i) < m) × ((i : ℕ) → i < n → number_at 4 members.now (12 * i + 4) < c) × ((g : ℕ) → g < m → get_or w.old (c + g) 0 ≡ 0) }
     ensures { (list : List ℕ) → ((p : ℕ) → p < c → get_or w.old p 0 ≡ cond (occurs p list) 1 0) → Flagged (first_members members.now n) marks.now list decoy w.old w.new c m }
 {
-    let mut i = 0;
-    while i < n {
+    for i in 0..n {
         note_group(members, i, marks, decoy, w, c);
-        i += 1;
     }
 }
