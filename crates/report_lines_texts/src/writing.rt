@@ -26,6 +26,7 @@ fn write_text(names: &[u8], keys: &[u32], t: usize, x: u32, out: &mut [u8], at: 
     let mut entry = 16 + x as usize;
     let mut i = 0;
     let mut k = at;
+    // No `for`: each turn goes to where the walk goes on, up to a zero.
     loop {
         let step = sorting_texts::walk(names, keys, t, entry, i);
         let number = step.number;
@@ -62,10 +63,8 @@ fn write_rest(
     ensures { Put out.old at (after_from (joined_text names.now keys.now) starts.now 1) out.new result }
 {
     let mut k = at;
-    let mut i = 1;
-    while i < starts.len() {
+    for i in 1..starts.len() {
         k = write_next(names, keys, t, starts[i], out, k);
-        i += 1;
     }
     k
 }

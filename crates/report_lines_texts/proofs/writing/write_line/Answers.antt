@@ -5,7 +5,7 @@ use native.Mathlib.Omega.{arith}
 use Rattle.lists.specs.InLaws.{no_places}
 use Rattle.sorting_texts.specs.Text.{joined_text}
 use Rattle.report_lines_texts.specs.WriteLaws.{Put, texts_of, line-length, line-put, some-starts}
-use Rattle.report_lines_texts.proofs.writing.write_line.Goals.{After-slice_known-3-1}
+use Rattle.report_lines_texts.proofs.writing.write_line.Goals.{After-write_rest-end}
 use Rattle.report_lines_texts.proofs.writing.write_line.Goals as goal
 
 pub returns-then-starts-eq0 : goal.returns-then-starts-eq0
@@ -25,7 +25,7 @@ write_rest-end-requires c =
     (c.tag_length-t.ensures, c.requires.0, omega (arith, t.ends, line-length (joined_text a.names.now a.keys.now) a.starts.now h, c.requires.1))
 
 -- the line is written
-line : (c : After-slice_known-3-1)
+line : (c : After-write_rest-end)
     → let a = c.args in
     let r = c.write_rest-end in
     Put a.out.now 0 (texts_of a.names.now a.keys.now a.starts.now) r.new.out r.result
@@ -34,7 +34,7 @@ line c =
     line-put (joined_text a.names.now a.keys.now) a.starts.now (some-starts a.starts.now c.if-starts-eq0.false) c.write_text-first.ensures c.write_rest-end.ensures
 
 pub returns : goal.returns
-returns c = ((line (goal.at.returns c).After-slice_known-3-1).stores, omega (arith, (line (goal.at.returns c).After-slice_known-3-1).ends), refl)
+returns c = ((line (goal.at.returns c).After-write_rest-end).stores, omega (arith, (line (goal.at.returns c).After-write_rest-end).ends), refl)
 
 pub overflow_cast-bytes : goal.overflow_cast-bytes
-overflow_cast-bytes c = omega (arith, (line (goal.at.overflow_cast-bytes c).After-slice_known-3-1).ends, c.requires.1)
+overflow_cast-bytes c = omega (arith, (line (goal.at.overflow_cast-bytes c).After-write_rest-end).ends, c.requires.1)

@@ -1,7 +1,7 @@
 -- `write_rest` meets its contract: the texts from i on are still to come. Assumes nothing.
 use native.Mathlib.Omega.{arith}
 use Rattle.sorting_texts.specs.Text.{joined_text}
-use Rattle.report_lines_texts.specs.WriteLaws.{coming_all, coming_done, coming_length, after-length, after_turn, after_last}
+use Rattle.report_lines_texts.specs.WriteLaws.{coming_all, coming_done, after-length, after_turn, after_last}
 use Rattle.report_lines_texts.proofs.writing.write_rest.Goals as goal
 
 pub write_next-k-requires : goal.write_next-k-requires
@@ -24,6 +24,3 @@ returns c =
 
 pub loop-i-init : goal.loop-i-init
 loop-i-init c = coming_all
-
-pub shape_of-out : goal.shape_of-out
-shape_of-out c = coming_length c.loop-i.invariant

@@ -4,7 +4,7 @@ use Rattle.report_lines_texts.specs.WalkLaws.{writing_start, writing_length, wri
 use Rattle.report_lines_texts.proofs.writing.write_text.Goals as goal
 
 pub loop-step-init : goal.loop-step-init
-loop-step-init c = writing_start (λ i. omega (arith, c.shared_slice_known-1.given i)) c.requires.1
+loop-step-init c = writing_start (λ i. omega (arith, c.type_inv.names i)) c.requires.1
 
 pub walk-step-requires : goal.walk-step-requires
 walk-step-requires c = record { tag = c.requires.0; within = c.loop-step.invariant.within }
