@@ -6,40 +6,22 @@ use Rattle.enzyme_rows.specs.TurnLaws.{repeats-marked-none, repeats-marked-more}
 use Rattle.enzyme_rows.proofs.rows.mark.Goals as goal
 
 pub loop-i-init : goal.loop-i-init
-loop-i-init c = let a = c.args in (omega arith, repeats-marked-none a.order.now a.runs.now a.share.now a.n)
+loop-i-init c = let a = c.args in (repeats-marked-none a.order.now a.runs.now a.share.now a.n)
 
 pub bounds-share-x : goal.bounds-share-x
-bounds-share-x c = let l = c.loop-i in let b = c.requires.3 c.wide-x.result (l.i, omega arith, sym c.wide-x.ensures) in omega (arith, b, l.invariant.1.long)
+bounds-share-x c = let l = c.loop-i in let b = c.requires.3 c.from-x.result (l.i, omega arith, sym c.from-x.ensures) in omega (arith, b, l.invariant.long)
 
 pub bounds-share-x-in-loop-i : goal.bounds-share-x-in-loop-i
-bounds-share-x-in-loop-i c = let l = c.loop-i in let b = c.requires.3 c.wide-x.result (l.i, omega arith, sym c.wide-x.ensures) in omega (arith, b, l.invariant.1.long)
+bounds-share-x-in-loop-i c = let l = c.loop-i in let b = c.requires.3 c.from-x.result (l.i, omega arith, sym c.from-x.ensures) in omega (arith, b, l.invariant.long)
 
 pub loop-i-preserved : goal.loop-i-preserved
 loop-i-preserved c = let a = c.args in
     let l = c.loop-i in
     let b = c.requires.3 (get_or a.order.now l.i 0) (l.i, omega arith, refl) in
-    rw c.wide-x.ensures (omega arith, repeats-marked-more a.order.now a.runs.now a.share.now l.share a.n a.g l.i c.requires.2 (omega arith) b l.invariant.1 c.shared-v.result (rw c.wide-x.ensures at c.shared-v.ensures))
+    rw c.from-x.ensures (repeats-marked-more a.order.now a.runs.now a.share.now l.share a.n a.g l.i c.requires.2 (omega arith) b l.invariant c.shared.result (rw c.from-x.ensures at c.shared.ensures))
 
 pub returns : goal.returns
-returns c = let e : c.loop-i.i ≡ c.args.g = omega arith in rw e at c.loop-i.invariant.1
-
-pub offset_bounds-order-i : goal.offset_bounds-order-i
-offset_bounds-order-i c = omega arith
-
-pub bounds-order-i : goal.bounds-order-i
-bounds-order-i c = omega arith
-
-pub offset_bounds-runs-i : goal.offset_bounds-runs-i
-offset_bounds-runs-i c = omega arith
-
-pub bounds-runs-i : goal.bounds-runs-i
-bounds-runs-i c = omega arith
-
-pub overflow_add-i : goal.overflow_add-i
-overflow_add-i c = omega arith
-
-pub loop-i-smaller : goal.loop-i-smaller
-loop-i-smaller c = omega arith
+returns c = let e : c.loop-i.i ≡ c.args.g = omega arith in rw e at c.loop-i.invariant
 
 pub shape_of-share : goal.shape_of-share
-shape_of-share c = c.loop-i.invariant.1.long
+shape_of-share c = c.loop-i.invariant.long
