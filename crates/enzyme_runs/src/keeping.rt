@@ -7,8 +7,7 @@ fn joins(runs: &[u16], i: usize) -> bool
     requires { i < length runs.now }
     ensures { result ≡ not (eqb (get_or runs.now i 0) i) }
 {
-    let run = enzyme_keys::wide(runs[i]);
-    run != i
+    usize::from(runs[i]) != i
 }
 
 // The same of the place behind, where there is one among g.
@@ -27,7 +26,7 @@ fn goes_on(runs: &[u16], x: u16, g: usize, m: usize, n: u8, i: usize) -> bool
 {
     let here = joins(runs, i);
     let there = next_joins(runs, g, i);
-    let on = enzyme_keys::wide(x) + n as usize;
+    let on = usize::from(x) + usize::from(n);
     (here | there) & (on < m)
 }
 
@@ -37,13 +36,11 @@ pub fn keep(order: &mut [u16], runs: &[u16], g: usize, m: usize, n: u8) -> usize
     ensures { Kept (goes_on order.old runs.now g m n) order.old order.new g result }
 {
     let mut k = 0;
-    let mut i = 0;
-    while i < g {
+    for i in 0..g {
         let x = order[i];
         let more = goes_on(runs, x, g, m, n, i);
         order[k] = x;
         k = enzyme_rows::after(k, more);
-        i += 1;
     }
     k
 }

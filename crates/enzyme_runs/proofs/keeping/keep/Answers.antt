@@ -9,38 +9,29 @@ use Rattle.enzyme_rows.specs.TurnLaws.{kept-none, kept-turn}
 use Rattle.enzyme_runs.proofs.keeping.keep.Goals as goal
 
 pub loop-i-init : goal.loop-i-init
-loop-i-init c = let a = c.args in (omega arith, kept-none (goes_on a.order.now a.runs.now a.g a.m a.n) a.order.now)
+loop-i-init c = let a = c.args in (kept-none (goes_on a.order.now a.runs.now a.g a.m a.n) a.order.now)
 
 pub bounds-order-i : goal.bounds-order-i
-bounds-order-i c = omega (arith, c.loop-i.invariant.1.long)
+bounds-order-i c = omega (arith, c.loop-i.invariant.long)
 
 pub bounds-order-k : goal.bounds-order-k
-bounds-order-k c = let l = c.loop-i in omega (arith, l.invariant.1.long, l.invariant.1.few)
+bounds-order-k c = let l = c.loop-i in omega (arith, l.invariant.long, l.invariant.few)
 
 pub after-k-requires : goal.after-k-requires
-after-k-requires c = let l = c.loop-i in omega (arith, l.invariant.1.few)
+after-k-requires c = let l = c.loop-i in omega (arith, l.invariant.few)
 
 pub loop-i-preserved : goal.loop-i-preserved
 loop-i-preserved c = let a = c.args in
     let l = c.loop-i in
     let h : l.i < a.g = omega arith in
-    let e : get_or l.order l.i 0 ≡ get_or a.order.now l.i 0 = l.invariant.1.rest l.i (inr (omega arith)) in
-    (omega arith, rw c.after-k.ensures (kept-turn (goes_on a.order.now a.runs.now a.g a.m a.n) a.order.now l.order a.g l.i l.k (get_or l.order l.i 0) c.goes_on-more.result c.requires.3 h c.requires.0 l.invariant.1 e (rw e at c.goes_on-more.ensures)))
+    let e : get_or l.order l.i 0 ≡ get_or a.order.now l.i 0 = l.invariant.rest l.i (inr (omega arith)) in
+    (rw c.after-k.ensures (kept-turn (goes_on a.order.now a.runs.now a.g a.m a.n) a.order.now l.order a.g l.i l.k (get_or l.order l.i 0) c.goes_on-more.result c.requires.3 h c.requires.0 l.invariant e (rw e at c.goes_on-more.ensures)))
 
 pub returns : goal.returns
-returns c = let e : c.loop-i.i ≡ c.args.g = omega arith in rw e at c.loop-i.invariant.1
-
-pub offset_bounds-order-i : goal.offset_bounds-order-i
-offset_bounds-order-i c = omega arith
+returns c = let e : c.loop-i.i ≡ c.args.g = omega arith in rw e at c.loop-i.invariant
 
 pub offset_bounds-order-k : goal.offset_bounds-order-k
 offset_bounds-order-k c = omega arith
 
-pub overflow_add-i : goal.overflow_add-i
-overflow_add-i c = omega arith
-
-pub loop-i-smaller : goal.loop-i-smaller
-loop-i-smaller c = omega arith
-
 pub shape_of-order : goal.shape_of-order
-shape_of-order c = c.loop-i.invariant.1.long
+shape_of-order c = c.loop-i.invariant.long
