@@ -9,8 +9,6 @@ pub(crate) fn add_times(out: &mut [u8], t: usize, times: u32)
     ensures { out.new ≡ times_added out.old t times }
 {
     let at = 20 * (t - 1) + 16;
-    let old = records::u32_at(out, at) as u64;
-    let sum = old + times as u64;
-    let new = (sum % 4294967296) as u32;
+    let new = records::u32_at(out, at).wrapping_add(times);
     records::put_u32(out, at, new);
 }

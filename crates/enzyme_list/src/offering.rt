@@ -11,7 +11,9 @@ use crate::linking::insert;
 use crate::walk::{Place, search};
 use enzyme_keep::Terms;
 
-// How many records there are, and the first of the list; and whether there was no room for one more.
+// How many records there are, and the first of the list; and whether there was no room for one more. No Option: a list that is
+// full goes on, and counts what it finds (`Came.tells`). Its parts are passed one by one, since a copy of the whole would wait
+// for the bytes behind `full`.
 #[derive(Clone, Copy)]
 pub struct Run {
     pub count: usize,
