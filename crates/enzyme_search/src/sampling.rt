@@ -12,8 +12,7 @@ fn letter_at(text: &[u8], i: usize) -> u32
     if text.len() <= i {
         return 0;
     }
-    let x = text[i] % 32;
-    x as u32
+    u32::from(text[i] % 32)
 }
 
 // The head of a text as a number: its length and its first five letters. Of two texts the one below has no greater head.
@@ -86,6 +85,7 @@ fn how_many_below(
 {
     let mut lo = 0;
     let mut hi = samples;
+    // A while: each turn halves what is left.
     while lo < hi {
         let mid = (lo + hi) / 2;
         let next = mid + 1;
