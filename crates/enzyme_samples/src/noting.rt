@@ -39,11 +39,9 @@ fn settle(letters: &[u8], out: &[u8], marks: &mut [u32], run: Run, j: usize, siz
         let fewer = enzyme_marks::thin(marks, run.samples);
         let limit = doubled(run.limit);
         return Run {
-            count: run.count,
-            head: run.head,
             samples: fewer,
-            limit: limit,
-            full: run.full,
+            limit,
+            ..run
         };
     }
     let more = enzyme_marks::split(
@@ -57,18 +55,9 @@ fn settle(letters: &[u8], out: &[u8], marks: &mut [u32], run: Run, j: usize, siz
         size,
     );
     Run {
-        count: run.count,
-        head: run.head,
         samples: more,
-        limit: run.limit,
-        full: run.full,
+        ..run
     }
-}
-
-fn one_less(k: usize) -> usize
-    ensures { result ≡ k - 1 }
-{
-    if k == 0 { 0 } else { k - 1 }
 }
 
 // A record whose letters have the head `head` was linked in behind sample k, numbered from 1, or before all for 0.
@@ -90,14 +79,8 @@ pub(crate) fn note(
         return run;
     }
     let samples = enzyme_marks::mark_first(marks, run.head, run.samples, k, head);
-    let j = one_less(k);
+    let j = k.saturating_sub(1);
     let size = enzyme_marks::count_one(marks, j);
-    let now = Run {
-        count: run.count,
-        head: run.head,
-        samples: samples,
-        limit: run.limit,
-        full: run.full,
-    };
+    let now = Run { samples, ..run };
     settle(letters, out, marks, now, j, size)
 }

@@ -7,7 +7,8 @@ use crate::noting::note;
 use enzyme_keep::Terms;
 
 // How many records there are, the first of the list, and how many samples of it there are: the first of them is the
-// list's first, and from each to the next there are fewer than `limit` records; and whether there was no room for one more.
+// list's first, and from each to the next there are fewer than `limit` records; and whether there was no room for one more. No
+// Option: where it is full, what is found counts still (`Offers.tells`).
 #[derive(Clone, Copy)]
 pub struct Run {
     pub count: usize,
@@ -60,9 +61,8 @@ fn write_range(
     Run {
         count: at.count,
         head: at.head,
-        samples: run.samples,
-        limit: run.limit,
         full: at.full,
+        ..run
     }
 }
 
@@ -92,9 +92,8 @@ fn seek_range(
     let next = Run {
         count: at.count,
         head: at.head,
-        samples: run.samples,
-        limit: run.limit,
         full: at.full,
+        ..run
     };
     if at.count == run.count {
         return next;

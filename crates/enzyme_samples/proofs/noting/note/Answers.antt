@@ -14,4 +14,4 @@ settle-requires c = let a = c.args in
     let f = c.mark_first-samples in
     let h = chained_first a.run.count a.run.head a.out.now c.requires.2 (omega (arith, c.if-run-eq0.false)) in
     let m = first-marked a.run.count a.run.head a.out.now a.marks.now a.run.samples c.requires.3 a.run.head a.k f.new.marks f.result h f.ensures in
-    (c.requires.0, c.requires.1, same_samples_listed a.run.count a.run.head a.out.now f.new.marks f.result m c.count_one-size.new.marks c.count_one-size.ensures, rw c.one_less-j.ensures f.ensures.there)
+    (c.requires.0, c.requires.1, same_samples_listed a.run.count a.run.head a.out.now f.new.marks f.result m c.count_one-size.new.marks c.count_one-size.ensures, rw c.saturating_sub-j.ensures f.ensures.there)
