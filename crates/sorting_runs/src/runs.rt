@@ -17,17 +17,14 @@ fn stop(by: By, letters: &[u8], w: &[u32], lo: usize, hi: usize, e: usize) -> us
         return lo;
     }
     let mut p = w[lo];
-    let mut i = lo + 1;
-    while i < hi {
+    for i in lo + 1..hi {
         let x = w[i];
-        if sorting_compare::le(by, letters, &w[e..], x, p) {
-            p = x;
-            i += 1;
-        } else {
+        if !sorting_compare::le(by, letters, &w[e..], x, p) {
             return i;
         }
+        p = x;
     }
-    i
+    hi
 }
 
 // The end of the run of equal texts that begins at lo in the sorted w[lo..hi], whose keys stand from w[e] on.
@@ -71,17 +68,13 @@ fn number_fitting(
         return 0;
     }
     let mut p = w[lo];
-    let mut g = 0u32;
+    let mut g = 0;
     w[to] = 0;
-    let mut i = lo + 1;
-    let mut k = to + 1;
-    while i < hi {
+    for i in lo + 1..hi {
         let x = w[i];
         g = next_run(by, letters, &w[e..], g, p, x);
-        w[k] = g;
+        w[to + (i - lo)] = g;
         p = x;
-        i += 1;
-        k += 1;
     }
     g + 1
 }
@@ -90,11 +83,7 @@ fn number_fitting(
 fn counts(lo: usize, hi: usize, to: usize, e: usize, n: usize) -> bool
     ensures { result ≡ numberable lo hi to e n }
 {
-    if sorting_slices::fits(lo, hi, to, e, n) {
-        hi - lo <= 4294967295
-    } else {
-        false
-    }
+    sorting_slices::fits(lo, hi, to, e, n) && hi - lo <= 4294967295
 }
 
 // Numbers the runs of the sorted w[lo..hi] from 0: for each of its numbers that of its run, from w[to] on. The keys stand from
@@ -110,10 +99,9 @@ pub fn number_runs(
 ) -> Result<u32, Unfit>
     ensures { outcome result (w.new ∷ []) ≡ numbers_outcome by letters.now lo hi to e w.old }
 {
-    if counts(lo, hi, to, e, w.len()) {
-        let count = number_fitting(by, letters, w, lo, hi, to, e);
-        Ok(count)
-    } else {
-        Err(Unfit)
+    if !counts(lo, hi, to, e, w.len()) {
+        return Err(Unfit);
     }
+    let count = number_fitting(by, letters, w, lo, hi, to, e);
+    Ok(count)
 }

@@ -10,4 +10,4 @@ pub returns-then-fits : goal.returns-then-fits
 returns-then-fits c = rw (sym c.fits.ensures ∙ c.if-fits.true)
 
 pub returns-else-fits : goal.returns-else-fits
-returns-else-fits c = rw (sym c.fits.ensures ∙ c.if-fits.false)
+returns-else-fits c = rw (sym c.fits.ensures ∙ c.if-fits.false) c.if-fits.false

@@ -7,15 +7,15 @@ use Rattle.sorting_runs.proofs.runs.number_runs.Goals as goal
 pub number_fitting-count-requires : goal.number_fitting-count-requires
 number_fitting-count-requires c =
     let a = c.args in
-    numberable-order a.lo a.hi a.to a.e (length a.w.now) (sym c.counts.ensures ∙ c.if-counts.true)
+    numberable-order a.lo a.hi a.to a.e (length a.w.now) (sym c.counts.ensures ∙ c.if-not-counts.false)
 
-pub returns-then-counts : goal.returns-then-counts
-returns-then-counts c =
+pub returns : goal.returns
+returns c =
     let a = c.args in
     let n = c.number_fitting-count in
-    number_fits a.by a.letters.now a.lo a.hi a.to a.e a.w.now n.new.w n.result (sym c.counts.ensures ∙ c.if-counts.true) n.ensures.0 n.ensures.1 n.ensures.2 n.ensures.3
+    number_fits a.by a.letters.now a.lo a.hi a.to a.e a.w.now n.new.w n.result (sym c.counts.ensures ∙ c.if-not-counts.false) n.ensures.0 n.ensures.1 n.ensures.2 n.ensures.3
 
-pub returns-else-counts : goal.returns-else-counts
-returns-else-counts c =
+pub returns-then-not-counts : goal.returns-then-not-counts
+returns-then-not-counts c =
     let a = c.args in
-    number-unfit a.by a.letters.now a.lo a.hi a.to a.e a.w.now (sym c.counts.ensures ∙ c.if-counts.false)
+    number-unfit a.by a.letters.now a.lo a.hi a.to a.e a.w.now (sym c.counts.ensures ∙ c.if-not-counts.true)

@@ -11,55 +11,28 @@ pub returns-then-lo-hi : goal.returns-then-lo-hi
 returns-then-lo-hi c = let a = c.args in rw c.if-lo-hi.true (sym (run-empty (le_by a.by a.letters.now (drop a.e a.w.now)) a.w.now a.hi))
 
 pub loop-i-init : goal.loop-i-init
-loop-i-init c = let a = c.args in (omega arith, omega arith, run_begin (le_by a.by a.letters.now (drop a.e a.w.now)) a.w.now a.lo a.hi (omega arith) (omega arith))
+loop-i-init c = let a = c.args in (omega arith, run_begin (le_by a.by a.letters.now (drop a.e a.w.now)) a.w.now a.lo a.hi (omega arith) (omega arith))
 
 pub loop-i-preserved : goal.loop-i-preserved
 loop-i-preserved c =
     let a = c.args in
     let l = c.loop-i in
     let le = le_by a.by a.letters.now (drop a.e a.w.now) in
-    let q = sym (rw (rest_all a.e a.w.now) at c.le.ensures) ∙ c.if-le.true in
-    (omega arith, omega arith, l.invariant.2 ∙ run_on le a.w.now l.i a.hi (omega arith) (omega arith) l.p q)
+    let q = sym (rw (rest_all a.e a.w.now) at c.le.ensures) ∙ c.if-not-le.false in
+    (omega arith, l.invariant.1 ∙ run_on le a.w.now l.i a.hi (omega arith) (omega arith) l.p q)
 
-pub returns-else-le : goal.returns-else-le
-returns-else-le c =
+pub returns-then-not-le : goal.returns-then-not-le
+returns-then-not-le c =
     let a = c.args in
     let l = c.loop-i in
     let le = le_by a.by a.letters.now (drop a.e a.w.now) in
-    let q = sym (rw (rest_all a.e a.w.now) at c.le.ensures) ∙ c.if-le.false in
-    sym (l.invariant.2 ∙ run_off le a.w.now l.i a.hi (omega arith) (omega arith) l.p q)
+    let q = sym (rw (rest_all a.e a.w.now) at c.le.ensures) ∙ c.if-not-le.true in
+    sym (l.invariant.1 ∙ run_off le a.w.now l.i a.hi (omega arith) (omega arith) l.p q)
 
 pub returns : goal.returns
 returns c =
     let a = c.args in
     let l = c.loop-i in
-    let e : l.i ≡ a.hi = omega arith in
     let le = le_by a.by a.letters.now (drop a.e a.w.now) in
-    sym (l.invariant.2 ∙ (rw e (run_none le a.w.now a.hi l.p)))
-
-pub offset_bounds-w-lo : goal.offset_bounds-w-lo
-offset_bounds-w-lo c = omega arith
-
-pub bounds-w-lo : goal.bounds-w-lo
-bounds-w-lo c = omega arith
-
-pub overflow_add-i : goal.overflow_add-i
-overflow_add-i c = omega arith
-
-pub offset_bounds-w-i : goal.offset_bounds-w-i
-offset_bounds-w-i c = omega arith
-
-pub bounds-w-i : goal.bounds-w-i
-bounds-w-i c = omega arith
-
-pub offset_bounds-w-e : goal.offset_bounds-w-e
-offset_bounds-w-e c = omega arith
-
-pub slice_bounds-le-count : goal.slice_bounds-le-count
-slice_bounds-le-count c = omega arith
-
-pub overflow_add-i-then-le : goal.overflow_add-i-then-le
-overflow_add-i-then-le c = omega arith
-
-pub loop-i-smaller : goal.loop-i-smaller
-loop-i-smaller c = omega arith
+    let e : l.i ≡ a.hi = omega arith in
+    sym (l.invariant.1 ∙ rw e (run_none le a.w.now a.hi l.p))

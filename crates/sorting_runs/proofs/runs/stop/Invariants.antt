@@ -1,5 +1,5 @@
 -- `stop` meets its contract. Assumes nothing.
-use Prim.Native.Nat.{◌≤◌, ◌<◌, ◌-◌, ◌+◌}
+use Prim.Native.Nat.{◌<◌, ◌+◌}
 use mathlib.Core.Path.{◌≡◌}
 use lib.ListN.{drop}
 use lib.Seq.{slice}
@@ -10,7 +10,4 @@ use Rattle.sorting_runs.proofs.runs.stop.Given as goal
 abbrev pub invariant-loop-i : goal.invariant-loop-i
 invariant-loop-i l =
     let le = le_by l.by l.letters (drop l.e l.w) in
-    (l.lo < l.i) × (l.i ≤ l.hi) × (l.lo + run_length le (slice l.lo l.hi l.w) ≡ l.i + equals_after le l.p (slice l.i l.hi l.w))
-
-abbrev pub decreases-loop-i : goal.decreases-loop-i
-decreases-loop-i l = l.hi - l.i
+    (l.lo < l.hi) × (l.lo + run_length le (slice l.lo l.hi l.w) ≡ l.i + equals_after le l.p (slice l.i l.hi l.w))
