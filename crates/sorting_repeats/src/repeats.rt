@@ -16,7 +16,7 @@ fn lesser_of(by: By, letters: &[u8], keys: &[u32], b: u32, p: u32, x: u32) -> u3
     ensures { result ≡ lesser (le_by by letters.now keys.now) b p x }
 {
     if sorting_compare::le(by, letters, keys, x, p) {
-        if b <= x { b } else { x }
+        b.min(x)
     } else {
         b
     }
@@ -32,12 +32,10 @@ fn least_repeat(by: By, letters: &[u8], w: &[u32], hi: usize, e: usize, none: u3
     }
     let mut p = w[0];
     let mut b = none;
-    let mut i = 1;
-    while i < hi {
+    for i in 1..hi {
         let x = w[i];
         b = lesser_of(by, letters, &w[e..], b, p, x);
         p = x;
-        i += 1;
     }
     b
 }
@@ -47,10 +45,8 @@ fn count_up(w: &mut [u32], n: u32)
     requires { n ≤ length w.old }
     ensures { (take n w.new ≡ up_from 0 n) × (drop n w.new ≡ drop n w.old) }
 {
-    let mut i = 0u32;
-    while i < n {
+    for i in 0..n {
         w[i as usize] = i;
-        i += 1;
     }
 }
 
@@ -74,16 +70,11 @@ pub fn first_repeated(names: &[u8], w: &mut [u32]) -> Result<Option<usize>, Unfi
     ensures { outcome result (w.new ∷ []) ≡ repeat_outcome names.now w.old }
 {
     let n = names.len() / 64;
-    if (n <= 4294967295) & (n <= w.len() / 2) {
-        let count = n as u32;
-        let r = repeat_among(names, w, count);
-        if r < count {
-            let place = r as usize;
-            Ok(Some(place))
-        } else {
-            Ok(None)
-        }
-    } else {
-        Err(Unfit)
+    let roomy = (n <= 4294967295) & (n <= w.len() / 2);
+    if !roomy {
+        return Err(Unfit);
     }
+    let count = n as u32;
+    let r = repeat_among(names, w, count);
+    Ok((r < count).then_some(r as usize))
 }

@@ -12,15 +12,14 @@ pub returns-then-hi-eq0 : goal.returns-then-hi-eq0
 returns-then-hi-eq0 c = rw c.if-hi-eq0.true
 
 pub loop-i-init : goal.loop-i-init
-loop-i-init c = let a = c.args in (omega arith, omega arith, least_begin (le_by a.by a.letters.now (drop a.e a.w.now)) a.w.now 0 a.hi a.none (omega arith) (omega arith))
+loop-i-init c = let a = c.args in (omega arith, least_begin (le_by a.by a.letters.now (drop a.e a.w.now)) a.w.now 0 a.hi a.none (omega arith) (omega arith))
 
 pub loop-i-preserved : goal.loop-i-preserved
 loop-i-preserved c =
     let a = c.args in
     let l = c.loop-i in (
       omega arith,
-      omega arith,
-      rw (rw (rest_all a.e a.w.now) at c.lesser_of-b.ensures) (l.invariant.2 ∙ least-turn (le_by a.by a.letters.now (drop a.e a.w.now)) a.w.now l.i a.hi l.b l.p (omega arith) (omega arith)),
+      rw (rw (rest_all a.e a.w.now) at c.lesser_of-b.ensures) (l.invariant.1 ∙ least-turn (le_by a.by a.letters.now (drop a.e a.w.now)) a.w.now l.i a.hi l.b l.p (omega arith) (omega arith)),
     )
 
 pub returns : goal.returns
@@ -28,25 +27,4 @@ returns c =
     let a = c.args in
     let l = c.loop-i in
     let i : l.i ≡ a.hi = omega arith in
-    sym (rw (i, slice_empty a.hi a.w.now) at l.invariant.2)
-
-pub bounds-w-0 : goal.bounds-w-0
-bounds-w-0 c = omega arith
-
-pub offset_bounds-w-i : goal.offset_bounds-w-i
-offset_bounds-w-i c = omega arith
-
-pub bounds-w-i : goal.bounds-w-i
-bounds-w-i c = omega arith
-
-pub offset_bounds-w-e : goal.offset_bounds-w-e
-offset_bounds-w-e c = omega arith
-
-pub slice_bounds-lesser_of-count : goal.slice_bounds-lesser_of-count
-slice_bounds-lesser_of-count c = omega arith
-
-pub overflow_add-i : goal.overflow_add-i
-overflow_add-i c = omega arith
-
-pub loop-i-smaller : goal.loop-i-smaller
-loop-i-smaller c = omega arith
+    sym (rw (i, slice_empty a.hi a.w.now) at l.invariant.1)
