@@ -22,42 +22,26 @@ pub fn repeat_over(names: &[u8], tab: &mut [u32]) -> usize
     place_in(names.len() / 64, found)
 }
 
-// With a table of its own, of three sizes: few names do not pay for the clearing of a large one.
-fn repeat_small(names: &[u8]) -> usize
-    requires { name_count names.now ≤ 256 }
+// With a table of its own, of N numbers.
+fn repeat_with<const N: usize>(names: &[u8]) -> usize
+    requires { (name_count names.now ≤ 65536) × (name_count names.now + name_count names.now ≤ N) × (N ≤ 131072) }
     ensures { result ≡ first_repeat (name_of names.now) (name_count names.now) }
 {
-    let mut tab = [0 as u32; 512];
+    let mut tab = [0u32; N];
     repeat_over(names, &mut tab)
 }
 
-fn repeat_middle(names: &[u8]) -> usize
-    requires { name_count names.now ≤ 4096 }
-    ensures { result ≡ first_repeat (name_of names.now) (name_count names.now) }
-{
-    let mut tab = [0 as u32; 8192];
-    repeat_over(names, &mut tab)
-}
-
-fn repeat_large(names: &[u8]) -> usize
-    requires { name_count names.now ≤ 65536 }
-    ensures { result ≡ first_repeat (name_of names.now) (name_count names.now) }
-{
-    let mut tab = [0 as u32; 131072];
-    repeat_over(names, &mut tab)
-}
-
-// The first record that equals an earlier one, or their number.
+// The first record that equals an earlier one, or their number. Few names do not pay for the clearing of a large table.
 pub fn first_repeat(names: &[u8]) -> usize
     requires { name_count names.now ≤ 65536 }
     ensures { result ≡ first_repeat (name_of names.now) (name_count names.now) }
 {
     let n = names.len() / 64;
     if n <= 256 {
-        return repeat_small(names);
+        return repeat_with::<512>(names);
     }
     if n <= 4096 {
-        return repeat_middle(names);
+        return repeat_with::<8192>(names);
     }
-    repeat_large(names)
+    repeat_with::<131072>(names)
 }
