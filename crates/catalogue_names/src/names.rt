@@ -23,7 +23,7 @@ pub fn name_count(names: &[u8]) -> usize
 pub fn too_many_names(names: &[u8]) -> bool
     ensures { result ≡ too_many_names names.now }
 {
-    65536 < names.len() / 64
+    65536 < name_count(names)
 }
 
 // 8 unless the length is whole records.
@@ -38,24 +38,20 @@ fn is_name_at(names: &[u8], i: usize) -> bool
     ensures { result ≡ is_name (name_of names.now i) }
 {
     let from = i * 64;
-    let to = from + 64;
-    is_name(&names[from..to])
+    is_name(&names[from..from + 64])
 }
 
 // The first record that is no name, or their number.
 fn first_bad_name(names: &[u8]) -> usize
     ensures { result ≡ seek (bad_name names.now) 0 (name_count names.now) }
 {
-    let n = names.len() / 64;
-    let mut i = 0;
-    while i < n {
-        if is_name_at(names, i) {
-            i += 1;
-        } else {
+    let n = name_count(names);
+    for i in 0..n {
+        if !is_name_at(names, i) {
             return i;
         }
     }
-    i
+    n
 }
 
 // What the first bad name and the first that repeats tell of n names: the lower of the two.
@@ -78,7 +74,7 @@ fn contents_tested(names: &[u8]) -> Result<(), Refusal>
 {
     let bad = first_bad_name(names);
     let again = first_repeat(names);
-    told(bad, again, names.len() / 64)
+    told(bad, again, name_count(names))
 }
 
 // The same with a table that is lent.
@@ -88,7 +84,7 @@ fn contents_over(names: &[u8], tab: &mut [u32]) -> Result<(), Refusal>
 {
     let bad = first_bad_name(names);
     let again = repeat_over(names, tab);
-    told(bad, again, names.len() / 64)
+    told(bad, again, name_count(names))
 }
 
 // The tests of a catalogue: 1, 8, and 12 or 13 at the lowest place.
@@ -98,10 +94,10 @@ pub fn names_tested(names: &[u8]) -> Result<(), Refusal>
     if too_many_names(names) {
         return Err(Refusal::Size);
     }
-    if are_whole_names(names) {
-        return contents_tested(names);
+    if !are_whole_names(names) {
+        return Err(Refusal::Length);
     }
-    Err(Refusal::Length)
+    contents_tested(names)
 }
 
 // The same tests with a table that is lent, so that the call takes little stack: two numbers a name are used, and are zero at the
@@ -112,12 +108,13 @@ pub fn names_tested_in(names: &[u8], tab: &mut [u32]) -> Result<(), Refusal>
     if too_many_names(names) {
         return Err(Refusal::Size);
     }
-    if are_whole_names(names) {
-        let n = names.len() / 64;
-        if n + n <= tab.len() {
-            return contents_over(names, tab);
-        }
-        return contents_tested(names);
+    if !are_whole_names(names) {
+        return Err(Refusal::Length);
     }
-    Err(Refusal::Length)
+    let n = name_count(names);
+    if n + n <= tab.len() {
+        contents_over(names, tab)
+    } else {
+        contents_tested(names)
+    }
 }

@@ -1,10 +1,10 @@
 -- `contents_over` meets its contract. Assumes nothing.
-use mathlib.Core.Path.{sym, ◌∙◌}
-use Rattle.catalogue_spec.specs.NameLaws.{tested_parts}
+use mathlib.Core.Path.{sym, ap, ◌∙◌}
+use Rattle.catalogue_spec.specs.NameLaws.{lower_of, tested_parts}
 use Rattle.catalogue_names.proofs.names.contents_over.Goals as goal
 
 pub returns : goal.returns
 returns c =
     let f = c.first_bad_name-bad in
     let r = c.repeat_over-again in
-    (c.told.ensures ∙ sym (tested_parts c.args.names.now f.result r.result f.ensures r.ensures.0), r.ensures.1)
+    (c.told.ensures ∙ ap (lower_of f.result r.result) c.name_count.ensures ∙ sym (tested_parts c.args.names.now f.result r.result f.ensures r.ensures.0), r.ensures.1)

@@ -9,10 +9,10 @@ pub loop-i-init : goal.loop-i-init
 loop-i-init c = seeking_all
 
 pub loop-i-preserved : goal.loop-i-preserved
-loop-i-preserved c = seeking_on c.loop-i.invariant (omega arith) (ap not (sym c.is_name_at.ensures ∙ c.if-is_name_at.true))
+loop-i-preserved c = seeking_on c.loop-i.invariant (omega arith) (ap not (sym c.is_name_at.ensures ∙ c.if-not-is_name_at.false))
 
-pub returns-else-is_name_at : goal.returns-else-is_name_at
-returns-else-is_name_at c = seeking_stop c.loop-i.invariant (omega arith) (ap not (sym c.is_name_at.ensures ∙ c.if-is_name_at.false))
+pub returns-then-not-is_name_at : goal.returns-then-not-is_name_at
+returns-then-not-is_name_at c = seeking_stop c.loop-i.invariant (omega arith) (ap not (sym c.is_name_at.ensures ∙ c.if-not-is_name_at.true))
 
 pub returns : goal.returns
-returns c = seeking_end c.loop-i.invariant (omega arith)
+returns c = let e = seeking_end c.loop-i.invariant (omega arith) in omega arith
