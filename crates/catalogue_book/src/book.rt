@@ -22,17 +22,14 @@ pub fn too_many_proteins(proteins: usize) -> bool
 pub fn has_bounds(bounds: &[u32], proteins: usize) -> bool
     ensures { result ≡ bounds_of bounds.now proteins }
 {
-    if bounds.len() == 0 {
-        return false;
-    }
-    bounds.len() - 1 == proteins
+    !bounds.is_empty() && bounds.len() - 1 == proteins
 }
 
 fn is_bad_step(a: u32, b: u32) -> bool
     ensures { result ≡ bad_step a b }
 {
-    let low = a as u64;
-    let high = b as u64;
+    let low = u64::from(a);
+    let high = u64::from(b);
     (high < low) | (low + 65536 < high)
 }
 
@@ -41,9 +38,10 @@ fn is_stray(bounds: &[u32], i: usize) -> bool
     ensures { result ≡ strays bounds.now i }
 {
     if i == 0 {
-        return bounds[i] != 0;
+        bounds[i] != 0
+    } else {
+        is_bad_step(bounds[i - 1], bounds[i])
     }
-    is_bad_step(bounds[i - 1], bounds[i])
 }
 
 fn ends_wrong(bounds: &[u32], letters: usize, i: usize) -> bool
@@ -65,21 +63,19 @@ fn is_bad_bound(bounds: &[u32], letters: usize, i: usize) -> bool
 fn first_bad_bound(bounds: &[u32], letters: usize) -> usize
     ensures { result ≡ first_bad_bound bounds.now letters }
 {
-    let mut i = 0;
-    while i < bounds.len() {
+    for i in 0..bounds.len() {
         if is_bad_bound(bounds, letters, i) {
             return i;
         }
-        i += 1;
     }
-    i
+    bounds.len()
 }
 
 // The tests of boundaries: 9 at the lowest bad one.
 pub fn bounds_tested(bounds: &[u32], letters: usize) -> Result<(), Refusal>
     ensures { result ≡ bounds_tested bounds.now letters }
 {
-    if bounds.len() == 0 {
+    if bounds.is_empty() {
         return Err(Refusal::Field(0));
     }
     field_tested(first_bad_bound(bounds, letters), bounds.len())

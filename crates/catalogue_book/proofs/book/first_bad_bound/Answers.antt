@@ -16,4 +16,4 @@ pub loop-i-preserved : goal.loop-i-preserved
 loop-i-preserved c = seeking_on c.loop-i.invariant (omega arith) (sym c.is_bad_bound.ensures ∙ c.if-is_bad_bound.false)
 
 pub returns : goal.returns
-returns c = seeking_end c.loop-i.invariant (omega arith)
+returns c = let e = seeking_end c.loop-i.invariant (omega arith) in omega arith

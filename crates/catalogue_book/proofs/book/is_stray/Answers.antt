@@ -1,9 +1,0 @@
--- `is_stray` meets its contract. Assumes nothing.
-use borrow.Author.Tests.{eq-eqb, ne_eqb}
-use Rattle.catalogue_book.proofs.book.is_stray.Goals as goal
-
-pub returns-then-i-eq0 : goal.returns-then-i-eq0
-returns-then-i-eq0 c = rw (eq-eqb _ _ c.if-i-eq0.true)
-
-pub returns : goal.returns
-returns c = rw (ne_eqb _ _ c.if-i-eq0.false) c.is_bad_step.ensures
