@@ -2,7 +2,7 @@
 ghost use Rattle.std.specs.Prelude.{◌≡◌};
 ghost use Rattle.catalogue_spec.specs.Books.{too_large, contents, book_tested, all_letters_tested};
 
-use records::{Refusal, and_then};
+use records::Refusal;
 
 fn too_large(letters: &[u8], proteins: usize) -> bool
     ensures { result ≡ too_large letters.now proteins }
@@ -13,8 +13,8 @@ fn too_large(letters: &[u8], proteins: usize) -> bool
 fn contents_tested(bounds: &[u32], letters: &[u8]) -> Result<(), Refusal>
     ensures { result ≡ contents bounds.now letters.now }
 {
-    let bound = catalogue_book::bounds_tested(bounds, letters.len());
-    and_then(bound, catalogue_book::letters_tested(letters))
+    catalogue_book::bounds_tested(bounds, letters.len())?;
+    catalogue_book::letters_tested(letters)
 }
 
 // The tests of a book of so many proteins: 1, 8, 9 at the lowest bad boundary, 2 at the first byte that is no letter.
@@ -24,10 +24,10 @@ pub fn book_tested(bounds: &[u32], letters: &[u8], proteins: usize) -> Result<()
     if too_large(letters, proteins) {
         return Err(Refusal::Size);
     }
-    if catalogue_book::has_bounds(bounds, proteins) {
-        return contents_tested(bounds, letters);
+    if !catalogue_book::has_bounds(bounds, proteins) {
+        return Err(Refusal::Length);
     }
-    Err(Refusal::Length)
+    contents_tested(bounds, letters)
 }
 
 // The tests of letters alone, of a protein or of a whole book: 1, and 2 at the first byte that is no letter.
