@@ -1,5 +1,6 @@
 // What a digest must be to become a peptide.
-ghost use Rattle.std.specs.Prelude.{◌≡◌, length};
+ghost use Rattle.std.specs.Prelude.{◌≡◌, ◌<◌, length, IfSome};
+ghost use Rattle.std.specs.Option.{unwrap_or};
 ghost use Rattle.peptide_digests.specs.DigestTests.{too_long, not_whole, unfit, first_unfit, tested_digest};
 
 use enzyme_keep::is_good;
@@ -31,20 +32,19 @@ fn is_unfit(masses: &[f32], inside: bool, b: u8) -> bool
     }
 }
 
-// The index of the first such byte, or the length.
-fn first_unfit(letters: &[u8], masses: &[f32], start: usize, end: usize) -> usize
+// The index of the first such byte.
+fn first_unfit(letters: &[u8], masses: &[f32], start: usize, end: usize) -> Option<usize>
     requires { length masses.now ≡ 26 }
-    ensures { result ≡ first_unfit masses.now start end letters.now }
+    ensures first { unwrap_or result (length letters.now) ≡ first_unfit masses.now start end letters.now }
+    ensures within { IfSome result (λ bad. bad < length letters.now) }
 {
-    let mut i = 0;
-    while i < letters.len() {
+    for (i, b) in letters.iter().enumerate() {
         let inside = (start <= i) & (i < end);
-        if is_unfit(masses, inside, letters[i]) {
-            return i;
+        if is_unfit(masses, inside, *b) {
+            return Some(i);
         }
-        i += 1;
     }
-    i
+    None
 }
 
 // The tests of a digest that becomes a peptide.
@@ -59,8 +59,7 @@ pub fn test_digest(letters: &[u8], bytes: &[u8], masses: &[f32]) -> Result<(), R
     }
     let start = records::u32_at(bytes, 0) as usize;
     let end = records::u32_at(bytes, 4) as usize;
-    let bad = first_unfit(letters, masses, start, end);
-    if bad < letters.len() {
+    if let Some(bad) = first_unfit(letters, masses, start, end) {
         return Err(Refusal::Letter(bad));
     }
     if is_good(bytes) & (end <= letters.len()) {
