@@ -9,7 +9,7 @@ use records::{Refusal, field_tested};
 pub(crate) fn too_large(n: usize, groups: usize, metas: usize) -> bool
     ensures { result ≡ too_large n groups metas }
 {
-    (131072 < groups) | (262144 < metas) | (1048576 < n)
+    131072 < groups || 262144 < metas || 1048576 < n
 }
 
 pub(crate) fn work_needed(n: usize, groups: usize, metas: usize) -> usize

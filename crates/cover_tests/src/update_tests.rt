@@ -4,31 +4,34 @@ ghost use Rattle.cover_tests.specs.Testing.{either_too_large, lengths_wrong, con
 
 use crate::tests::{edges_tested, too_large, work_needed};
 use cover_edges::first_bad_mark;
-use records::{Refusal, and_then, field_tested};
+use records::{Refusal, field_tested};
 
 fn either_too_large(on: usize, nn: usize, groups: usize, metas: usize) -> bool
     ensures { result ≡ either_too_large on nn groups metas }
 {
-    let old = too_large(on, groups, metas);
-    let new = too_large(nn, groups, metas);
-    old | new
+    too_large(on, groups, metas) || too_large(nn, groups, metas)
 }
 
 fn lengths_wrong(old: &[u8], new: &[u8], groups: usize, given: &[u8]) -> bool
     ensures { result ≡ lengths_wrong old.now new.now groups given.now }
 {
-    (old.len() % 8 != 0) | (new.len() % 8 != 0) | (given.len() != groups)
+    old.len() % 8 != 0 || new.len() % 8 != 0 || given.len() != groups
 }
 
 // The first refusal for what the lists hold.
-fn contents(old: &[u8], new: &[u8], groups: usize, metas: usize, given: &[u8]) -> Result<(), Refusal>
+fn contents(
+    old: &[u8],
+    new: &[u8],
+    groups: usize,
+    metas: usize,
+    given: &[u8],
+) -> Result<(), Refusal>
     requires { (length old.now / 8 ≤ 1048576) × (length new.now / 8 ≤ 1048576) }
     ensures { result ≡ contents_tested old.now new.now groups metas given.now }
 {
-    let of_old = edges_tested(old, groups, metas);
-    let of_new = edges_tested(new, groups, metas);
-    let of_given = field_tested(first_bad_mark(given), given.len());
-    and_then(of_old, and_then(of_new, of_given))
+    edges_tested(old, groups, metas)?;
+    edges_tested(new, groups, metas)?;
+    field_tested(first_bad_mark(given), given.len())
 }
 
 // The first refusal that applies before the update is made, where the work slice has so many words.
