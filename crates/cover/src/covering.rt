@@ -35,7 +35,13 @@ pub(crate) fn cover_passed(
 }
 
 // Writes a mark for each group into marks: 1 where the cover of the edge records has it, else 0.
-pub fn cover(edges: &[u8], groups: u32, metas: u32, work: &mut [u32], marks: &mut [u8]) -> Result<u32, Refusal>
+pub fn cover(
+    edges: &[u8],
+    groups: u32,
+    metas: u32,
+    work: &mut [u32],
+    marks: &mut [u8],
+) -> Result<u32, Refusal>
     ensures { outcome result (work.new ∷ marks.new ∷ []) ≡ cover_outcome edges.now groups metas work.old marks.old }
 {
     let left = groups as usize;

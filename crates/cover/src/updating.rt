@@ -12,12 +12,6 @@ use cover_tests::update_tested;
 use cover_touched::renew;
 use records::{Refusal, clear};
 
-fn least(a: usize, b: usize) -> usize
-    ensures { result ≡ min a b }
-{
-    if a < b { a } else { b }
-}
-
 // Groups that are not touched get the marks given, as far as there is room.
 fn keep_given(
     old: &[u8],
@@ -34,7 +28,7 @@ fn keep_given(
 {
     let on = old.len() / 8;
     let nn = new.len() / 8;
-    let k = least(groups, marks.len());
+    let k = groups.min(marks.len());
     if k == 0 {
         clear(work);
         return;

@@ -13,4 +13,4 @@ returns c =
     let a = c.args in
     let made = c.cover_into in
     let m = mid_front a.groups a.all.now made.new.marks (ap length made.ensures.marks_after ∙ length-cover a.groups _) in
-    record { marks_after = c.put_bytes.ensures ∙ ap (λ (l : List ℕ). sets a.marks.now 0 l) (m ∙ made.ensures.marks_after); work_after = made.ensures.work_after }
+    record { marks_after = c.put_at.ensures ∙ ap (λ (l : List ℕ). sets a.marks.now 0 l) (m ∙ made.ensures.marks_after); work_after = made.ensures.work_after }

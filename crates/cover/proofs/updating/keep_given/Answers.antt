@@ -9,15 +9,15 @@ use Rattle.cover.proofs.updating.keep_given.Goals as goal
 
 -- there is a group
 positive : (c : Else-k-eq0) → 1 ≤ c.args.groups
-positive c = ⊎_elim (λ (h : 0 < c.least-k.result). omega (arith, c.least-k.ensures)) (λ (h : c.least-k.result ≤ 0). absurd (c.if-k-eq0.false (omega arith))) (below? 0 c.least-k.result)
+positive c = ⊎_elim (λ (h : 0 < c.min-k.result). omega (arith, c.min-k.ensures)) (λ (h : c.min-k.result ≤ 0). absurd (c.if-k-eq0.false (omega arith))) (below? 0 c.min-k.result)
 
 pub renew-requires : goal.renew-requires
 renew-requires c =
-    let k = c.least-k.ensures in
+    let k = c.min-k.ensures in
     record {
       update_sized = update_sized c.requires (positive (goal.at.renew-requires c).Else-k-eq0);
       k_le_groups = (omega (arith, k), omega (arith, k, c.requires.as_many), omega (arith, k));
     }
 
 pub returns : goal.returns
-returns c = record { mixed = rw c.least-k.ensures at c.renew.ensures.mixed; work_after = c.renew.ensures.w_after }
+returns c = record { mixed = rw c.min-k.ensures at c.renew.ensures.mixed; work_after = c.renew.ensures.w_after }

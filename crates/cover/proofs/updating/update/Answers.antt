@@ -5,10 +5,7 @@ use Rattle.cover_tests.specs.ReadyLaws.{update_ready}
 use Rattle.cover.proofs.updating.update.Goals as goal
 
 pub update_passed-requires : goal.update_passed-requires
-update_passed-requires c = let a = c.args in update_ready a.old.now a.new.now a.groups a.metas a.given.now (length a.work.now) (sym c.update_tested-found.ensures ∙ c.in-Passed.is)
+update_passed-requires c = let a = c.args in update_ready a.old.now a.new.now a.groups a.metas a.given.now (length a.work.now) (sym c.update_tested.ensures ∙ c.in_ok-update_tested.was)
 
-pub returns-in-Passed : goal.returns-in-Passed
-returns-in-Passed c = rw (sym c.update_tested-found.ensures ∙ c.in-Passed.is) c.update_passed.ensures
-
-pub returns-in-Refused : goal.returns-in-Refused
-returns-in-Refused c = rw (sym c.update_tested-found.ensures ∙ c.in-Refused.is)
+pub returns : goal.returns
+returns c = rw (sym c.update_tested.ensures ∙ c.in_ok-update_tested.was) c.update_passed.ensures
