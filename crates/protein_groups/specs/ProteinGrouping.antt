@@ -1,5 +1,6 @@
 -- What a call of `group_proteins` answers, and what its work memory and its two lists hold then.
 use Rattle.std.specs.Prelude.{ℕ, ◌≡◌, cond, ◌&&◌, List, [], ◌∷◌, map, length, replicate, Result, Ok, Err}
+use Rattle.records.specs.declared.refusal.Refusal.{Refusal}
 use Rattle.records.specs.declared.refusal.Refusal.TheVariants.{Room}
 use Rattle.records.specs.Outcome.{Outcome, outcome, unless_refused, only}
 use Rattle.records.specs.Room.{fits, fitted}

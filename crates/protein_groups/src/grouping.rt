@@ -20,7 +20,14 @@ pub struct Sizes {
 }
 
 // The sizes, or that a list has no room for all.
-fn answer(groups: u32, metas: u32, e: usize, m: usize, edges: usize, members: usize) -> Result<Sizes, Refusal>
+fn answer(
+    groups: u32,
+    metas: u32,
+    e: usize,
+    m: usize,
+    edges: usize,
+    members: usize,
+) -> Result<Sizes, Refusal>
     requires { (e ≤ 1048576) × (m ≤ 131072) }
     ensures { result ≡ cond (leb e (min (edges / 8) 1048576) && leb m (min (members / 12) 131072)) (Ok (record { groups = groups; metas = metas; edges = e; members = m })) (Err Refusal.Room) }
 {
