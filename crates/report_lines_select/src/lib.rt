@@ -2,7 +2,9 @@
 // call these.
 #![tactic(auto)]
 
+mod asked;
 mod laying;
 mod selecting;
 
+pub use asked::Asked;
 pub use laying::lay_out;
