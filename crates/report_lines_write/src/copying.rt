@@ -7,9 +7,5 @@ pub(crate) fn copy(w: &mut [u32], from: usize, to: usize, n: usize)
     requires { (from + n ≤ length w.old) × (to + n ≤ length w.old) × ((from + n ≤ to) ⊎ (to + n ≤ from)) }
     ensures { NumbersCopied w.old from to n w.new }
 {
-    let mut i = 0;
-    while i < n {
-        w[to + i] = w[from + i];
-        i += 1;
-    }
+    w.copy_within(from..from + n, to);
 }

@@ -29,10 +29,8 @@ pub(crate) fn mark_lasts(w: &mut [u32], c: usize, groups: usize) -> usize
 {
     let b = 2 * c + 16;
     let mut count = 0;
-    let mut g = 0;
-    while g < groups {
+    for g in 0..groups {
         count = mark_one(w, c, b, g, count);
-        g += 1;
     }
     count
 }
