@@ -1,5 +1,5 @@
 // The ranges of "none" as records.
-ghost use Rattle.std.specs.Prelude.{◌≡◌, ◌+◌, ◌-◌, ◌%◌, ◌≤◌, ◌<◌, min, max, length};
+ghost use Rattle.std.specs.Prelude.{◌≡◌, ◌+◌, ◌-◌, ◌%◌, ◌≤◌, ◌<◌, min, length};
 ghost use Rattle.enzyme_cuts.specs.Cutting.{starting, of_length, none_sites};
 ghost use Rattle.enzyme_keep.specs.Steps.{after, offers, among};
 ghost use Rattle.enzyme_blocks.specs.Blocks.{Above, Blocked};
@@ -7,8 +7,8 @@ ghost use Rattle.enzyme_starts.specs.Longest.{Longests};
 ghost use Rattle.enzyme_starts.specs.Tiers.{TellsFrom};
 ghost use Rattle.enzyme_lengths.specs.Listing.{chosen_of, Positioned, Measured, Told};
 
-use crate::telling::{place, times_where};
-use enzyme_blocks::{block_end, fill_least, lesser};
+use crate::telling::times_where;
+use enzyme_blocks::{block_end, fill_least};
 use enzyme_keep::Terms;
 use records::wide;
 
@@ -30,33 +30,13 @@ fn list_placed(
     requires { (length letters.now ≤ 65536) × Measured letters.now longest.now × (to + len ≤ length letters.now + 1) × (0 < len) × Told len letters.now longest.now next.now size.now head.old × Positioned (length letters.now) len position from to }
     ensures { (after result out.new ≡ chosen_of letters.now protein (starting len from (to - from)) count out.old) × Told len letters.now longest.now next.now size.now head.new }
 {
-    let mut a = from;
     let mut k = count;
-    while a < to {
-        let new = place(longest[a]) < len;
+    for a in from..to {
+        let new = usize::from(longest[a]) < len;
         let times = times_where(new, letters, longest, next, size, head, a, len);
-        let x = enzyme_keep::write_placed(
-            new,
-            a,
-            a + len,
-            0,
-            0,
-            position,
-            protein,
-            times,
-            out,
-            k,
-        )?;
-        k = x;
-        a += 1;
+        k = enzyme_keep::write_placed(new, a, a + len, 0, 0, position, protein, times, out, k)?;
     }
     Some(k)
-}
-
-fn later(x: usize, y: usize) -> usize
-    ensures { result ≡ max x y }
-{
-    if x < y { y } else { x }
 }
 
 // Where those of the starts from `from` to `to` end whose ranges do not end with the protein: before the last one, or with it.
@@ -117,7 +97,7 @@ fn list_starts(
     if to <= from {
         return Some(count);
     }
-    let second = later(from, 1);
+    let second = from.max(1);
     let position = enzyme_keep::position(0, len, letters.len());
     let k = list_placed(
         letters, longest, next, size, head, len, position, protein, from, second, out, count,
@@ -171,16 +151,14 @@ fn list_blocks(
     requires { (length letters.now ≤ 65536) × Measured letters.now longest.now × (to + len ≤ length letters.now + 1) × Blocked (length letters.now) longest.now least.now × (from % 64 ≡ 0) × (0 < len) × Told len letters.now longest.now next.now size.now head.old }
     ensures { (after result out.new ≡ chosen_of letters.now protein (starting len from (to - from)) count out.old) × Told len letters.now longest.now next.now size.now head.new }
 {
-    let mut a = from;
     let mut k = count;
-    while a < to {
+    for b in from / 64..to.div_ceil(64) {
+        let a = 64 * b;
         let end = block_end(a, 64, to);
-        let floor = wide(least[a / 64]);
-        let x = list_block(
+        let floor = wide(least[b]);
+        k = list_block(
             letters, longest, next, size, head, floor, len, protein, a, end, out, k,
         )?;
-        k = x;
-        a += 64;
     }
     Some(k)
 }
@@ -229,27 +207,18 @@ fn list_length(
     ensures { (after result out.new ≡ chosen_of letters.now protein (of_length (length letters.now) len) count out.old) × Told len letters.now longest.now next.now size.now head.new }
 {
     let starts = letters.len() + 1 - len;
-    let mut a = 0;
     let mut k = count;
-    while a < starts {
+    for b in 0..starts.div_ceil(4096) {
+        let a = 4096 * b;
         let to = block_end(a, 4096, starts);
-        let x = list_great(
+        k = list_great(
             letters, longest, next, size, head, least, len, protein, a, to, out, k,
         )?;
-        k = x;
-        a += 4096;
     }
     Some(k)
 }
 
-// Of no letters there is no new range.
-fn first_length(minimum: u32) -> u32
-    ensures { result ≡ max minimum 1 }
-{
-    if minimum < 1 { 1 } else { minimum }
-}
-
-// Writes the new ranges of every length from minimum to maximum; a length above the number of letters has none.
+// Writes the new ranges of every length from minimum to maximum; no length and a length above the number of letters have none.
 fn list_lengths(
     letters: &[u8],
     longest: &[u16],
@@ -264,11 +233,10 @@ fn list_lengths(
     ensures { after result out.new ≡ chosen_of letters.now terms.protein (none_sites (length letters.now) terms.minimum terms.maximum) 0 out.old }
 {
     let n = letters.len() as u32;
-    let top = lesser(terms.maximum, n);
-    let mut len = first_length(terms.minimum);
+    let top = terms.maximum.min(n);
     let mut k = 0;
-    while len <= top {
-        let x = list_length(
+    for len in terms.minimum.max(1)..top + 1 {
+        k = list_length(
             letters,
             longest,
             next,
@@ -280,8 +248,6 @@ fn list_lengths(
             out,
             k,
         )?;
-        k = x;
-        len += 1;
     }
     Some(k)
 }

@@ -1,14 +1,10 @@
 -- `list_blocks` meets its contract: the blocks ahead, chosen, give the whole. Assumes nothing.
 use mathlib.Core.Path.{◌≡◌}
-use Prim.Native.Nat.{◌-◌, ◌%◌}
-use lib.ListN.{length}
+use Prim.Native.Nat.{◌-◌, ◌*◌}
 use Rattle.enzyme_cuts.specs.Cutting.{starting}
 use Rattle.enzyme_lengths.specs.Listing.{chosen_of, Told}
 use Rattle.enzyme_lengths.proofs.listing.list_blocks.Given as goal
 
-abbrev pub invariant-loop-a : goal.invariant-loop-a
-invariant-loop-a l = (length l.head ≡ length l.initial.head) × (length l.out ≡ length l.initial.out) × (l.a % 64 ≡ 0) × Told l.len l.letters l.longest l.next l.size l.head
-    × (chosen_of l.letters l.protein (starting l.len l.a (l.to - l.a)) l.k l.out ≡ chosen_of l.letters l.protein (starting l.len l.from (l.to - l.from)) l.count l.initial.out)
-
-abbrev pub decreases-loop-a : goal.decreases-loop-a
-decreases-loop-a l = l.to - l.a
+abbrev pub invariant-loop-b : goal.invariant-loop-b
+invariant-loop-b l = Told l.len l.letters l.longest l.next l.size l.head
+    × (chosen_of l.letters l.protein (starting l.len (64 * l.b) (l.to - 64 * l.b)) l.k l.out ≡ chosen_of l.letters l.protein (starting l.len l.from (l.to - l.from)) l.count l.initial.out)

@@ -1,14 +1,11 @@
 -- `list_length` meets its contract: the great blocks ahead, chosen, give the whole. Assumes nothing.
 use mathlib.Core.Path.{◌≡◌}
-use Prim.Native.Nat.{◌-◌, ◌%◌}
+use Prim.Native.Nat.{◌-◌, ◌*◌}
 use lib.ListN.{length}
 use Rattle.enzyme_cuts.specs.Cutting.{starting, of_length}
 use Rattle.enzyme_lengths.specs.Listing.{chosen_of, Told}
 use Rattle.enzyme_lengths.proofs.listing.list_length.Given as goal
 
-abbrev pub invariant-loop-a : goal.invariant-loop-a
-invariant-loop-a l = (length l.head ≡ length l.initial.head) × (length l.out ≡ length l.initial.out) × (l.a % 4096 ≡ 0) × Told l.len l.letters l.longest l.next l.size l.head
-    × (chosen_of l.letters l.protein (starting l.len l.a (l.starts - l.a)) l.k l.out ≡ chosen_of l.letters l.protein (of_length (length l.letters) l.len) l.count l.initial.out)
-
-abbrev pub decreases-loop-a : goal.decreases-loop-a
-decreases-loop-a l = l.starts - l.a
+abbrev pub invariant-loop-b : goal.invariant-loop-b
+invariant-loop-b l = Told l.len l.letters l.longest l.next l.size l.head
+    × (chosen_of l.letters l.protein (starting l.len (4096 * l.b) (l.starts - 4096 * l.b)) l.k l.out ≡ chosen_of l.letters l.protein (of_length (length l.letters) l.len) l.count l.initial.out)

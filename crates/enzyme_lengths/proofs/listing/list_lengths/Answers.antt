@@ -1,6 +1,6 @@
 -- `list_lengths` meets its contract: the lengths ahead, chosen, give the whole. Assumes nothing.
 use native.Mathlib.Omega.{arith}
-use mathlib.Core.Path.{◌≡◌, refl, sym, ◌∙◌}
+use mathlib.Core.Path.{◌≡◌, sym, ◌∙◌}
 use mathlib.Core.List.{List, ◌++◌}
 use Prim.Native.Nat.{suc, ◌+◌, ◌-◌}
 use lib.ListN.{length}
@@ -22,25 +22,23 @@ rest c = of_lengths (length c.args.letters.now) (c.loop-len.len + 1) (suc c.args
 
 ahead : (c : After-wide) → chosen_of c.args.letters.now c.args.terms.protein (these c ++ rest c) c.loop-len.k c.loop-len.out ≡ chosen_of c.args.letters.now c.args.terms.protein (none_sites (length c.args.letters.now) c.args.terms.minimum c.args.terms.maximum) 0 c.args.out.now
 ahead c = let l = c.loop-len in
-    let t = l.invariant.3 in
-    rw c.wide.ensures.0 (rw (lengths_on (length c.args.letters.now) l.len c.args.terms.maximum (omega arith)) at l.invariant.5)
+    rw c.wide.ensures.0 (rw (lengths_on (length c.args.letters.now) l.len c.args.terms.maximum (omega arith)) at l.invariant.1)
 
 pub loop-len-init : goal.loop-len-init
 loop-len-init c = let a = c.args in
     let mn = a.terms.minimum in
-    let e = c.first_length-len.ensures in
-    (refl, refl, omega arith, c.lesser-top.ensures, told_later mn c.first_length-len.result a.letters.now a.longest.now a.next.now a.size.now a.head.now (omega arith) c.requires.4, rw e (lengths_from-one a.letters.now a.terms.protein mn a.terms.maximum 0 a.out.now))
+    let e = c.max-len.ensures in
+    (told_later mn c.max-len.result a.letters.now a.longest.now a.next.now a.size.now a.head.now (omega arith) c.requires.4, rw e (lengths_from-one a.letters.now a.terms.protein mn a.terms.maximum 0 a.out.now))
 
 pub list_length-requires : goal.list_length-requires
 list_length-requires c = let l = c.loop-len in
     let e = c.wide.ensures.0 in
-    let t = l.invariant.3 in
-    (c.requires.0, omega (arith, e), c.requires.2, c.requires.3, omega (arith, e), rw e l.invariant.4)
+    (c.requires.0, omega (arith, e), c.requires.2, c.requires.3, omega (arith, e), rw e l.invariant.0)
 
-pub returns-in_default : goal.returns-in_default
-returns-in_default c = let l = c.loop-len in
+pub returns-in_err-k : goal.returns-in_err-k
+returns-in_err-k c = let l = c.loop-len in
     let x = c.list_length in
-    sym (chosen_full c.args.letters.now c.args.terms.protein (these (goal.at.returns-in_default c).After-wide) (rest (goal.at.returns-in_default c).After-wide) l.k l.out x.new.out (rw c.in_default.is at x.ensures.0)) ∙ ahead (goal.at.returns-in_default c).After-wide
+    rw c.from_residual.ensures (sym (chosen_full c.args.letters.now c.args.terms.protein (these (goal.at.returns-in_err-k c).After-wide) (rest (goal.at.returns-in_err-k c).After-wide) l.k l.out x.new.out (rw c.in_err-k.was at x.ensures.0)) ∙ ahead (goal.at.returns-in_err-k c).After-wide)
 
 pub loop-len-preserved : goal.loop-len-preserved
 loop-len-preserved c = let a = c.args in
@@ -48,31 +46,9 @@ loop-len-preserved c = let a = c.args in
     let w = c.wide in
     let x = c.list_length in
     let told = told_later w.result (l.len + 1) a.letters.now a.longest.now a.next.now a.size.now x.new.head (omega (arith, w.ensures.0)) x.ensures.1 in
-    (omega arith, omega arith, omega arith, l.invariant.3, told, sym (chosen-kept a.letters.now a.terms.protein (these (goal.at.loop-len-preserved c).After-wide) (rest (goal.at.loop-len-preserved c).After-wide) l.k l.out x.new.out c.in-Kept.x (rw c.in-Kept.is at x.ensures.0)) ∙ ahead (goal.at.loop-len-preserved c).After-wide)
+    (told, sym (chosen-kept a.letters.now a.terms.protein (these (goal.at.loop-len-preserved c).After-wide) (rest (goal.at.loop-len-preserved c).After-wide) l.k l.out x.new.out c.in_ok-k.k (rw c.in_ok-k.was at x.ensures.0)) ∙ ahead (goal.at.loop-len-preserved c).After-wide)
 
 pub returns : goal.returns
 returns c = let a = c.args in
     let l = c.loop-len in
-    let t = l.invariant.3 in
-    rw (lengths_stop (length a.letters.now) l.len a.terms.maximum (omega arith)) at l.invariant.5
-
-pub overflow_cast-n : goal.overflow_cast-n
-overflow_cast-n c = omega arith
-
-pub shape_of-head-in_default : goal.shape_of-head-in_default
-shape_of-head-in_default c = omega arith
-
-pub shape_of-out-in_default : goal.shape_of-out-in_default
-shape_of-out-in_default c = omega arith
-
-pub overflow_add-len : goal.overflow_add-len
-overflow_add-len c = omega arith
-
-pub loop-len-smaller : goal.loop-len-smaller
-loop-len-smaller c = omega arith
-
-pub shape_of-head : goal.shape_of-head
-shape_of-head c = omega arith
-
-pub shape_of-out : goal.shape_of-out
-shape_of-out c = omega arith
+    rw (lengths_stop (length a.letters.now) l.len a.terms.maximum (omega arith)) at l.invariant.1

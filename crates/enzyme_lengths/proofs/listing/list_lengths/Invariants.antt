@@ -1,14 +1,11 @@
 -- `list_lengths` meets its contract: the lengths ahead, chosen, give the whole. Assumes nothing.
 use mathlib.Core.Path.{◌≡◌}
-use Prim.Native.Nat.{suc, ◌-◌, ◌<◌, min}
+use Prim.Native.Nat.{suc, ◌-◌}
 use lib.ListN.{length}
 use Rattle.enzyme_cuts.specs.Cutting.{of_lengths, none_sites}
 use Rattle.enzyme_lengths.specs.Listing.{chosen_of, Told}
 use Rattle.enzyme_lengths.proofs.listing.list_lengths.Given as goal
 
 abbrev pub invariant-loop-len : goal.invariant-loop-len
-invariant-loop-len l = (length l.head ≡ length l.initial.head) × (length l.out ≡ length l.initial.out) × (0 < l.len) × (l.top ≡ min l.terms.maximum (length l.letters)) × Told l.len l.letters l.longest l.next l.size l.head
+invariant-loop-len l = Told l.len l.letters l.longest l.next l.size l.head
     × (chosen_of l.letters l.terms.protein (of_lengths (length l.letters) l.len (suc l.terms.maximum - l.len)) l.k l.out ≡ chosen_of l.letters l.terms.protein (none_sites (length l.letters) l.terms.minimum l.terms.maximum) 0 l.initial.out)
-
-abbrev pub decreases-loop-len : goal.decreases-loop-len
-decreases-loop-len l = suc l.terms.maximum - l.len

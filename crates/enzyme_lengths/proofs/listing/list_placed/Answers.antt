@@ -18,67 +18,37 @@ abbrev rest : In-loop-a → List Range
 rest c = starting c.args.len (c.loop-a.a + 1) (c.args.to - (c.loop-a.a + 1))
 
 ahead : (c : In-loop-a) → chosen_of c.args.letters.now c.args.protein (site c.loop-a.a (c.loop-a.a + c.args.len) ∷ rest c) c.loop-a.k c.loop-a.out ≡ chosen_of c.args.letters.now c.args.protein (starting c.args.len c.args.from (c.args.to - c.args.from)) c.args.count c.args.out.now
-ahead c = rw (starts-on c.args.len c.loop-a.a c.args.to (omega arith)) at c.loop-a.invariant.3
+ahead c = rw (starts-on c.args.len c.loop-a.a c.args.to (omega arith)) at c.loop-a.invariant.1
 
 pub loop-a-init : goal.loop-a-init
-loop-a-init c = (refl, refl, c.requires.4, refl, omega arith)
+loop-a-init c = (c.requires.4, refl)
 
 pub times_where-times-requires : goal.times_where-times-requires
 times_where-times-requires c = let l = c.loop-a in
-    let w = c.place in
-    (c.requires.0, c.requires.1, l.invariant.2, λ h. let t = ltb-true w.result c.args.len h in (omega (arith, w.ensures, c.requires.1.each l.a (omega arith)), omega arith))
+    let w = c.from in
+    (c.requires.0, c.requires.1, l.invariant.0, λ h. let t = ltb-true w.result c.args.len h in (omega (arith, w.ensures, c.requires.1.each l.a (omega arith)), omega arith))
 
-pub returns-in_default : goal.returns-in_default
-returns-in_default c = let l = c.loop-a in
-    let w = c.place in
+pub returns-in_err-k : goal.returns-in_err-k
+returns-in_err-k c = let l = c.loop-a in
+    let w = c.from in
     let t = c.times_where-times in
-    let x = c.write_placed in (
-      sym (chosen-one_full c.args.letters.now c.args.protein c.args.len l.a (l.a + c.args.len) w.result (rest (goal.at.returns-in_default c).In-loop-a) l.k l.out x.new.out refl (omega (arith, c.loop-a-test.true, c.requires.2)) (λ h. w.ensures ∙ c.requires.1.each l.a h) t.result t.ensures.1
-          (rw (c.in_default.is, placed_as (length c.args.letters.now) c.args.position c.args.protein (site l.a (l.a + c.args.len)) t.result (c.requires.5 l.a l.invariant.4 (omega (arith, c.loop-a-test.true)))) at x.ensures)) ∙ ahead (goal.at.returns-in_default c).In-loop-a,
+    let x = c.write_placed in rw c.from_residual.ensures (
+      sym (chosen-one_full c.args.letters.now c.args.protein c.args.len l.a (l.a + c.args.len) w.result (rest (goal.at.returns-in_err-k c).In-loop-a) l.k l.out x.new.out refl (omega (arith, c.loop-a-test.true, c.requires.2)) (λ h. w.ensures ∙ c.requires.1.each l.a h) t.result t.ensures.1
+          (rw (c.in_err-k.was, placed_as (length c.args.letters.now) c.args.position c.args.protein (site l.a (l.a + c.args.len)) t.result (c.requires.5 l.a (omega arith) (omega (arith, c.loop-a-test.true)))) at x.ensures)) ∙ ahead (goal.at.returns-in_err-k c).In-loop-a,
       t.ensures.0,
     )
 
 pub loop-a-preserved : goal.loop-a-preserved
 loop-a-preserved c = let l = c.loop-a in
-    let w = c.place in
+    let w = c.from in
     let t = c.times_where-times in
     let x = c.write_placed in (
-      omega arith,
-      omega arith,
       t.ensures.0,
       sym (chosen-one-kept c.args.letters.now c.args.protein c.args.len l.a (l.a + c.args.len) w.result (rest (goal.at.loop-a-preserved c).In-loop-a) l.k l.out x.new.out refl (omega (arith, c.loop-a-test.true, c.requires.2)) (λ h. w.ensures ∙ c.requires.1.each l.a h) t.result t.ensures.1
-          c.in-Kept.x (rw (c.in-Kept.is, placed_as (length c.args.letters.now) c.args.position c.args.protein (site l.a (l.a + c.args.len)) t.result (c.requires.5 l.a l.invariant.4 (omega (arith, c.loop-a-test.true)))) at x.ensures)) ∙ ahead (goal.at.loop-a-preserved c).In-loop-a,
-      omega (arith, l.invariant.4),
+          c.in_ok-k.k (rw (c.in_ok-k.was, placed_as (length c.args.letters.now) c.args.position c.args.protein (site l.a (l.a + c.args.len)) t.result (c.requires.5 l.a (omega arith) (omega (arith, c.loop-a-test.true)))) at x.ensures)) ∙ ahead (goal.at.loop-a-preserved c).In-loop-a,
     )
 
 pub returns : goal.returns
 returns c = let a = c.args in
     let l = c.loop-a in
-    (rw (starting_end a.len l.a a.to (omega arith)) at l.invariant.3, l.invariant.2)
-
-pub offset_bounds-longest-a : goal.offset_bounds-longest-a
-offset_bounds-longest-a c = omega arith
-
-pub bounds-longest-a : goal.bounds-longest-a
-bounds-longest-a c = omega (arith, c.requires.1.wide)
-
-pub overflow_add-a : goal.overflow_add-a
-overflow_add-a c = omega arith
-
-pub shape_of-head-in_default : goal.shape_of-head-in_default
-shape_of-head-in_default c = omega arith
-
-pub shape_of-out-in_default : goal.shape_of-out-in_default
-shape_of-out-in_default c = omega arith
-
-pub overflow_add-a-in-loop-a : goal.overflow_add-a-in-loop-a
-overflow_add-a-in-loop-a c = omega arith
-
-pub loop-a-smaller : goal.loop-a-smaller
-loop-a-smaller c = omega arith
-
-pub shape_of-head : goal.shape_of-head
-shape_of-head c = omega arith
-
-pub shape_of-out : goal.shape_of-out
-shape_of-out c = omega arith
+    (rw (starting_end a.len l.a a.to (omega arith)) at l.invariant.1, l.invariant.0)
