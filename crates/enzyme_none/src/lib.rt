@@ -1,6 +1,6 @@
-// The ranges of "none", with tables of three sizes on the stack. Only crates of this repository call these.
+// The ranges of "none", with tables on the stack. Only crates of this repository call this.
 #![tactic(auto)]
 
 mod nones;
 
-pub use nones::{none_large, none_middle, none_small};
+pub use nones::none_with;

@@ -50,12 +50,12 @@ pub(crate) fn offer_all(
     match kind {
         Kind::None => {
             if n <= 1024 {
-                return enzyme_none::none_small(letters, terms, out);
+                return enzyme_none::none_with::<1024, 1024, 1282>(letters, terms, out);
             }
             if n <= 8192 {
-                return enzyme_none::none_middle(letters, terms, out);
+                return enzyme_none::none_with::<8192, 8736, 8736>(letters, terms, out);
             }
-            enzyme_none::none_large(letters, terms, out)
+            enzyme_none::none_with::<65536, 66080, 66080>(letters, terms, out)
         }
         Kind::End => offer_end(letters, terms, out),
         Kind::Set(cleave) => {
