@@ -3,12 +3,6 @@ ghost use Rattle.std.specs.Prelude.{◌≡◌};
 ghost use Rattle.enzyme_keys.specs.Keys.{SiteWithin};
 ghost use Rattle.enzyme_codes.specs.Codes.{last_four, mixed, folded, code_of, code_at};
 
-fn full(x: u32) -> u64
-    ensures { result ≡ x }
-{
-    x as u64
-}
-
 // The last four letters as a number; 0 where there are no more than four.
 fn last_four(site: &[u8]) -> u32
     ensures { result ≡ last_four site.now }
@@ -26,7 +20,7 @@ fn mix(first: u32, last: u32, n: usize) -> u64
     ensures { result ≡ mixed first last n }
 {
     let count = (n % 65536) as u64;
-    full(first) * 1640531527 + full(last) * 1597334677 + count * 3266489917
+    u64::from(first) * 1640531527 + u64::from(last) * 1597334677 + count * 3266489917
 }
 
 // Fewer codes for a smaller table.
@@ -55,7 +49,7 @@ pub fn code_at(letters: &[u8], starts: &[u32], z: usize, size: usize) -> u16
     requires { SiteWithin letters.now starts.now z }
     ensures { result ≡ code_at size letters.now starts.now z }
 {
-    let a = enzyme_keys::long(starts[z]);
-    let e = enzyme_keys::long(starts[z + 1]);
+    let a = starts[z] as usize;
+    let e = starts[z + 1] as usize;
     code_of(&letters[a..e], size)
 }
