@@ -15,7 +15,7 @@ fn one_more(n: u8) -> u8
 fn raise(seen: &mut [u8], code: u16)
     ensures { seen.new ≡ raised seen.old code }
 {
-    let i = enzyme_keys::wide(code);
+    let i = usize::from(code);
     if i < seen.len() {
         seen[i] = one_more(seen[i]);
     }
@@ -27,11 +27,9 @@ pub(crate) fn count(letters: &[u8], starts: &[u32], m: usize, codes: &mut [u16],
     ensures { CodesSeen (code_at (length seen.old) letters.now starts.now) codes.new seen.new m }
 {
     let size = seen.len();
-    let mut z = 0;
-    while z < m {
+    for z in 0..m {
         let code = enzyme_codes::code_at(letters, starts, z, size);
         codes[z] = code;
         raise(seen, code);
-        z += 1;
     }
 }

@@ -6,8 +6,10 @@ ghost use Rattle.enzyme_sifted.specs.Sifted.{seen_twice, RepeatsPicked};
 fn seen_twice(seen: &[u8], code: u16) -> bool
     ensures { result ≡ seen_twice seen.now code }
 {
-    let i = enzyme_keys::wide(code);
-    if i < seen.len() { 2 <= seen[i] } else { true }
+    match seen.get(usize::from(code)) {
+        Some(&n) => 2 <= n,
+        None => true,
+    }
 }
 
 // Writes those of the first m sites whose codes were seen twice to the front of order; says how many there are.
@@ -16,13 +18,10 @@ pub(crate) fn pick(codes: &[u16], seen: &[u8], m: usize, order: &mut [u16]) -> u
     ensures { RepeatsPicked codes.now seen.now order.new m result }
 {
     let mut k = 0;
-    let mut z = 0;
-    while z < m {
-        let site = z as u16;
+    for z in 0..m {
         let more = seen_twice(seen, codes[z]);
-        order[k] = site;
+        order[k] = z as u16;
         k = enzyme_rows::after(k, more);
-        z += 1;
     }
     k
 }

@@ -10,7 +10,7 @@ use Rattle.enzyme_sifted.proofs.counting.raise.Goals as goal
 pub returns-then-i-seen : goal.returns-then-i-seen
 returns-then-i-seen c =
     let a = c.args in
-    let e = c.wide-i.ensures in
+    let e = c.from-i.ensures in
     let d = any_default a.seen.now a.code 0 2 (omega (arith, e)) in
     rw (c.one_more.ensures, e, d)
 

@@ -6,41 +6,23 @@ use Rattle.enzyme_sifted.specs.SiftLaws.{repeats-picked-none, repeats-picked-tur
 use Rattle.enzyme_sifted.proofs.picking.pick.Goals as goal
 
 pub loop-z-init : goal.loop-z-init
-loop-z-init c = let a = c.args in (omega arith, refl, repeats-picked-none a.codes.now a.seen.now a.order.now)
+loop-z-init c = let a = c.args in (refl, repeats-picked-none a.codes.now a.seen.now a.order.now)
 
 pub bounds-order-k : goal.bounds-order-k
-bounds-order-k c = let l = c.loop-z in omega (arith, l.invariant.2.few)
+bounds-order-k c = let l = c.loop-z in omega (arith, l.invariant.1.few)
 
 pub after-k-requires : goal.after-k-requires
-after-k-requires c = let l = c.loop-z in omega (arith, l.invariant.2.few)
+after-k-requires c = let l = c.loop-z in omega (arith, l.invariant.1.few)
 
 pub loop-z-preserved : goal.loop-z-preserved
 loop-z-preserved c =
     let a = c.args in
     let l = c.loop-z in
-    let turn = repeats-picked-turn a.codes.now a.seen.now l.order l.z l.k (omega arith) l.invariant.2 c.seen_twice-more.result c.seen_twice-more.ensures in
-    (omega arith, length-set l.order l.k l.z ∙ l.invariant.1, rw c.after-k.ensures turn)
+    let turn = repeats-picked-turn a.codes.now a.seen.now l.order l.z l.k (omega arith) l.invariant.1 c.seen_twice-more.result c.seen_twice-more.ensures in
+    (length-set l.order l.k l.z ∙ l.invariant.0, rw c.after-k.ensures turn)
 
 pub returns : goal.returns
-returns c = let e : c.loop-z.z ≡ c.args.m = omega arith in rw e at c.loop-z.invariant.2
-
-pub overflow_cast-site : goal.overflow_cast-site
-overflow_cast-site c = omega arith
-
-pub offset_bounds-codes-z : goal.offset_bounds-codes-z
-offset_bounds-codes-z c = omega arith
-
-pub bounds-codes-z : goal.bounds-codes-z
-bounds-codes-z c = omega arith
-
-pub offset_bounds-order-k : goal.offset_bounds-order-k
-offset_bounds-order-k c = omega arith
-
-pub overflow_add-z : goal.overflow_add-z
-overflow_add-z c = omega arith
-
-pub loop-z-smaller : goal.loop-z-smaller
-loop-z-smaller c = omega arith
+returns c = let e : c.loop-z.z ≡ c.args.m = omega arith in rw e at c.loop-z.invariant.1
 
 pub shape_of-order : goal.shape_of-order
-shape_of-order c = c.loop-z.invariant.1
+shape_of-order c = c.loop-z.invariant.0
