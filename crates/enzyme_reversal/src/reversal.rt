@@ -12,16 +12,9 @@ fn flip(letters: &mut [u8])
     requires { 0 < length letters.old }
     ensures { letters.new ≡ reversed letters.old }
 {
-    let mut i = 1;
-    let mut j = letters.len() - 1;
-    while i + 1 < j {
-        let k = j - 1;
-        let low = letters[i];
-        let high = letters[k];
-        letters[i] = high;
-        letters[k] = low;
-        i += 1;
-        j = k;
+    let n = letters.len();
+    if 2 < n {
+        letters[1..n - 1].reverse();
     }
 }
 

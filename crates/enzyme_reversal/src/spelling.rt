@@ -14,17 +14,13 @@ fn spell(part: &[u8], decoy: bool, out: &mut [u8]) -> Result<u32, Refusal>
     ensures { outcome result (out.new ∷ []) ≡ counted 1 65536 out.old (singly (letters_of decoy part.now)) }
 {
     let room = records::room_for(out.len(), 1, 65536);
-    let mut i = 0;
-    while i < part.len() {
+    for i in 0..part.len() {
         if room <= i {
             return Err(Refusal::Room);
         }
-        let letter = letters::letter_at(part, decoy, i);
-        out[i] = letter;
-        i += 1;
+        out[i] = letters::letter_at(part, decoy, i);
     }
-    let count = i as u32;
-    Ok(count)
+    Ok(part.len() as u32)
 }
 
 fn spelling_tested(letters: &[u8], bytes: &[u8]) -> Result<(), Refusal>

@@ -8,11 +8,5 @@ use Rattle.enzyme_reversal.proofs.reversal.reverse_letters.Goals as goal
 pub flip-requires : goal.flip-requires
 flip-requires c =
     let s = c.args.letters.now in
-    let p = stretch-passed s (sym c.stretch_tested-found.ensures ∙ c.in-Passed.is) in
+    let p = stretch-passed s (sym c.stretch_tested.ensures ∙ c.in_ok-stretch_tested.was) in
     rw (c.raise_all.ensures, length-map s capital) p
-
-pub returns-in-Refused : goal.returns-in-Refused
-returns-in-Refused c = rw (sym c.stretch_tested-found.ensures ∙ c.in-Refused.is)
-
-pub returns-in-Passed : goal.returns-in-Passed
-returns-in-Passed c = rw (sym c.stretch_tested-found.ensures ∙ c.in-Passed.is, c.flip.ensures, c.raise_all.ensures)
