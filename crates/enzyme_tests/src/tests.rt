@@ -26,8 +26,7 @@ fn cleave_of(kind: Kind) -> LetterSet
     ensures { result ≡ cleave_of kind }
 {
     match kind {
-        Kind::None => LetterSet::EMPTY,
-        Kind::End => LetterSet::EMPTY,
+        Kind::None | Kind::End => LetterSet::EMPTY,
         Kind::Set(cleave) => cleave,
     }
 }
@@ -42,7 +41,12 @@ fn bad_sets(enzyme: Enzyme, alphabet: LetterSet) -> bool
 }
 
 // The first refusal that applies before the digests are written.
-pub fn tested(letters: &[u8], alphabet: LetterSet, enzyme: Enzyme, settings: Settings) -> Result<(), Refusal>
+pub fn tested(
+    letters: &[u8],
+    alphabet: LetterSet,
+    enzyme: Enzyme,
+    settings: Settings,
+) -> Result<(), Refusal>
     ensures { result ≡ tested letters.now alphabet enzyme settings }
 {
     if too_large(letters, settings) {
