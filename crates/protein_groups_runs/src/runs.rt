@@ -25,15 +25,18 @@ fn takers(w: &mut [u32], e: usize, m: u32, o: usize) -> usize
     k
 }
 
-// Sorts the t things from w[o] on by their texts, whose boundaries stand from w[e] on and which stand from w[e + base] on, and numbers
-// their runs from w[s] on. Answers how many runs there are.
-fn order_runs(w: &mut [u32], o: usize, t: usize, s: usize, e: usize, base: u32) -> u32
-    requires { (o + t ≤ s) × (s + t ≤ e) × (e ≤ length w.old) × (t < 4294967296) }
-    ensures { RunsOrdered w.old w.new o t s e (e + base) result }
+// Sorts t things by their texts, and numbers their runs. Answers how many runs there are.
+fn order_runs(w: &mut [u32], plan: Plan, t: usize) -> u32
+    requires { Things w.old plan t }
+    ensures { RunsOrdered w.old w.new plan.things t plan.runs plan.bounds plan.texts result }
 {
-    let hi = o + t;
-    sorting_merge::sort_range(By::Numbers(base), b"", w, o, hi, s, e);
-    let numbered = sorting_runs::number_runs(By::Numbers(base), b"", w, o, hi, s, e);
+    let base = (plan.texts - plan.bounds) as u32;
+    let lo = plan.things;
+    let hi = lo + t;
+    let to = plan.runs;
+    let e = plan.bounds;
+    sorting_merge::sort_range(By::Numbers(base), b"", w, lo, hi, to, e);
+    let numbered = sorting_runs::number_runs(By::Numbers(base), b"", w, lo, hi, to, e);
     numbered.unwrap_or(0)
 }
 
@@ -49,8 +52,7 @@ pub fn runs_of(w: &mut [u32], plan: Plan, t: usize) -> Runs
     requires { Things w.old plan t }
     ensures { Ran w.old w.new plan t result.entries result.count }
 {
-    let base = (plan.texts - plan.bounds) as u32;
-    let count = order_runs(w, plan.things, t, plan.runs, plan.bounds, base);
+    let count = order_runs(w, plan, t);
     let entries = spread_runs(w, plan, t);
     Runs { entries, count }
 }
