@@ -1,5 +1,5 @@
 -- From what the listing has written to its answer. Assumes nothing.
-use Rattle.std.specs.Prelude.{ℕ, ◌/◌, ◌≤◌, ◌≡◌, Bool, true, false, cond, List, [], ◌∷◌, map, length, Ok, Err}
+use Rattle.std.specs.Prelude.{ℕ, ◌/◌, ◌≤◌, ◌≡◌, List, [], ◌∷◌, map, length, Err, Some, None, is_some, ok_or, IfSome}
 use Rattle.std.proofs.Math.Path.{refl}
 use Rattle.std.proofs.Common.{sym, ap, ◌∙◌, subst, arith, leb-true}
 use Rattle.std.proofs.lemmas.List.Edits.{sets}
@@ -7,17 +7,16 @@ use Rattle.std.proofs.Math.Nat.{min-le_right}
 use Rattle.lists.specs.KeepLaws.{map-all}
 use Rattle.records.specs.declared.refusal.Refusal.TheVariants.{Room}
 use Rattle.records.specs.Outcome.{outcome}
-use Rattle.records.specs.Room.{room_of, counted}
+use Rattle.records.specs.Room.{room_of, counted, fits, fitted}
 use Rattle.records.specs.RoomLaws.{Sized, Standing, standing-none, standing-more, standing_full}
 use Rattle.peptide_choices.specs.Choices.{by_size}
 use Rattle.peptide_slots.specs.Filling.{apply}
 use Rattle.peptide_slots.specs.Overlays.{overlay}
-use Rattle.peptide_forms.specs.declared.listing.Listed.{Listed}
+use Rattle.peptide_forms.specs.Listed.{Listed}
 use Rattle.peptide_forms.specs.Passing.{packed_passes}
 use Rattle.peptide_forms.specs.Enumeration.{most_forms}
 use Rattle.peptide_forms.specs.Packed.{packed_choices, packed_chosen}
 use Rattle.peptide_forms.specs.RunLaws.{todo, quick, length-quick, Finished}
-use Rattle.records.specs.Answers.{Counted}
 
 module _ (old form table sites rules : List ℕ) (limit cap : ℕ) (wide : length form ≡ 66) where
   abbrev made : List ℕ → List ℕ
@@ -51,18 +50,19 @@ module _ (old form table sites rules : List ℕ) (limit cap : ℕ) (wide : lengt
     begun = subst (λ (z : List ℕ). Standing 66 most_forms old all rest z 1) (sym (stored ∙ ap (sets old 0) first_is)) (standing-more 66 most_forms old all all_sized (made []) rest old 0 (standing-none 66 most_forms old all all_sized) (omega arith))
 
     -- the first form stands, and the run has written what fits of the others
-    pub list_done : (b : Bool) → r.fits ≡ b → outcome (cond b (Ok r.count) (Err Room)) (new ∷ []) ≡ counted 66 most_forms old (map made (packed_choices sites rules limit cap))
-    list_done b e =
-        let d = done.ends old all is all_sized begun in
-        rw (all_is, ← d.1, e) (go b e ∙ ap (λ (z : List ℕ). outcome (cond b (Ok (length all)) (Err Room)) (z ∷ [])) d.0)
+    pub list_done : outcome (ok_or r Room) (new ∷ []) ≡ counted 66 most_forms old (map made (packed_choices sites rules limit cap))
+    list_done = rw all_is (go r (done.ends old all is all_sized begun))
       where
-        go : (t : Bool) → r.fits ≡ t → outcome (cond t (Ok r.count) (Err Room)) (new ∷ []) ≡ outcome (cond t (Ok (length all)) (Err Room)) (new ∷ [])
-        go true q = ap (λ (n : ℕ). outcome (Ok n) (new ∷ [])) ((done.ends old all is all_sized begun).2 q)
-        go false q = refl
+        go : (t : Listed) → (new ≡ fitted 66 most_forms old all) × (is_some t ≡ fits 66 most_forms old all) × IfSome t (λ (n : ℕ). n ≡ length all) → outcome (ok_or t Room) (new ∷ []) ≡ counted 66 most_forms old all
+        go (Some n) d = rw (d.0, ← d.1, d.2)
+        go None d = rw (d.0, ← d.1)
 
     -- all that are written are few
-    pub list_few : r.fits ≡ true → r.count ≤ most_forms
-    list_few q =
-        let d = done.ends old all is all_sized begun in
-        let h : length all ≤ room_of 66 most_forms old = leb-true (length all) (room_of 66 most_forms old) (sym d.1 ∙ q) in
-        omega (arith, d.2 q, min-le_right (length old / 66) most_forms)
+    pub list_few : IfSome r (λ (n : ℕ). n ≤ most_forms)
+    list_few = go r (done.ends old all is all_sized begun)
+      where
+        go : (t : Listed) → (new ≡ fitted 66 most_forms old all) × (is_some t ≡ fits 66 most_forms old all) × IfSome t (λ (n : ℕ). n ≡ length all) → IfSome t (λ (n : ℕ). n ≤ most_forms)
+        go (Some n) d =
+            let h : length all ≤ room_of 66 most_forms old = leb-true (length all) (room_of 66 most_forms old) (sym d.1) in
+            omega (arith, d.2, min-le_right (length old / 66) most_forms)
+        go None d = tt

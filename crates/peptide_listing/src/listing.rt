@@ -42,10 +42,8 @@ pub fn list_all(
     }
     let first = peptide_slots::overlaid(table, bare);
     peptide_slots::put_form(first, out, 0);
-    let r = peptide_forms::list_forms(bare, table, sites, rules, limit, most, room, out);
-    if r.fits {
-        let count = r.count as u32;
-        return Ok(count);
+    match peptide_forms::list_forms(bare, table, sites, rules, limit, most, room, out) {
+        Some(count) => Ok(count as u32),
+        None => Err(Refusal::Room),
     }
-    Err(Refusal::Room)
 }

@@ -18,7 +18,7 @@ pub fn test_form(letters: &[u8], form: &[u8]) -> Result<(), Refusal>
     Ok(())
 }
 
-pub fn too_large(len: u8, variable: &[u8], fixed: &[u8], limit: u32) -> bool
+pub fn too_large(len: usize, variable: &[u8], fixed: &[u8], limit: u32) -> bool
     ensures { result ≡ too_large len variable.now fixed.now limit }
 {
     (len == 0) | (64 < len) | (16 < variable.len() / 8) | (32 < fixed.len() / 8) | (8 < limit)
