@@ -15,14 +15,14 @@ pub write_text-first-requires : goal.write_text-first-requires
 write_text-first-requires c =
     let a = c.args in
     let h = some-starts a.starts.now c.if-starts-eq0.false in
-    (c.tag_length-t.ensures, c.requires.0, omega (arith, line-length (joined_text a.names.now a.keys.now) a.starts.now h, c.requires.1))
+    omega (arith, line-length (joined_text a.names.now a.keys.now) a.starts.now h, c.requires.1)
 
 pub write_rest-end-requires : goal.write_rest-end-requires
 write_rest-end-requires c =
     let a = c.args in
     let h = some-starts a.starts.now c.if-starts-eq0.false in
     let t = c.write_text-first.ensures in
-    (c.tag_length-t.ensures, c.requires.0, omega (arith, t.ends, line-length (joined_text a.names.now a.keys.now) a.starts.now h, c.requires.1))
+    omega (arith, t.ends, line-length (joined_text a.names.now a.keys.now) a.starts.now h, c.requires.1)
 
 -- the line is written
 line : (c : After-write_rest-end)

@@ -1,16 +1,16 @@
 -- `write_text` meets its contract: what is left of the walk is still to come. Assumes nothing.
 use native.Mathlib.Omega.{arith}
 use Rattle.report_lines_texts.specs.WalkLaws.{writing_start, writing_length, writing_done, writing_byte, writing_less, writing_fits, writing_on}
-use Rattle.report_lines_texts.proofs.writing.write_text.Goals as goal
+use Rattle.report_lines_texts.proofs.writing.Texts.write_text.Goals as goal
 
 pub loop-step-init : goal.loop-step-init
-loop-step-init c = writing_start (λ i. omega (arith, c.type_inv.names i)) c.requires.1
+loop-step-init c = writing_start c.args.self.now.name_bytes c.args.self.now.tag_bytes
 
 pub walk-step-requires : goal.walk-step-requires
-walk-step-requires c = record { tag = c.requires.0; within = c.loop-step.invariant.within }
+walk-step-requires c = record { tag = c.args.self.now.tag_length; within = c.loop-step.invariant.within }
 
 pub overflow_add-k : goal.overflow_add-k
-overflow_add-k c = omega (arith, writing_fits c.loop-step.invariant c.walk-step.ensures c.if-number-eq0.false c.requires.2)
+overflow_add-k c = omega (arith, writing_fits c.loop-step.invariant c.walk-step.ensures c.if-number-eq0.false c.requires)
 
 pub loop-step-preserved : goal.loop-step-preserved
 loop-step-preserved c = rw (c.put_byte.ensures, c.byte_of-byte.ensures) (writing_on c.loop-step.invariant c.walk-step.ensures c.if-number-eq0.false)
