@@ -1,14 +1,6 @@
 // Weights of windows.
-ghost use Rattle.std.specs.Prelude.{◌≡◌, ◌&&◌, ◌≤◌, ◌<◌, min, ltb, eqb, length, get_or};
+ghost use Rattle.std.specs.Prelude.{◌≡◌, ◌&&◌, ◌≤◌, ◌<◌, ltb, eqb, length, get_or};
 ghost use Rattle.enzyme_weights.specs.Weights.{run_size, class_size, weight_in};
-
-use enzyme_keys::wide;
-
-fn number(x: u8) -> usize
-    ensures { result ≡ x }
-{
-    x as usize
-}
 
 // How many of the first g places belong to the run that starts at place p.
 fn run_size(runs: &[u16], g: usize, p: usize) -> u32
@@ -16,28 +8,13 @@ fn run_size(runs: &[u16], g: usize, p: usize) -> u32
     ensures { result ≡ run_size runs.now g p }
 {
     let mut count = 0u32;
-    let mut q = p;
-    while q < g {
-        let run = wide(runs[q]);
-        if run != p {
+    for q in p..g {
+        if usize::from(runs[q]) != p {
             return count;
         }
         count += 1;
-        q += 1;
     }
     count
-}
-
-fn short(x: u16) -> usize
-    ensures { (result ≡ x) × (result < 65536) }
-{
-    x as usize
-}
-
-fn lesser(x: usize, y: usize) -> usize
-    ensures { result ≡ min x y }
-{
-    if x < y { x } else { y }
 }
 
 // Whether place p is one of the first g and site i stands there. Both are told by one comparison: most sites are not in the order, but
@@ -46,8 +23,8 @@ fn stands_at(order: &[u16], g: usize, p: usize, i: usize) -> bool
     requires { (0 < g) × (g ≤ length order.now) × (p < 65536) × (i < 9223372036854775808) }
     ensures { result ≡ (ltb p g && eqb (get_or order.now p 0) i) }
 {
-    let at = lesser(p, g - 1);
-    let x = short(order[at]);
+    let at = p.min(g - 1);
+    let x = usize::from(order[at]);
     65536 * at + x == 65536 * p + i
 }
 
@@ -57,7 +34,7 @@ fn class_size(order: &[u16], runs: &[u16], rank: &[u16], g: usize, i: usize) -> 
     requires { (0 < g) × (g ≤ length order.now) × (g ≤ length runs.now) × (g ≤ 65536) × (i < length rank.now) }
     ensures { result ≡ class_size order.now runs.now rank.now g i }
 {
-    let p = short(rank[i]);
+    let p = usize::from(rank[i]);
     if stands_at(order, g, p, i) {
         return run_size(runs, g, p);
     }
@@ -88,7 +65,7 @@ pub fn weight_at(
     requires { (g ≤ length order.now) × (g ≤ length runs.now) × (g ≤ 65536) × (i < length rank.now) × (i < length share.now) }
     ensures { result ≡ weight_in order.now runs.now rank.now share.now g n i }
 {
-    let shared = number(share[i]);
+    let shared = usize::from(share[i]);
     if n <= shared {
         return 0;
     }

@@ -5,10 +5,10 @@ use Rattle.enzyme_weights.proofs.weights.class_size.Goals as goal
 
 pub returns-then-stands_at : goal.returns-then-stands_at
 returns-then-stands_at c = let a = c.args in
-    let p = c.short-p in
-    c.run_size.ensures ∙ class_run a.order.now a.runs.now a.rank.now a.g a.i p.result p.ensures.0 (sym c.stands_at.ensures ∙ c.if-stands_at.true)
+    let p = c.from-p in
+    c.run_size.ensures ∙ class_run a.order.now a.runs.now a.rank.now a.g a.i p.result p.ensures (sym c.stands_at.ensures ∙ c.if-stands_at.true)
 
 pub returns : goal.returns
 returns c = let a = c.args in
-    let p = c.short-p in
-    class_alone a.order.now a.runs.now a.rank.now a.g a.i p.result p.ensures.0 (sym c.stands_at.ensures ∙ c.if-stands_at.false)
+    let p = c.from-p in
+    class_alone a.order.now a.runs.now a.rank.now a.g a.i p.result p.ensures (sym c.stands_at.ensures ∙ c.if-stands_at.false)

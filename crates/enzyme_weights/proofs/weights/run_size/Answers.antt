@@ -7,17 +7,17 @@ use Rattle.enzyme_weights.proofs.weights.run_size.Goals as goal
 pub loop-q-init : goal.loop-q-init
 loop-q-init c = (omega arith, omega arith)
 
-pub returns-then-run-p : goal.returns-then-run-p
-returns-then-run-p c =
+pub returns-then-from-p : goal.returns-then-from-p
+returns-then-from-p c =
     let a = c.args in
     let l = c.loop-q in
-    omega (arith, l.invariant.1, size_stop a.runs.now a.g a.p l.q (omega arith) (λ e. c.if-run-p.true (c.wide-run.ensures ∙ e)))
+    omega (arith, l.invariant.1, size_stop a.runs.now a.g a.p l.q (omega arith) (λ e. c.if-from-p.true (c.from.ensures ∙ e)))
 
 pub loop-q-preserved : goal.loop-q-preserved
 loop-q-preserved c =
     let a = c.args in
     let l = c.loop-q in
-    (omega arith, omega (arith, l.invariant.1, size-on a.runs.now a.g a.p l.q (omega arith) (sym c.wide-run.ensures ∙ c.if-run-p.false)))
+    (omega arith, omega (arith, l.invariant.1, size-on a.runs.now a.g a.p l.q (omega arith) (sym c.from.ensures ∙ c.if-from-p.false)))
 
 pub returns : goal.returns
 returns c =

@@ -6,6 +6,3 @@ use Rattle.enzyme_weights.proofs.weights.run_size.Given as goal
 
 abbrev pub invariant-loop-q : goal.invariant-loop-q
 invariant-loop-q l = (l.count ≤ l.q) × (l.count + run_from l.runs l.p l.q (l.g - l.q) ≡ run_from l.runs l.p l.p (l.g - l.p))
-
-abbrev pub decreases-loop-q : goal.decreases-loop-q
-decreases-loop-q l = l.g - l.q

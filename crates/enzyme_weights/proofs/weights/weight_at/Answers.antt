@@ -6,8 +6,8 @@ use Rattle.enzyme_weights.proofs.weights.weight_at.Goals as goal
 
 pub returns-then-n-shared : goal.returns-then-n-shared
 returns-then-n-shared c = let a = c.args in
-    weight-shared a.order.now a.runs.now a.rank.now a.share.now a.g a.n a.i (omega (arith, c.number-shared.ensures, c.if-n-shared.true))
+    weight-shared a.order.now a.runs.now a.rank.now a.share.now a.g a.n a.i (omega (arith, c.from-shared.ensures, c.if-n-shared.true))
 
 pub returns : goal.returns
 returns c = let a = c.args in
-    c.new_weight.ensures ∙ weight_class a.order.now a.runs.now a.rank.now a.share.now a.g a.n a.i (omega (arith, c.number-shared.ensures, c.if-n-shared.false))
+    c.new_weight.ensures ∙ weight_class a.order.now a.runs.now a.rank.now a.share.now a.g a.n a.i (omega (arith, c.from-shared.ensures, c.if-n-shared.false))
