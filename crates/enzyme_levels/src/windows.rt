@@ -5,7 +5,7 @@ ghost use Rattle.enzyme_rows.specs.Steps.{RunsRanked, OneName};
 ghost use Rattle.enzyme_sifted.specs.Sifted.{Sifted};
 ghost use Rattle.enzyme_levels.specs.Levels.{TextsPlaced, SitesReady, LevelRanked};
 
-use enzyme_keys::Key;
+use enzyme_keys::{Key, Sorting};
 
 // Sorts the first g sites by their keys, ranks them by their runs, and writes n for those whose key an earlier site has.
 fn rank_sites(
@@ -24,7 +24,14 @@ fn rank_sites(
     requires { SitesReady letters.now starts.now order.old g m × (m ≤ length rank.old) × (m ≤ length order.old) × (m ≤ length other.old) × (m ≤ length share.old) }
     ensures { RunsRanked (sort_key key letters.now starts.now name.now rank.old) order.old order.new other.new rank.old rank.new share.old share.new g n }
 {
-    enzyme_runs::line_up(key, letters, starts, name, rank, order, other, g);
+    let by = Sorting {
+        key,
+        letters,
+        starts,
+        name,
+        rank: &*rank,
+    };
+    enzyme_runs::line_up(&by, order, other, g);
     enzyme_rows::bring(order, other, rank, g);
     enzyme_rows::mark(order, other, share, g, n);
 }
