@@ -21,12 +21,10 @@ use Rattle.peptide_choices.specs.Choices.{choices_of, by_size}
 use Rattle.peptide_slots.specs.Mirror.{mirror, all_zero}
 use Rattle.peptide_forms.specs.Enumeration.{no_cap, up_to_cap}
 use Rattle.peptide.specs.declared.making.Peptide.{Peptide}
-use Rattle.peptide.specs.declared.making.Made.{Made}
-use Rattle.peptide.specs.Peptides.{residues_of, clear, tested_contents, peptide_from, made_of_form}
+use Rattle.peptide.specs.Peptides.{Made, residues_of, clear, tested_contents, peptide_from, made_of_form}
 use Rattle.peptide.specs.Digested.{digested, made_of_digest, weighed_digest}
 use Rattle.peptide.specs.Sites.{rule_sites, passes, filled}
 use Rattle.peptide.specs.Forms.{tested_forms, choices, form_of, forms_of, forms_outcome}
-use Rattle.records.specs.Answers.{Passed, Tested}
 
 abbrev MAM : List ℕ
 MAM = 77 ∷ 65 ∷ 77 ∷ []
@@ -79,11 +77,8 @@ refusing p variable fixed limit number place = forming p variable fixed limit no
 
 -- refusal 0 is none, and then come the length and the first five slots
 abbrev shown : Made → List ℕ
-shown made = go made.tested made.peptide
-  where
-    go : Tested → Peptide → List ℕ
-    go (Ok _) p = 0 ∷ 0 ∷ p.len ∷ p.nterm ∷ p.cterm ∷ take 3 p.ids
-    go (Err why) p = refused_as (number_of why) (place_of why)
+shown (Ok p) = 0 ∷ 0 ∷ p.len ∷ p.nterm ∷ p.cterm ∷ take 3 p.ids
+shown (Err why) = refused_as (number_of why) (place_of why)
 
 -- letters with a form and a position
 abbrev making : List ℕ → List ℕ → ℕ → List ℕ → Case
@@ -182,11 +177,8 @@ masses = fin false 1 (pos 0) ∷ fin false 1 (pos 24) ∷ (replicate 23 (fin fal
 
 -- refusal 0 is none, and then come the position, the decoy flag and the letters
 abbrev cut : Made → List ℕ
-cut made = go made.tested made.peptide
-  where
-    go : Tested → Peptide → List ℕ
-    go (Ok _) p = 0 ∷ 0 ∷ p.position ∷ cond p.decoy 1 0 ∷ residues_of p
-    go (Err why) p = refused_as (number_of why) (place_of why)
+cut (Ok p) = 0 ∷ 0 ∷ p.position ∷ cond p.decoy 1 0 ∷ residues_of p
+cut (Err why) = refused_as (number_of why) (place_of why)
 
 -- or the mass, a whole number
 abbrev mass : Weighed → List ℕ

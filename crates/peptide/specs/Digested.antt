@@ -6,8 +6,7 @@ use Rattle.peptide_mass.specs.Masses.{Weighed, add_all, weighed_or}
 use Rattle.enzyme_keep.specs.Digests.{start_of, end_of, position_in, is_decoy}
 use Rattle.peptide_digests.specs.DigestTests.{tested_digest}
 use Rattle.peptide.specs.declared.making.Peptide.{Peptide}
-use Rattle.peptide.specs.declared.making.Made.{Made}
-use Rattle.peptide.specs.Peptides.{residues_of, peptide_from, no_peptide, made_or, reversed_peptide}
+use Rattle.peptide.specs.Peptides.{Made, residues_of, peptide_from, no_peptide, made_or, reversed_peptide}
 
 -- ---- the peptide
 

@@ -1,6 +1,6 @@
 -- That the other entries take the peptide that is made of a digest. Assumes nothing.
 use Prim.Native.Nat.{ℕ, suc, ◌+◌, ◌-◌, ◌≤◌, ◌<◌}
-use Rattle.std.specs.Prelude.{◌≡◌, Bool, true, not, ◌⊎◌, get_or, drop, replicate, Float, Err}
+use Rattle.std.specs.Prelude.{◌≡◌, Bool, true, not, ◌⊎◌, get_or, drop, replicate, Float, Ok, Err}
 use Rattle.std.proofs.Math.Path.{refl, sym, ap}
 use Rattle.std.proofs.Common.{◌∙◌, true≢false, inl, inr, ⊎_elim, arith, length-append, length-drop, get_or-take, get_or-drop, get_or-append-add, length-take-le}
 use Rattle.std.proofs.Math.Bool.{false}
@@ -8,7 +8,7 @@ use mathlib.Core.List.{List, [], ◌∷◌, ◌++◌}
 use Rattle.std.proofs.Math.ListN.{length, get_or-append}
 use Rattle.std.proofs.lemmas.List.{length-replicate, get_or-replicate, length-map}
 use borrow.Author.Tests.{le-leb, le-ltb, ne_eqb}
-use Rattle.peptide_mass.specs.Masses.{Weighed, wrong_size, add_all, no_mass, first_no_mass, tested_letters, weighed, weighed_or}
+use Rattle.peptide_mass.specs.Masses.{wrong_size, add_all, no_mass, first_no_mass, tested_letters, weighed, weighed_or}
 use Rattle.peptide_mass.specs.MassLaws.{no_mass_at, has-mass_letter, no_mass-capital, letters-passed, weighed-passed}
 use Rattle.enzyme_keep.specs.Digests.{start_of, end_of, position_in, is_decoy}
 use Rattle.peptide_digests.specs.DigestTests.{tested_digest}
@@ -23,8 +23,7 @@ use Rattle.peptide_slots.specs.MirrorLaws.{MirroredTo, until, mirror-turned}
 use Rattle.peptide_slots.specs.Windows.{window}
 use Rattle.peptide_digests.specs.DigestTestLaws.{range_in, Digestible, passed_digestible}
 use Rattle.peptide.specs.declared.making.Peptide.{Peptide}
-use Rattle.peptide.specs.declared.making.Made.{Made}
-use Rattle.peptide.specs.Peptides.{residues_of, clear, tested_peptide, peptide_from, no_peptide, made_or, reversed_peptide}
+use Rattle.peptide.specs.Peptides.{Made, tested_in, residues_of, clear, tested_peptide, peptide_from, no_peptide, made_or, reversed_peptide}
 use Rattle.peptide.specs.PeptideLaws.{contents-clear, peptide_tested-on, tested_of}
 use Rattle.peptide.specs.Digested.{of_range, digested, made_of_digest, weighed_digest}
 use Rattle.records.specs.Answers.{Passed, Tested}
@@ -189,13 +188,13 @@ module _ (s r : List ℕ) (masses : List Float) (h : tested_digest s r masses �
 -- ---- what was made, and what was weighed
 
 module _ (s r : List ℕ) (masses : List Float) where
-  pub made-tested : (m : Made) → m ≡ made_of_digest s r masses → m.tested ≡ tested_digest s r masses
+  pub made-tested : (m : Made) → m ≡ made_of_digest s r masses → tested_in m ≡ tested_digest s r masses
   unfolding made_of_digest
-  made-tested m e = ap (λ (x : Made). x.tested) e ∙ tested_of (tested_digest s r masses) (digested s r) no_peptide
+  made-tested m e = ap tested_in e ∙ tested_of (tested_digest s r masses) (digested s r) no_peptide
 
-  pub made-digested : tested_digest s r masses ≡ Passed → (m : Made) → m ≡ made_of_digest s r masses → m.peptide ≡ digested s r
+  pub made-digested : tested_digest s r masses ≡ Passed → (m : Made) → m ≡ made_of_digest s r masses → m ≡ Ok (digested s r)
   unfolding made_of_digest
-  made-digested h m e = ap (λ (x : Made). x.peptide) e ∙ ap (λ (t : Tested). (made_or t (digested s r) no_peptide).peptide) h
+  made-digested h m e = e ∙ ap (λ (t : Tested). made_or t (digested s r) no_peptide) h
 
   pub mass-refused : (water : Float) (why : Refusal) → tested_digest s r masses ≡ Err why → Err why ≡ weighed_digest s r masses water
   unfolding weighed_digest

@@ -29,7 +29,7 @@ use Rattle.peptide_forms.specs.UsedLaws.{free_in, uses_in, once_in, limits_in, f
 use Rattle.peptide.specs.declared.making.Peptide.{Peptide}
 use Rattle.peptide.specs.Sites.{Site, rule_site, hits, slots_of, rule_sites, each, passes, filled}
 use Rattle.peptide.specs.Forms.{bare, chosen, choices, form_of, forms_of}
-use Rattle.records.specs.Answers.{Passed, Tested}
+use Rattle.records.specs.Answers.{Passed}
 
 -- ---- the forms by numbers
 

@@ -15,7 +15,7 @@ use Rattle.peptide_slots.specs.MirrorLaws.{mirror-mirror}
 use Rattle.peptide_mass.specs.MassLaws.{size_fits}
 use Rattle.peptide_listing.specs.FormTestLaws.{form_sized}
 use Rattle.peptide.specs.declared.making.Peptide.{Peptide}
-use Rattle.peptide.specs.Peptides.{residues_of, clear, tested_contents, tested_peptide, peptide_from, no_peptide, made_or, reversed_peptide}
+use Rattle.peptide.specs.Peptides.{tested_in, residues_of, clear, tested_contents, tested_peptide, peptide_from, no_peptide, made_or, reversed_peptide}
 use Rattle.records.specs.Answers.{Passed, Tested}
 
 module _ (p : Peptide) where
@@ -67,7 +67,7 @@ module _ (letters form : List ℕ) where
     of_form-tested e p f u v g h = sym (first_passes (tested_form letters form) (tested_contents new) (sym is ∙ e)) ∙ ap tested_contents (sym f) ∙ sym g ∙ h
 
 -- what the tests found is told of what was made
-pub tested_of : (t : Tested) (new other : Peptide) → (made_or t new other).tested ≡ t
+pub tested_of : (t : Tested) (new other : Peptide) → tested_in (made_or t new other) ≡ t
 tested_of (Ok _) p other = refl
 tested_of (Err why) p other = refl
 

@@ -2,7 +2,8 @@
 -- 0, after its letters)." "`Peptide::reverse` does so for letters and residue ids, terminals stay, and the decoy flag flips
 -- each time." Document 02, [2]: "Small letters now read as capitals everywhere": a peptide that is made has capitals; reversal moves
 -- letters and makes none.
-use Rattle.std.specs.Prelude.{ℕ, Bool, false, cond, not, ◌&&◌, List, [], length, get_or, take, drop, leb, ltb, Ok, Err}
+use Rattle.std.specs.Prelude.{ℕ, Bool, false, cond, not, ◌&&◌, List, [], length, get_or, take, drop, leb, ltb, Result, Ok, Err}
+use Rattle.records.specs.declared.refusal.Refusal.{Refusal}
 use Rattle.records.specs.declared.refusal.Refusal.TheVariants.{Size, Letter, Field}
 use Rattle.records.specs.Tested.{and_then}
 use Rattle.letters.specs.Letters.{capitals, first_bad}
@@ -11,7 +12,6 @@ use Rattle.peptide_slots.specs.Windows.{window}
 use Rattle.peptide_mass.specs.Masses.{wrong_size}
 use Rattle.peptide_listing.specs.FormTests.{tested_form}
 use Rattle.peptide.specs.declared.making.Peptide.{Peptide}
-use Rattle.peptide.specs.declared.making.Made.{Made}
 use Rattle.records.specs.Answers.{Passed, Tested}
 
 -- ---- the tests
@@ -36,10 +36,20 @@ unfoldable pub tested_peptide : Peptide → Tested
 unfolding tested_contents
 tested_peptide p = cond (wrong_size p.len) (Err Size) (tested_contents p)
 
--- the new peptide where the tests passed, else the other
+-- a peptide, or why none was made
+abbrev pub Made : Type 0
+Made = Result Peptide Refusal
+
+-- what its tests found
+abbrev pub tested_in : Made → Tested
+tested_in (Ok p) = Passed
+tested_in (Err why) = Err why
+
+-- the new peptide where the tests passed; with what they refuse goes no peptide, so that the other, which the caller has, stands
+-- in no answer
 abbrev pub made_or : Tested → Peptide → Peptide → Made
-made_or (Ok _) new other = record { tested = Passed; peptide = new }
-made_or (Err why) new other = record { tested = Err why; peptide = other }
+made_or (Ok _) new other = Ok new
+made_or (Err why) new other = Err why
 
 -- ---- peptides
 
@@ -56,7 +66,7 @@ peptide_from letters form position decoy =
       decoy = decoy;
     }
 
--- what is handed out where none was made
+-- no letters and no ids
 abbrev pub no_peptide : Peptide
 no_peptide = peptide_from [] [] 0 false
 

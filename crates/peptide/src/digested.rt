@@ -3,7 +3,7 @@ ghost use Rattle.std.specs.Prelude.{◌≡◌, ◌≤◌, length};
 ghost use Rattle.peptide.specs.Digested.{of_range, made_of_digest, weighed_digest};
 
 use crate::making;
-use crate::making::{Made, Peptide};
+use crate::making::Peptide;
 use records::Refusal;
 
 // The peptide of a range's letters; a decoy is reversed.
@@ -11,7 +11,7 @@ fn of_range(part: &[u8], position: u8, decoy: bool) -> Peptide
     requires { length part.now ≤ 64 }
     ensures { result ≡ of_range part.now position decoy }
 {
-    let peptide = making::given(part, &part[0..0], position, false);
+    let peptide = making::given(part, &[], position, false);
     if decoy {
         making::turned(peptide)
     } else {
@@ -22,19 +22,15 @@ fn of_range(part: &[u8], position: u8, decoy: bool) -> Peptide
 impl Peptide {
     // The unmodified peptide of a digest record, whose range counts from the protein's first letter. Masses are those of A
     // to Z.
-    pub fn of_digest(letters: &[u8], bytes: &[u8], masses: &[f32]) -> Made
+    pub fn of_digest(letters: &[u8], bytes: &[u8], masses: &[f32]) -> Result<Peptide, Refusal>
         ensures { result ≡ made_of_digest letters.now bytes.now masses.now }
     {
-        if let Err(why) = peptide_digests::test_digest(letters, bytes, masses) {
-            return making::refused(why);
-        }
+        peptide_digests::test_digest(letters, bytes, masses)?;
         let start = records::u32_at(bytes, 0) as usize;
         let end = records::u32_at(bytes, 4) as usize;
         let position = records::byte_at(bytes, 10);
         let decoy = records::byte_at(bytes, 11) == 1;
-        let peptide = of_range(&letters[start..end], position, decoy);
-        let tested = Ok(());
-        Made { tested, peptide }
+        Ok(of_range(&letters[start..end], position, decoy))
     }
 }
 
@@ -42,11 +38,7 @@ impl Peptide {
 pub fn digest_mass(letters: &[u8], bytes: &[u8], masses: &[f32], water: f32) -> Result<f32, Refusal>
     ensures { result ≡ weighed_digest letters.now bytes.now masses.now water }
 {
-    let made = Peptide::of_digest(letters, bytes, masses);
-    let tested = made.tested;
-    tested?;
-    let peptide = made.peptide;
-    let n = peptide.len as usize;
-    let held = peptide.letters;
-    peptide_mass::base_mass(&held[0..n], masses, water)
+    let peptide = Peptide::of_digest(letters, bytes, masses)?;
+    let n = usize::from(peptide.len);
+    peptide_mass::base_mass(&peptide.letters[0..n], masses, water)
 }

@@ -7,5 +7,5 @@ mod making;
 mod tests;
 
 pub use digested::digest_mass;
-pub use making::{Made, Peptide};
-pub use peptide_mass::{base_mass};
+pub use making::Peptide;
+pub use peptide_mass::base_mass;

@@ -11,19 +11,23 @@ use crate::tests;
 use records::Refusal;
 
 // The forms of a peptide whose tests passed.
-fn run(p: Peptide, variable: &[u8], fixed: &[u8], limit: u32, cap: u32, out: &mut [u8]) -> Result<u32, Refusal>
+fn run(
+    p: Peptide,
+    variable: &[u8],
+    fixed: &[u8],
+    limit: u32,
+    cap: u32,
+    out: &mut [u8],
+) -> Result<u32, Refusal>
     requires { (p.len ≤ 64) × (length variable.now ≤ 256) × (length fixed.now ≤ 256) × (limit ≤ 8) }
     ensures { outcome result (out.new ∷ []) ≡ counted 66 most_forms out.old (packed_forms p variable.now fixed.now limit cap) }
 {
-    let n = p.len as usize;
-    let held = p.letters;
-    let letters = peptide_slots::raised(held);
-    let ids = p.ids;
-    let position = p.position;
-    let table = peptide_listing::fixed_table(letters, n, position, fixed);
-    let bare = peptide_slots::bare(p.nterm, p.cterm, ids);
+    let n = usize::from(p.len);
+    let letters = peptide_slots::raised(p.letters);
+    let table = peptide_listing::fixed_table(letters, n, p.position, fixed);
+    let bare = peptide_slots::bare(p.nterm, p.cterm, p.ids);
     let mut sites = [0u16; 2112];
-    let m = peptide_slots::collect_used(letters, n, position, variable, &mut sites);
+    let m = peptide_slots::collect_used(letters, n, p.position, variable, &mut sites);
     let most = limit as usize;
     peptide_listing::list_all(bare, table, &sites[0..m], variable, most, cap, out)
 }

@@ -11,11 +11,8 @@ fn is_clear(p: Peptide) -> bool
     requires { p.len ≤ 64 }
     ensures { result ≡ clear p }
 {
-    let n = p.len as usize;
-    let letters = p.letters;
-    let ids = p.ids;
-    let position = p.position;
-    peptide_slots::zero_from(letters, n) & peptide_slots::zero_from(ids, n) & (position <= 3)
+    let n = usize::from(p.len);
+    peptide_slots::zero_from(p.letters, n) & peptide_slots::zero_from(p.ids, n) & (p.position <= 3)
 }
 
 // The letters, then what lies past them.
@@ -23,9 +20,8 @@ pub(crate) fn test_contents(p: Peptide) -> Result<(), Refusal>
     requires { p.len ≤ 64 }
     ensures { result ≡ tested_contents p }
 {
-    let n = p.len as usize;
-    let letters = p.letters;
-    let bad = letters::first_bad(&letters[0..n]);
+    let n = usize::from(p.len);
+    let bad = letters::first_bad(&p.letters[0..n]);
     if bad < n {
         return Err(Refusal::Letter(bad));
     }
@@ -40,19 +36,22 @@ pub(crate) fn test_contents(p: Peptide) -> Result<(), Refusal>
 pub(crate) fn test_peptide(p: Peptide) -> Result<(), Refusal>
     ensures { result ≡ tested_peptide p }
 {
-    let n = p.len;
-    if (n == 0) | (64 < n) {
+    if (p.len == 0) | (64 < p.len) {
         return Err(Refusal::Size);
     }
     test_contents(p)
 }
 
 // The tests before forms are listed.
-pub(crate) fn test_forms(p: Peptide, variable: &[u8], fixed: &[u8], limit: u32) -> Result<(), Refusal>
+pub(crate) fn test_forms(
+    p: Peptide,
+    variable: &[u8],
+    fixed: &[u8],
+    limit: u32,
+) -> Result<(), Refusal>
     ensures { result ≡ tested_forms p variable.now fixed.now limit }
 {
-    let n = p.len;
-    if peptide_listing::too_large(n, variable, fixed, limit) {
+    if peptide_listing::too_large(usize::from(p.len), variable, fixed, limit) {
         return Err(Refusal::Size);
     }
     if peptide_listing::not_whole(variable, fixed) {

@@ -28,7 +28,7 @@ returns c =
     let table = c.fixed_table-table in
     let sites = take (k.result - 0) k.new.out in
     let n : length a.p.ids ≡ 64 = search (rules, c.well_formed.0) in
-    let e : sites ≡ used a.variable.now (packed_sites a.p a.variable.now) = ap (λ (z : ℕ). take z k.new.out) (sub-zero k.result) ∙ rw read at k.ensures.1 in
+    let e : sites ≡ used a.variable.now (packed_sites a.p a.variable.now) = ap (λ (z : ℕ). take z k.new.out) (sub-zero k.result) ∙ rw (read, c.from-n.ensures) at k.ensures.1 in
     c.list_all.ensures
     ∙ ap (λ (z : List ℕ). counted 66 most_forms a.out.now (map (quick z table.result.slots sites a.variable.now) (packed_choices sites a.variable.now a.limit a.cap))) c.bare-bare.ensures
-    ∙ ap (counted 66 most_forms a.out.now) (by-table a.p a.variable.now a.fixed.now sites table.result.slots a.limit a.cap n e (rw read at table.ensures))
+    ∙ ap (counted 66 most_forms a.out.now) (by-table a.p a.variable.now a.fixed.now sites table.result.slots a.limit a.cap n e (rw (read, c.from-n.ensures) at table.ensures))

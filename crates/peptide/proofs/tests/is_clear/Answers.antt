@@ -4,4 +4,4 @@ use Rattle.peptide.proofs.tests.is_clear.Goals as goal
 
 pub returns : goal.returns
 unfolding clear
-returns c = rw (c.zero_from.ensures, c.zero_from-2.ensures)
+returns c = rw (c.zero_from.ensures, c.zero_from-2.ensures, c.from-n.ensures)

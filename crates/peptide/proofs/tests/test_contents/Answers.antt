@@ -1,8 +1,7 @@
 -- `test_contents` meets its contract. Assumes nothing.
-use Prim.Native.Nat.{ℕ}
+use Prim.Native.Nat.{ℕ, ◌-◌}
 use mathlib.Core.Path.{◌≡◌, sym, ap, ◌∙◌}
 use native.Mathlib.Omega.{arith}
-use native.Mathlib.Nat.{sub-zero}
 use lib.ListN.{length, take}
 use Rattle.letters.specs.Letters.{first_bad}
 use Rattle.peptide.specs.Peptides.{residues_of}
@@ -18,15 +17,16 @@ slice_bounds-first_bad-end c = let n : length c.args.p.letters ≡ 64 = search r
 found : (c : After-first_bad-bad) → c.first_bad-bad.result ≡ first_bad (residues_of c.args.p)
 found c =
     let p = c.args.p in
-    c.first_bad-bad.ensures ∙ ap (λ (k : ℕ). first_bad (take k p.letters)) (sub-zero p.len)
+    let z : c.from-n.result - 0 ≡ p.len = omega arith in
+    c.first_bad-bad.ensures ∙ ap (λ (k : ℕ). first_bad (take k p.letters)) z
 
 pub returns-then-bad-n : goal.returns-then-bad-n
-returns-then-bad-n c = contents_letter c.args.p c.first_bad-bad.result (found (goal.at.returns-then-bad-n c).After-first_bad-bad) c.if-bad-n.true
+returns-then-bad-n c = contents_letter c.args.p c.first_bad-bad.result (found (goal.at.returns-then-bad-n c).After-first_bad-bad) (omega (arith, c.if-bad-n.true, c.from-n.ensures))
 
 pub returns-then-is_clear : goal.returns-then-is_clear
 returns-then-is_clear c =
-    contents-clear c.args.p c.first_bad-bad.result (found (goal.at.returns-then-is_clear c).After-first_bad-bad) c.if-bad-n.false (sym c.is_clear.ensures ∙ c.if-is_clear.true)
+    contents-clear c.args.p c.first_bad-bad.result (found (goal.at.returns-then-is_clear c).After-first_bad-bad) (omega (arith, c.if-bad-n.false, c.from-n.ensures)) (sym c.is_clear.ensures ∙ c.if-is_clear.true)
 
 pub returns-else-is_clear : goal.returns-else-is_clear
 returns-else-is_clear c =
-    contents-field c.args.p c.first_bad-bad.result (found (goal.at.returns-else-is_clear c).After-first_bad-bad) c.if-bad-n.false (sym c.is_clear.ensures ∙ c.if-is_clear.false)
+    contents-field c.args.p c.first_bad-bad.result (found (goal.at.returns-else-is_clear c).After-first_bad-bad) (omega (arith, c.if-bad-n.false, c.from-n.ensures)) (sym c.is_clear.ensures ∙ c.if-is_clear.false)

@@ -1,18 +1,20 @@
 -- `Peptide::reverse` meets its contract. Assumes nothing.
-use mathlib.Core.Path.{sym, ap, ◌∙◌}
+use Rattle.std.proofs.Common.{sym, ap}
+use Rattle.std.proofs.lemmas.Result.{err_from_is_err_and}
 use Rattle.peptide.specs.Peptides.{made_or, reversed_peptide}
 use Rattle.peptide.specs.PeptideLaws.{passed-fits}
 use Rattle.peptide.proofs.making.Peptide.reverse.Goals as goal
 
-pub returns-in-Refused : goal.returns-in-Refused
-returns-in-Refused c =
-    let p = c.args.self in
-    ap (λ t. made_or t (reversed_peptide p) p) (sym c.in-Refused.is ∙ c.test_peptide.ensures)
+pub returns-in_err-test_peptide : goal.returns-in_err-test_peptide
+returns-in_err-test_peptide c =
+    let s = c.args.self in
+    let p = err_from_is_err_and c.from_residual.result c.from_residual.ensures.1 in
+    rw (p.1, p.2) (ap (λ t. made_or t (reversed_peptide s) s) c.in_err-test_peptide.ensures)
 
-pub turned-peptide-requires : goal.turned-peptide-requires
-turned-peptide-requires c = passed-fits c.args.self (sym c.test_peptide.ensures ∙ c.in_default.is)
+pub turned-requires : goal.turned-requires
+turned-requires c = passed-fits c.args.self (sym c.in_ok-test_peptide.ensures)
 
 pub returns : goal.returns
 returns c =
-    let e = sym c.in_default.is ∙ c.test_peptide.ensures in
-    rw (← e, c.turned-peptide.ensures)
+    let e = c.in_ok-test_peptide.ensures in
+    rw (← e, c.turned.ensures)
