@@ -51,7 +51,7 @@ words_ordered (suc k) h (x ∷ xs) (y ∷ ys) p q l = ⊎_elim less (λ (g : y �
         (lex_eq x y xs ys e ∙ r.0, lex_eq y x ys xs (sym e) ∙ r.1)
 
 -- letters one at a time
-packed-next : (h k i : ℕ) (xs : List ℕ) → packed h (suc k) (drop i xs) ≡ packed (h * 27 + (get_or xs i 0 - 64)) k (drop (suc i) xs)
+pub packed-next : (h k i : ℕ) (xs : List ℕ) → packed h (suc k) (drop i xs) ≡ packed (h * 27 + (get_or xs i 0 - 64)) k (drop (suc i) xs)
 packed-next h k i xs = ⊎_elim inside outside (below? i (length xs))
   where
     inside : i < length xs → packed h (suc k) (drop i xs) ≡ packed (h * 27 + (get_or xs i 0 - 64)) k (drop (suc i) xs)

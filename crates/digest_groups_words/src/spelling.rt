@@ -24,14 +24,14 @@ fn place(bounds: &[u32], protein: u32, start: u32) -> usize
 fn front(position: u8, decoy: u8) -> u64
     ensures { result ≡ position * 2 + decoy }
 {
-    position as u64 * 2 + decoy as u64
+    u64::from(position) * 2 + u64::from(decoy)
 }
 
 fn size(start: u32, end: u32, decoy: u8) -> u32
     requires { (start ≤ end) × (end ≤ 268435456) }
     ensures { result ≡ 2 * (end - start) + decoy }
 {
-    2 * (end - start) + decoy as u32
+    2 * (end - start) + u32::from(decoy)
 }
 
 // What a digest's 20 bytes are sorted by.
@@ -59,8 +59,7 @@ fn put_spelling(w: &mut [u32], n: usize, i: usize, s: Spelling)
     requires { (n ≤ 1048576) × (i < n) × (5 * n ≤ length w.old) }
     ensures { w.new ≡ set (set (set (set w.old i i) (2 * n + i) s.word) (3 * n + i) s.from) (4 * n + i) s.size }
 {
-    let number = i as u32;
-    w[i] = number;
+    w[i] = i as u32;
     w[2 * n + i] = s.word;
     w[3 * n + i] = s.from;
     w[4 * n + i] = s.size;
@@ -71,11 +70,9 @@ pub fn spell_all(letters: &[u8], bounds: &[u32], digests: &[u8], w: &mut [u32], 
     requires { GoodDigests bounds.now letters.now digests.now n × (5 * n ≤ length w.old) }
     ensures { DigestTables bounds.now letters.now digests.now n n w.new }
 {
-    let mut i = 0;
-    while i < n {
+    for i in 0..n {
         let at = 20 * i;
         let s = spelled(letters, bounds, &digests[at..at + 20]);
         put_spelling(w, n, i, s);
-        i += 1;
     }
 }

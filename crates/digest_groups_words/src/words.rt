@@ -7,7 +7,7 @@ ghost use Rattle.digest_groups_words.specs.WordLaws.{Spelt};
 fn digit(letter: u8) -> u64
     ensures { (result ≡ letter - 64) × (result ≤ 191) }
 {
-    if letter < 64 { 0 } else { letter as u64 - 64 }
+    u64::from(letter.saturating_sub(64))
 }
 
 // One letter more.
@@ -25,11 +25,9 @@ pub(crate) fn word(part: &[u8], decoy: bool, front: u64) -> u32
     requires { (front ≤ 7) × Spelt (letters_of decoy part.now) }
     ensures { result ≡ packed front 6 (letters_of decoy part.now) }
 {
-    let a = next(front, part, decoy, 0);
-    let b = next(a, part, decoy, 1);
-    let c = next(b, part, decoy, 2);
-    let d = next(c, part, decoy, 3);
-    let e = next(d, part, decoy, 4);
-    let f = next(e, part, decoy, 5);
-    f as u32
+    let mut h = front;
+    for i in 0..6 {
+        h = next(h, part, decoy, i);
+    }
+    h as u32
 }
