@@ -22,11 +22,8 @@ fn take_proteins(digests: &[u8], w: &mut [u32], lo: usize, hi: usize)
     requires { (lo ≤ hi) × (hi ≤ length w.old) × ((i : ℕ) → lo ≤ i → i < hi → 20 * get_or w.old i 0 + 20 ≤ length digests.now) }
     ensures { Replaced (λ x. protein_in (digest_at digests.now x)) w.old w.new lo hi }
 {
-    let mut i = lo;
-    while i < hi {
-        let p = protein_of(digests, w[i]);
-        w[i] = p;
-        i += 1;
+    for i in lo..hi {
+        w[i] = protein_of(digests, w[i]);
     }
 }
 
@@ -39,11 +36,9 @@ fn put_group(digest: &[u8], at: usize, count: usize, out: &mut [u8], g: usize)
         return;
     }
     let k = 28 * g;
-    let first = at as u32;
-    let number = count as u32;
     records::put_at(out, k, digest);
-    records::put_u32(out, k + 20, first);
-    records::put_u32(out, k + 24, number);
+    records::put_u32(out, k + 20, at as u32);
+    records::put_u32(out, k + 24, count as u32);
 }
 
 // Makes the numbers from lo up to hi the list of their proteins, sorted by name.
@@ -69,8 +64,7 @@ fn gather_run(
     requires { (lo < n) × DigestsReady digests.now n lo w.old }
     ensures { RunGrouped names.now letters.now digests.now n lo w.old groups.old g result w.new groups.new }
 {
-    let all = n as u32;
-    let hi = sorting_runs::run_end(By::Spelled(all), letters, w, lo, n, 2 * n);
+    let hi = sorting_runs::run_end(By::Spelled(n as u32), letters, w, lo, n, 2 * n);
     let at = 20 * (w[lo] as usize);
     put_group(&digests[at..at + 20], lo, hi - lo, groups, g);
     list_proteins(names, digests, w, lo, hi, n);
@@ -91,6 +85,7 @@ pub fn gather_runs(
 {
     let mut lo = 0;
     let mut g = 0;
+    // A while: each turn goes to the end of a run.
     while lo < n {
         lo = gather_run(names, letters, digests, w, n, lo, groups, g);
         g += 1;

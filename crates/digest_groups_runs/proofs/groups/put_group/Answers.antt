@@ -17,7 +17,7 @@ pub returns : goal.returns
 returns c =
     let a = c.args in
     let r : a.g < room_of 28 1048576 a.out.now = rw c.room_for.ensures at c.if-room_for-g.false in
-    let x = c.put_bytes.ensures in
+    let x = c.put_at.ensures in
     let y = c.put_u32.ensures in
     let z = c.put_u32-2.ensures in
     rw (z, y, x) (group_stores a.out.now (28 * a.g) a.digest.now a.at a.count c.requires.0) ∙ stored-free 28 1048576 a.out.now a.g (a.digest.now ++ le 4 a.at ++ le 4 a.count) r
