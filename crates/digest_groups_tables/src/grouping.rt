@@ -15,9 +15,8 @@ fn arrange(letters: &[u8], bounds: &[u32], digests: &[u8], w: &mut [u32], n: usi
     requires { GoodDigests bounds.now letters.now digests.now n × (5 * n ≤ length w.old) }
     ensures { DigestsSorted bounds.now letters.now digests.now n w.new }
 {
-    let all = n as u32;
     spell_all(letters, bounds, digests, w, n);
-    sorting_slices::sort(By::Spelled(all), letters, w, 0, n, n, 2 * n);
+    sorting_slices::sort(By::Spelled(n as u32), letters, w, 0, n, n, 2 * n);
 }
 
 // How many groups there are, or that a list has no room for all.
