@@ -32,15 +32,6 @@ coded c =
     let e = code-number a.letters.now l.i a.q a.m (26 * l.rest + c.digit.result) c.place-at.result w c.place-at.ensures in
     (e, rw e (code-small a.letters.now l.i a.q a.m c.requires.3))
 
-pub overflow_cast-code : goal.overflow_cast-code
-overflow_cast-code c = omega (arith, (coded (goal.at.overflow_cast-code c).After-place-at).1)
-
-pub bounds-count-at : goal.bounds-count-at
-bounds-count-at c = omega (arith, (coded (goal.at.bounds-count-at c).After-place-at).1)
-
-pub bounds-count-at-in-loop-i : goal.bounds-count-at-in-loop-i
-bounds-count-at-in-loop-i c = omega (arith, (coded (goal.at.bounds-count-at-in-loop-i c).After-place-at).1)
-
 -- without its first letter
 off : (c : After-digit-in-loop-i) → (c.power-top.result * c.digit-in-loop-i.result ≤ 26 * c.loop-i.rest + c.digit.result) × (26 * c.loop-i.rest + c.digit.result - c.power-top.result * c.digit-in-loop-i.result ≡ word_at c.args.letters.now (c.loop-i.i + 1) (c.args.q - 1))
 off c =
