@@ -60,6 +60,3 @@ returns c = let a = c.args in
     let l = c.loop-t in
     let z : l.t ≡ 0 = omega arith in
     l.invariant.1 (Behind l.last) (rw z (found_from_end a.letters.now (ranges_in a.count a.out.now) (links_in a.count a.out.now) (part a.letters.now (site a.a a.e)) l.last))
-
-pub overflow_sub-t : goal.overflow_sub-t
-overflow_sub-t c = omega arith
