@@ -1,10 +1,7 @@
 -- `last_below` meets its contract: what it answers was compared. Assumes nothing.
-use Prim.Native.Nat.{◌-◌, ◌*◌}
+use Prim.Native.Nat.{◌-◌}
 use native.Mathlib.Omega.{arith}
 use Rattle.enzyme_search.proofs.sampling.last_below.Goals as goal
-
-pub overflow_cast-t : goal.overflow_cast-t
-overflow_cast-t c = omega (arith, c.shared_slice_known-4-1.given (3 * (c.how_many_below-k.result - 1)))
 
 pub overflow_sub-t : goal.overflow_sub-t
 overflow_sub-t c = let k = c.how_many_below-k in

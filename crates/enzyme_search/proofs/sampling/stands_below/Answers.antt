@@ -1,10 +1,6 @@
 -- `stands_below` meets its contract. Assumes nothing.
-use Prim.Native.Nat.{◌*◌}
 use native.Mathlib.Omega.{arith}
 use Rattle.enzyme_search.proofs.sampling.stands_below.Goals as goal
-
-pub overflow_cast-t : goal.overflow_cast-t
-overflow_cast-t c = omega (arith, c.shared_slice_known-5-1.given (3 * c.args.j))
 
 pub overflow_sub-t : goal.overflow_sub-t
 overflow_sub-t c = c.requires.4.some c.args.j c.requires.5
