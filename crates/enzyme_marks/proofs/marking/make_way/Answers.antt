@@ -10,6 +10,3 @@ pub loop-i-preserved : goal.loop-i-preserved
 loop-i-preserved c = let a = c.args in
     let l = c.loop-i in
     (omega arith, moved_on a.marks.now l.marks l.i a.high (omega arith) (omega arith) c.requires.0 l.invariant.1)
-
-pub shape_of-marks : goal.shape_of-marks
-shape_of-marks c = c.loop-i.invariant.1.long

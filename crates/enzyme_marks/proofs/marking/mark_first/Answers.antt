@@ -1,15 +1,11 @@
 -- `mark_first` meets its contract. Assumes nothing.
 use native.Mathlib.Omega.{arith}
-use lib.ListN.{length-set}
 use Rattle.enzyme_search.specs.MarkLaws.{first_other, first-new, first_over}
 use Rattle.enzyme_marks.proofs.marking.mark_first.Goals as goal
 
 pub returns-then-k-gt0 : goal.returns-then-k-gt0
 returns-then-k-gt0 c = let a = c.args in
     first_other a.marks.now a.samples a.first a.k c.requires.1 c.requires.2 (omega arith)
-
-pub bounds-marks-1 : goal.bounds-marks-1
-bounds-marks-1 c = simp length-set (omega arith)
 
 pub returns-then-samples-eq0 : goal.returns-then-samples-eq0
 returns-then-samples-eq0 c = let a = c.args in

@@ -14,8 +14,5 @@ loop-i-preserved c = let a = c.args in
     let l = c.loop-i in
     thinning_on a.marks.now l.marks l.i a.samples c.both-size.result (get_or l.marks (3 * (2 * l.i) + 2) 0) (omega arith) c.requires l.invariant
 
-pub shape_of-marks : goal.shape_of-marks
-shape_of-marks c = c.loop-i.invariant.done.long
-
 pub returns : goal.returns
 returns c = let e : c.loop-i.i ≡ c.div_ceil-left.result = omega arith in rw (← e) c.loop-i.invariant.done
