@@ -1,21 +1,18 @@
 -- Worked cases of reading, proved of the definitions. Bytes: LF 10, CR 13, blank 32, tab 9, `>` 62.
-use Rattle.std.specs.Prelude.{ℕ, refl, length, replicate}
+use Rattle.std.specs.Prelude.{ℕ, refl, length, replicate, Some, None, Ok, Err}
 use mathlib.Core.List.{List, [], ◌∷◌, ◌++◌, flatten}
 use Rattle.records.specs.Cases.{Case, Hold}
 use Rattle.records.specs.Room.{written}
 use Rattle.records.specs.Search.{seek}
 use Rattle.letters.specs.Letters.{is_capital, capital, is_letter}
 use Rattle.catalogue_spec.specs.Names.{name_length, padded}
-use Rattle.fasta.specs.declared.entry.Read.{Read}
-use Rattle.fasta.specs.declared.entry.Read.TheVariants.{Found, Nothing, Long, Refused}
-use Rattle.fasta.specs.Entries.{read_number, read_place, read_outcome}
+use Rattle.fasta.specs.Entries.{Read, read_number, read_place, read_outcome}
 
 -- the answer's number and place, and of an entry the place behind it and how many letters it has
 abbrev told_read : Read → List ℕ
-told_read (Found e) = 0 ∷ 0 ∷ e.next ∷ e.letters ∷ []
-told_read Nothing = 0 ∷ 0 ∷ []
-told_read (Long at) = read_number (Long at) ∷ read_place (Long at) ∷ []
-told_read (Refused why) = read_number (Refused why) ∷ read_place (Refused why) ∷ []
+told_read (Ok (Some e)) = 0 ∷ 0 ∷ e.next ∷ e.letters ∷ []
+told_read (Ok None) = 0 ∷ 0 ∷ []
+told_read (Err why) = read_number (Err why) ∷ read_place (Err why) ∷ []
 
 -- a file, a place, and so many bytes of room for the name and for the letters, each 170 before; then the answer and what stands in both
 case : List ℕ → ℕ → ℕ → ℕ → List ℕ → List ℕ → List ℕ → Case

@@ -1,5 +1,5 @@
 -- What the code of reading shows, in the words of the definitions. Assumes nothing.
-use Rattle.std.specs.Prelude.{ℕ, zero, suc, ◌+◌, ◌-◌, ◌≤◌, ◌<◌, ◌≡◌, refl, true, false, cond, ◌&&◌, List, [], ◌∷◌, ◌++◌, length, take, drop, get_or, set, replicate, ltb, leb, eqb, Err}
+use Rattle.std.specs.Prelude.{ℕ, zero, suc, ◌+◌, ◌-◌, ◌≤◌, ◌<◌, ◌≡◌, refl, true, false, cond, ◌&&◌, List, [], ◌∷◌, ◌++◌, length, take, drop, get_or, set, replicate, ltb, leb, eqb, Err, Some, None, Ok}
 use Rattle.std.proofs.Common.{sym, ap, ◌∙◌, ⊎_elim, arith, add-one, drop_of_length-le, length-append, drop-cons, drop-drop, lt-ltb, le-ltb, le-leb, leb-true, ltb-false, eq-eqb, ne_eqb}
 use Rattle.std.proofs.Math.Nat.{add-sub_cancel_left}
 use Rattle.std.proofs.lemmas.List.{length-map, length-replicate}
@@ -20,7 +20,7 @@ use Rattle.catalogue_spec.specs.Names.{name_length, padded}
 use Rattle.fasta_lines.specs.declared.runs.Run.TheVariants.{Ends, Line, Letters}
 use Rattle.fasta_lines.specs.Lines.{run_of, entry_length}
 use Rattle.fasta_lines.specs.LineLaws.{run-bound}
-use Rattle.fasta.specs.declared.entry.Read.TheVariants.{Found, Nothing, Long, Refused}
+use Rattle.fasta.specs.declared.entry.Fault.TheVariants.{Long, Refused}
 use Rattle.fasta.specs.Entries.{entry_name, entry_lines, entry_letters, too_long, good_name, good_letters, entry_tested, given_outcome, entry_outcome, opened_outcome, read_outcome}
 use Rattle.records.specs.Answers.{Passed}
 
@@ -96,12 +96,12 @@ module _ (q : ℕ) (e name letters : List ℕ) (short : length (entry_name e) �
   stored-letters = stored-text 65536 (capitals (entry_letters e)) letters (omega (arith, same))
 
   module _ (m : ℕ) (n l : List ℕ) (i : m ≡ length (entry_letters e)) (j : n ≡ fitted 64 1 name (padded (entry_name e) ∷ [])) (k : l ≡ sets letters 0 (capitals (entry_letters e))) where
-    pub given_found : (leb 64 (length name) && leb m (length letters)) ≡ true → outcome (Found (record { next = q + 1 + length e; letters = m })) (n ∷ l ∷ []) ≡ given_outcome q e name letters
+    pub given_found : (leb 64 (length name) && leb m (length letters)) ≡ true → outcome (Ok (Some (record { next = q + 1 + length e; letters = m }))) (n ∷ l ∷ []) ≡ given_outcome q e name letters
     given_found f =
         let g : (leb 64 (length name) && leb (length (entry_letters e)) (length letters)) ≡ true = rw i at f in
         rw (fits_name, fits-letters, g, i, j, k ∙ stored-letters)
 
-    pub given_short : (leb 64 (length name) && leb m (length letters)) ≡ false → outcome (Refused Room) (n ∷ l ∷ []) ≡ given_outcome q e name letters
+    pub given_short : (leb 64 (length name) && leb m (length letters)) ≡ false → outcome (Err (Refused Room)) (n ∷ l ∷ []) ≡ given_outcome q e name letters
     given_short f =
         let g : (leb 64 (length name) && leb (length (entry_letters e)) (length letters)) ≡ false = rw i at f in
         rw (fits_name, fits-letters, g, j, k ∙ stored-letters)
@@ -109,10 +109,10 @@ module _ (q : ℕ) (e name letters : List ℕ) (short : length (entry_name e) �
 -- ---- an entry: 1, then what the tests say, then what is given
 
 module _ (q : ℕ) (e name letters : List ℕ) where
-  pub entry_1 : too_long e ≡ true → outcome (Long q) (name ∷ letters ∷ []) ≡ entry_outcome q e name letters
+  pub entry_1 : too_long e ≡ true → outcome (Err (Long q)) (name ∷ letters ∷ []) ≡ entry_outcome q e name letters
   entry_1 h = rw h
 
-  pub entry-refused : too_long e ≡ false → (why : Refusal) → entry_tested q e ≡ Err why → outcome (Refused why) (name ∷ letters ∷ []) ≡ entry_outcome q e name letters
+  pub entry-refused : too_long e ≡ false → (why : Refusal) → entry_tested q e ≡ Err why → outcome (Err (Refused why)) (name ∷ letters ∷ []) ≡ entry_outcome q e name letters
   entry-refused h why p = rw (h, p)
 
   pub entry_given : too_long e ≡ false → entry_tested q e ≡ Passed → given_outcome q e name letters ≡ entry_outcome q e name letters
@@ -121,7 +121,7 @@ module _ (q : ℕ) (e name letters : List ℕ) where
 -- ---- reading at a place
 
 module _ (bytes : List ℕ) (at : ℕ) (n l : List ℕ) where
-  pub read_9 : length bytes < at → outcome (Refused (Field 0)) (n ∷ l ∷ []) ≡ read_outcome bytes at n l
+  pub read_9 : length bytes < at → outcome (Err (Refused (Field 0))) (n ∷ l ∷ []) ≡ read_outcome bytes at n l
   read_9 h = rw (lt-ltb _ _ h)
 
   pub read_opened : at ≤ length bytes → (r : ℕ) → r ≡ run_of Ends (take (length bytes - at) (drop at bytes)) → opened_outcome (at + r) (drop (at + r) bytes) n l ≡ read_outcome bytes at n l
@@ -130,10 +130,10 @@ module _ (bytes : List ℕ) (at : ℕ) (n l : List ℕ) where
       rw (le-ltb _ _ h) (ap (λ (z : List ℕ). opened_outcome (at + r) z n l) (sym (drop-drop r at bytes)) ∙ ap (λ (z : ℕ). opened_outcome (at + z) (drop z (drop at bytes)) n l) f)
 
 module _ (bytes : List ℕ) (q : ℕ) (n l : List ℕ) where
-  pub opened_none : length bytes ≤ q → outcome Nothing (n ∷ l ∷ []) ≡ opened_outcome q (drop q bytes) n l
+  pub opened_none : length bytes ≤ q → outcome (Ok None) (n ∷ l ∷ []) ≡ opened_outcome q (drop q bytes) n l
   opened_none h = rw (drop_of_length-le bytes h)
 
-  pub opened_14 : q < length bytes → (get_or bytes q 0 ≡ 62 → ⊥) → outcome (Refused (Stray q)) (n ∷ l ∷ []) ≡ opened_outcome q (drop q bytes) n l
+  pub opened_14 : q < length bytes → (get_or bytes q 0 ≡ 62 → ⊥) → outcome (Err (Refused (Stray q))) (n ∷ l ∷ []) ≡ opened_outcome q (drop q bytes) n l
   opened_14 h b = rw (drop-cons bytes q 0 h, ne_eqb _ _ b)
 
   pub opened_entry : q < length bytes → get_or bytes q 0 ≡ 62 → (k : ℕ) → k ≡ entry_length (take (length bytes - (q + 1)) (drop (q + 1) bytes))

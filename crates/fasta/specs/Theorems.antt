@@ -1,7 +1,7 @@
 -- What an entry that was found is: it lies behind the place read at and within the file, its name is a name of a catalogue, and its
 -- letters are letters. And a file may be read in pieces. Assumes nothing.
 use Prim.Native.Nat.{ℕ, suc, ◌+◌, ◌-◌, ◌≤◌, ◌<◌}
-use Rattle.std.specs.Prelude.{◌≡◌, refl, Bool, true, cond, ◌&&◌, ◌||◌, List, [], ◌∷◌, take, drop, get_or, ltb, leb, eqb, Ok, Err}
+use Rattle.std.specs.Prelude.{◌≡◌, refl, Bool, true, cond, ◌&&◌, ◌||◌, List, [], ◌∷◌, take, drop, get_or, ltb, leb, eqb, Ok, Err, Some, None}
 use Rattle.std.proofs.Common.{sym, ap, subst, ◌∙◌, arith, length-take, length-drop, take_at, take_all, ltb-true, ltb-false, lt-ltb, le-ltb, leb-true, eqb-true}
 use Rattle.std.proofs.Math.Bool.{false}
 use Rattle.std.proofs.Math.Logic.{⊎_elim}
@@ -24,9 +24,8 @@ use Rattle.fasta_lines.specs.declared.runs.Run.TheVariants.{Ends, Letters}
 use Rattle.fasta_lines.specs.Lines.{line_end, run_of, together, entry_length}
 use Rattle.fasta_lines.specs.LineLaws.{run-bound}
 use Rattle.fasta.specs.declared.entry.Entry.{Entry}
-use Rattle.fasta.specs.declared.entry.Read.{Read}
-use Rattle.fasta.specs.declared.entry.Read.TheVariants.{Found, Nothing, Long, Refused}
-use Rattle.fasta.specs.Entries.{entry_name, entry_lines, entry_letters, too_long, good_name, entry_tested, given_outcome, entry_outcome, opened_outcome, file_outcome, read_outcome}
+use Rattle.fasta.specs.declared.entry.Fault.TheVariants.{Long, Refused}
+use Rattle.fasta.specs.Entries.{Read, entry_name, entry_lines, entry_letters, too_long, good_name, entry_tested, given_outcome, entry_outcome, opened_outcome, file_outcome, read_outcome}
 use Rattle.fasta.specs.EntryLaws.{length-padded, padded-at, passed_good, passed_name, passed-letters}
 use Rattle.records.specs.Answers.{Passed, Tested}
 
@@ -36,13 +35,13 @@ answered : {A : Type 0} {a b : A} {k l : List (List ℕ)} → outcome a k ≡ ou
 answered {A} e = ap (λ (o : Outcome A). o.answer) e
 
 module _ (f : Entry) {φ : Type 0} where
-  not-refused : (why : Refusal) → Found f ≡ Refused why → φ
+  not-refused : (why : Refusal) → Ok (Some f) ≡ Err (Refused why) → φ
   not-refused why e = let z : ◌≡◌ {A = ℕ} 0 1 = cc in absurd (let f : ⊥ = omega arith in f)
 
-  not_nothing : Found f ≡ Nothing → φ
+  not_nothing : ◌≡◌ {A = Read} (Ok (Some f)) (Ok None) → φ
   not_nothing e = let z : ◌≡◌ {A = ℕ} 0 1 = cc in absurd (let f : ⊥ = omega arith in f)
 
-  not_long : (at : ℕ) → Found f ≡ Long at → φ
+  not_long : (at : ℕ) → Ok (Some f) ≡ Err (Long at) → φ
   not_long at e = let z : ◌≡◌ {A = ℕ} 0 1 = cc in absurd (let f : ⊥ = omega arith in f)
 
 -- ---- it is an entry of the file that passed, and was given
@@ -54,33 +53,33 @@ record Entered (f : Entry) (k : List (List ℕ)) (bytes : List ℕ) (at : ℕ) (
   ends : q + 1 + length e ≤ length bytes
   short : too_long e ≡ false
   passed : entry_tested q e ≡ Passed
-  given : outcome (Found f) k ≡ given_outcome q e n l
+  given : outcome (Ok (Some f)) k ≡ given_outcome q e n l
 
 module _ (f : Entry) (k : List (List ℕ)) (n l : List ℕ) where
-  entry-passed : (q : ℕ) (e : List ℕ) → outcome (Found f) k ≡ entry_outcome q e n l → (too_long e ≡ false) × (entry_tested q e ≡ Passed) × (outcome (Found f) k ≡ given_outcome q e n l)
+  entry-passed : (q : ℕ) (e : List ℕ) → outcome (Ok (Some f)) k ≡ entry_outcome q e n l → (too_long e ≡ false) × (entry_tested q e ≡ Passed) × (outcome (Ok (Some f)) k ≡ given_outcome q e n l)
   entry-passed q e h = go (too_long e) (entry_tested q e) refl refl h
     where
       go : (t : Bool) (u : Tested) → too_long e ≡ t → entry_tested q e ≡ u
-          → outcome (Found f) k ≡ cond t (outcome (Long q) (n ∷ l ∷ [])) (unless_refused u Refused (n ∷ l ∷ []) (given_outcome q e n l))
-          → (too_long e ≡ false) × (entry_tested q e ≡ Passed) × (outcome (Found f) k ≡ given_outcome q e n l)
+          → outcome (Ok (Some f)) k ≡ cond t (outcome (Err (Long q)) (n ∷ l ∷ [])) (unless_refused u (λ why. Err (Refused why)) (n ∷ l ∷ []) (given_outcome q e n l))
+          → (too_long e ≡ false) × (entry_tested q e ≡ Passed) × (outcome (Ok (Some f)) k ≡ given_outcome q e n l)
       go true u a b g = not_long f q (answered g)
       go false (Err why) a b g = not-refused f why (answered g)
       go false (Ok _) a b g = (a, b, g)
 
-  opened_passed : (q : ℕ) (s : List ℕ) → outcome (Found f) k ≡ opened_outcome q s n l
-      → (e : List ℕ) × (suc (length e) ≤ length s) × (too_long e ≡ false) × (entry_tested q e ≡ Passed) × (outcome (Found f) k ≡ given_outcome q e n l)
+  opened_passed : (q : ℕ) (s : List ℕ) → outcome (Ok (Some f)) k ≡ opened_outcome q s n l
+      → (e : List ℕ) × (suc (length e) ≤ length s) × (too_long e ≡ false) × (entry_tested q e ≡ Passed) × (outcome (Ok (Some f)) k ≡ given_outcome q e n l)
   opened_passed q [] h = not_nothing f (answered h)
   opened_passed q (b ∷ s) h = go (eqb b 62) h
     where
-      go : (t : Bool) → outcome (Found f) k ≡ cond t (entry_outcome q (take (entry_length s) s) n l) (outcome (Refused (Stray q)) (n ∷ l ∷ []))
-          → (e : List ℕ) × (suc (length e) ≤ suc (length s)) × (too_long e ≡ false) × (entry_tested q e ≡ Passed) × (outcome (Found f) k ≡ given_outcome q e n l)
+      go : (t : Bool) → outcome (Ok (Some f)) k ≡ cond t (entry_outcome q (take (entry_length s) s) n l) (outcome (Err (Refused (Stray q))) (n ∷ l ∷ []))
+          → (e : List ℕ) × (suc (length e) ≤ suc (length s)) × (too_long e ≡ false) × (entry_tested q e ≡ Passed) × (outcome (Ok (Some f)) k ≡ given_outcome q e n l)
       go false g = not-refused f (Stray q) (answered g)
       go true g = let e = take (entry_length s) s in let p = entry-passed q e g in (e, omega (arith, length-take (entry_length s) s), p.0, p.1, p.2)
 
-  entered : (bytes : List ℕ) (at : ℕ) → outcome (Found f) k ≡ read_outcome bytes at n l → Entered f k bytes at n l
+  entered : (bytes : List ℕ) (at : ℕ) → outcome (Ok (Some f)) k ≡ read_outcome bytes at n l → Entered f k bytes at n l
   entered bytes at h = go (ltb (length bytes) at) refl h
     where
-      go : (t : Bool) → ltb (length bytes) at ≡ t → outcome (Found f) k ≡ cond t (outcome (Refused (Field 0)) (n ∷ l ∷ [])) (file_outcome at (drop at bytes) n l) → Entered f k bytes at n l
+      go : (t : Bool) → ltb (length bytes) at ≡ t → outcome (Ok (Some f)) k ≡ cond t (outcome (Err (Refused (Field 0))) (n ∷ l ∷ [])) (file_outcome at (drop at bytes) n l) → Entered f k bytes at n l
       go true a g = not-refused f (Field 0) (answered g)
       go false a g =
           let s = drop at bytes in
@@ -104,11 +103,11 @@ record Given (f : Entry) (k : List (List ℕ)) (q : ℕ) (e n l : List ℕ) : Ty
   count : f.letters ≡ length (entry_letters e)
   lent : k ≡ fitted 64 1 n (padded (entry_name e) ∷ []) ∷ fitted 1 65536 l (singly (capitals (entry_letters e))) ∷ []
 
-given_room : (f : Entry) (k : List (List ℕ)) (q : ℕ) (e n l : List ℕ) → outcome (Found f) k ≡ given_outcome q e n l → Given f k q e n l
+given_room : (f : Entry) (k : List (List ℕ)) (q : ℕ) (e n l : List ℕ) → outcome (Ok (Some f)) k ≡ given_outcome q e n l → Given f k q e n l
 given_room f k q e n l h = go (fits 64 1 n (padded (entry_name e) ∷ [])) (fits 1 65536 l (singly (capitals (entry_letters e)))) refl refl (ap (λ (o : Outcome Read). o.answer) h)
   where
     go : (t u : Bool) → fits 64 1 n (padded (entry_name e) ∷ []) ≡ t → fits 1 65536 l (singly (capitals (entry_letters e))) ≡ u
-        → Found f ≡ cond (t && u) (Found (record { next = q + 1 + length e; letters = length (entry_letters e) })) (Refused Room) → Given f k q e n l
+        → Ok (Some f) ≡ cond (t && u) (Ok (Some (record { next = q + 1 + length e; letters = length (entry_letters e) }))) (Err (Refused Room)) → Given f k q e n l
     go true true a b g = record { named = a; spelt = b; next = cc; count = cc; lent = ap (λ (o : Outcome Read). o.lent) h }
     go true false a b g = not-refused f Room g
     go false u a b g = not-refused f Room g
@@ -195,13 +194,13 @@ all-capitals (b ∷ s) h = (h.0, all-capitals s h.1)
 
 module _ (f : Entry) (bytes : List ℕ) (at : ℕ) (n l : List ℕ) where
   -- the place behind it lies past the place read at, and within the file
-  pub found_moves : (k : List (List ℕ)) → outcome (Found f) k ≡ read_outcome bytes at n l → (at < f.next) × (f.next ≤ length bytes)
+  pub found_moves : (k : List (List ℕ)) → outcome (Ok (Some f)) k ≡ read_outcome bytes at n l → (at < f.next) × (f.next ≤ length bytes)
   found_moves k h =
       let x = entered f k n l bytes at h in
       let g = given_room f k x.q x.e n l x.given in
       (omega (arith, x.begins, g.next), omega (arith, x.ends, g.next))
 
-  module _ (name letters : List ℕ) (h : outcome (Found f) (name ∷ letters ∷ []) ≡ read_outcome bytes at n l) where
+  module _ (name letters : List ℕ) (h : outcome (Ok (Some f)) (name ∷ letters ∷ []) ≡ read_outcome bytes at n l) where
     found : Entered f (name ∷ letters ∷ []) bytes at n l
     found = entered f (name ∷ letters ∷ []) n l bytes at h
 

@@ -1,6 +1,7 @@
 // What reading answers.
 ghost use Rattle.std.specs.Prelude.{◌≡◌};
-ghost use Rattle.fasta.specs.Entries.{read_number, read_place};
+ghost use Rattle.fasta.specs.declared.entry.Fault.TheVariants.{Refused};
+ghost use Rattle.fasta.specs.Entries.{fault_number, fault_place, read_number, read_place};
 
 use records::Refusal;
 
@@ -11,38 +12,60 @@ pub struct Entry {
     pub letters: u32,
 }
 
+// Why an entry was not read.
 #[derive(Clone, Copy)]
-pub enum Read {
-    Found(Entry),
-    // Only line ends are left.
-    Nothing,
+pub enum Fault {
     // 1: more than 65,536 letters. The place of the entry's `>` goes with it, where `Refusal::Size` has none.
     Long(usize),
     Refused(Refusal),
 }
 
-impl Read {
-    // The refusal's number, or 0.
+impl Fault {
+    // The refusal's number.
     pub fn number(self) -> u32
-        ensures { result ≡ read_number self }
+        ensures { result ≡ fault_number self }
     {
         match self {
-            Read::Found(_) => 0,
-            Read::Nothing => 0,
-            Read::Long(_) => 1,
-            Read::Refused(why) => why.number(),
+            Fault::Long(_) => 1,
+            Fault::Refused(why) => why.number(),
         }
     }
 
     // The refusal's place, or 0.
     pub fn place(self) -> usize
-        ensures { result ≡ read_place self }
+        ensures { result ≡ fault_place self }
     {
         match self {
-            Read::Found(_) => 0,
-            Read::Nothing => 0,
-            Read::Long(at) => at,
-            Read::Refused(why) => why.place(),
+            Fault::Long(at) => at,
+            Fault::Refused(why) => why.place(),
         }
+    }
+}
+
+impl From<Refusal> for Fault {
+    ghost from_gives = { λ why fault. fault ≡ Refused why };
+
+    fn from(why: Refusal) -> Fault {
+        Fault::Refused(why)
+    }
+}
+
+// The refusal's number, or 0.
+pub fn number_of(answer: Result<Option<Entry>, Fault>) -> u32
+    ensures { result ≡ read_number answer }
+{
+    match answer {
+        Ok(_) => 0,
+        Err(why) => why.number(),
+    }
+}
+
+// The refusal's place, or 0.
+pub fn place_of(answer: Result<Option<Entry>, Fault>) -> usize
+    ensures { result ≡ read_place answer }
+{
+    match answer {
+        Ok(_) => 0,
+        Err(why) => why.place(),
     }
 }

@@ -5,5 +5,5 @@ mod entry;
 mod naming;
 mod reading;
 
-pub use entry::{Entry, Read};
+pub use entry::{Entry, Fault, number_of, place_of};
 pub use reading::read_entry;

@@ -6,7 +6,6 @@ ghost use Rattle.catalogue_spec.specs.Names.{padded};
 ghost use Rattle.fasta.specs.Entries.{good_name};
 
 use catalogue_name::name_length;
-use records::{byte_at, put_byte};
 
 // Whether a text is a name: 1 to 64 bytes from 33 to 126.
 pub(crate) fn is_good_name(text: &[u8]) -> bool
@@ -19,17 +18,14 @@ pub(crate) fn is_good_name(text: &[u8]) -> bool
     (0 < text.len()) & (visible == text.len())
 }
 
-// Stores a text and zeros behind it, 64 bytes in all; past the text `byte_at` reads the zeros.
+// Stores a text and zeros behind it, 64 bytes in all.
 fn put_record(text: &[u8], out: &mut [u8])
-    requires { length text.now ≤ 64 }
+    requires { (length text.now ≤ 64) × (64 ≤ length out.old) }
     ensures { out.new ≡ sets out.old 0 (padded text.now) }
 {
-    let mut i = 0;
-    while i < 64 {
-        let b = byte_at(text, i);
-        put_byte(out, i, b);
-        i += 1;
-    }
+    let n = text.len();
+    out[..n].copy_from_slice(text);
+    out[n..64].fill(0);
 }
 
 // Stores a name as a record, where there is room for one.

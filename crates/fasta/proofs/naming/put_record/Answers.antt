@@ -1,34 +1,28 @@
--- `put_record` meets its contract: what is still to be stored from i on gives the whole. Assumes nothing.
-use Prim.Native.Nat.{ℕ, ◌+◌}
-use mathlib.Core.Path.{◌≡◌, refl, ap, ◌∙◌}
-use mathlib.Core.List.{List}
-use native.Mathlib.Omega.{arith}
-use lib.ListN.{drop, get_or, set}
-use lib.Seq.{sets}
-use Rattle.records.specs.StoreLaws.{store_end}
-use Rattle.catalogue_spec.specs.Names.{padded}
-use Rattle.fasta.specs.EntryLaws.{length-padded, padded-stored}
+-- `put_record` meets its contract: the text is stored, then the zeros behind it. Assumes nothing.
+use Rattle.std.specs.Prelude.{ℕ, ◌≡◌, ◌+◌, ◌-◌, ◌≤◌, List, ◌++◌, length, take, drop, replicate}
+use Rattle.std.proofs.Common.{sym, ap, ◌∙◌, arith, length-drop, length-take-le}
+use Rattle.std.proofs.Math.Seq.{length-sets}
+use Rattle.std.proofs.lemmas.List.{length-replicate}
+use Rattle.std.proofs.lemmas.List.Edits.{sets, sets-eq}
+use Rattle.records.specs.LeLaws.{sets_append}
+use Rattle.records.specs.StoreLaws.{part_stored}
 use Rattle.fasta.proofs.naming.put_record.Goals as goal
 
-pub loop-i-init : goal.loop-i-init
-loop-i-init c = (omega arith, refl, refl)
-
-pub loop-i-preserved : goal.loop-i-preserved
-loop-i-preserved c =
-    let t = c.args.text.now in
-    let l = c.loop-i in
-    let p = c.put_byte in
-    let e : p.new.out ≡ set l.out l.i (get_or t l.i 0) = cc in
-    (omega arith, p.auto.out ∙ l.invariant.1, ap (λ (z : List ℕ). sets z (l.i + 1) (drop (l.i + 1) (padded t))) e ∙ padded-stored l.out t l.i c.requires (omega arith) ∙ l.invariant.2)
-
-pub shape_of-out : goal.shape_of-out
-shape_of-out c = c.loop-i.invariant.1
+-- the front of a slice is what was copied to it
+front : (t o : List ℕ) → length t ≤ length o → t ++ drop (length t) o ≡ sets o 0 t
+front t o h = let e : 0 + length t ≡ length t = omega arith in sym (rw e at (sets-eq t o 0 (omega arith)))
 
 pub returns : goal.returns
-returns c = let l = c.loop-i in let t = c.args.text.now in store_end l.out (padded t) l.i l.i (omega (arith, length-padded t c.requires)) ∙ l.invariant.2
-
-pub overflow_add-i : goal.overflow_add-i
-overflow_add-i c = omega arith
-
-pub loop-i-smaller : goal.loop-i-smaller
-loop-i-smaller c = omega arith
+returns c =
+    let t = c.args.text.now in
+    let o = c.args.out.now in
+    let n = length t in
+    let z : List ℕ = replicate (64 - n) 0 in
+    let r : n ≤ 64 = c.requires.0 in
+    let q : 64 ≤ length o = c.requires.1 in
+    let a : c.copy_from_slice.new.self ++ drop n o ≡ sets o 0 t = rw c.copy_from_slice.ensures.after (front t o (omega arith)) in
+    let s : length (sets o 0 t) ≡ length o = length-sets o 0 t in
+    let k : length (take (64 - n) (drop n (sets o 0 t))) ≡ 64 - n = length-take-le (64 - n) (drop n (sets o 0 t)) (omega (arith, length-drop n (sets o 0 t))) in
+    let f : c.fill.new.self ≡ z = (rw a at (c.fill.ensures.after (λ y e. cc))) ∙ ap (λ (m : ℕ). replicate m 0) k in
+    let e : 0 + n ≡ n = omega arith in
+    rw a (part_stored (sets o 0 t) c.fill.new.self z n (64 - n) (omega (arith, s)) f (sym (length-replicate (64 - n) 0)) ∙ rw e at (sym (sets_append t z o 0)))

@@ -26,10 +26,10 @@ pub slice_bounds-is_good_name-end : goal.slice_bounds-is_good_name-end
 slice_bounds-is_good_name-end c = sym (length-take-le _ _ c.requires.3)
 
 pub returns-then-has_bad : goal.returns-then-has_bad
-returns-then-has_bad c = let a = c.args in tested_2 a.q a.e.now (sym (named (goal.at.returns-then-has_bad c).After-is_good_name) ∙ c.if-is_good_name.true) (sym (badly (goal.at.returns-then-has_bad c).After-has_bad) ∙ c.if-has_bad.true) _ _ c.requires.0 (ran (goal.at.returns-then-has_bad c).After-run_len-good)
-
-pub returns-then-is_good_name : goal.returns-then-is_good_name
-returns-then-is_good_name c = let a = c.args in tested-passed a.q a.e.now (sym (named (goal.at.returns-then-is_good_name c).After-is_good_name) ∙ c.if-is_good_name.true) (sym (badly (goal.at.returns-then-is_good_name c).After-has_bad) ∙ c.if-has_bad.false)
+returns-then-has_bad c = let a = c.args in tested_2 a.q a.e.now (sym (named (goal.at.returns-then-has_bad c).After-is_good_name) ∙ c.if-not-is_good_name.false) (sym (badly (goal.at.returns-then-has_bad c).After-has_bad) ∙ c.if-has_bad.true) _ _ c.requires.0 (ran (goal.at.returns-then-has_bad c).After-run_len-good)
 
 pub returns : goal.returns
-returns c = let a = c.args in tested_12 a.q a.e.now (sym (named (goal.at.returns c).After-is_good_name) ∙ c.if-is_good_name.false)
+returns c = let a = c.args in tested-passed a.q a.e.now (sym (named (goal.at.returns c).After-is_good_name) ∙ c.if-not-is_good_name.false) (sym (badly (goal.at.returns c).After-has_bad) ∙ c.if-has_bad.false)
+
+pub returns-then-not-is_good_name : goal.returns-then-not-is_good_name
+returns-then-not-is_good_name c = let a = c.args in tested_12 a.q a.e.now (sym (named (goal.at.returns-then-not-is_good_name c).After-is_good_name) ∙ c.if-not-is_good_name.true)

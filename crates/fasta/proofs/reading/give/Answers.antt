@@ -34,8 +34,8 @@ put_name-requires c = subst (λ (z : ℕ). length (take z c.args.e.now) ≤ 64) 
 pub put_letters-count-requires : goal.put_letters-count-requires
 put_letters-count-requires c = subst (λ (l : List ℕ). run_of Letters l ≡ length l) (sym (lines_part c.args.e.now _ c.requires.0)) (passed-letters c.args.q c.args.e.now c.requires.5)
 
-pub overflow_cast-many : goal.overflow_cast-many
-overflow_cast-many c = omega (arith, counted (goal.at.overflow_cast-many c).After-put_letters-count, c.requires.4)
+pub overflow_cast-letters : goal.overflow_cast-letters
+overflow_cast-letters c = omega (arith, counted (goal.at.overflow_cast-letters c).After-put_letters-count, c.requires.4)
 
 pub returns-then-named-count : goal.returns-then-named-count
 returns-then-named-count c = given_found c.args.q c.args.e.now c.args.name.now c.args.letters.now (passed_name c.args.q c.args.e.now c.requires.5) c.requires.4 _ _ _ (counted (goal.at.returns-then-named-count c).After-put_letters-count) (named (goal.at.returns-then-named-count c).After-put_name) (stored (goal.at.returns-then-named-count c).After-put_letters-count) c.if-named-count.true

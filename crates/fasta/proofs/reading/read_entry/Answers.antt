@@ -17,10 +17,10 @@ returns-then-bytes-at c = let a = c.args in read_9 a.bytes.now a.at a.name.now a
 pub returns-then-bytes-q : goal.returns-then-bytes-q
 returns-then-bytes-q c = let a = c.args in opened_none a.bytes.now _ _ _ c.if-bytes-q.true ∙ opened (goal.at.returns-then-bytes-q c).After-run_len
 
-pub returns-then-bytes-q-eq62 : goal.returns-then-bytes-q-eq62
-returns-then-bytes-q-eq62 c =
+pub returns : goal.returns
+returns c =
     let a = c.args in
-    c.read_behind.ensures ∙ opened_entry a.bytes.now (a.at + c.run_len.result) _ _ c.if-bytes-q.false c.if-bytes-q-eq62.true _ c.entry_len.ensures.0 ∙ opened (goal.at.returns-then-bytes-q-eq62 c).After-run_len
+    c.read_behind.ensures ∙ opened_entry a.bytes.now (a.at + c.run_len.result) _ _ c.if-bytes-q.false c.if-bytes-q-ne62.false _ c.entry_len.ensures.0 ∙ opened (goal.at.returns c).After-run_len
 
-pub returns-else-bytes-q-eq62 : goal.returns-else-bytes-q-eq62
-returns-else-bytes-q-eq62 c = let a = c.args in opened_14 a.bytes.now _ _ _ c.if-bytes-q.false c.if-bytes-q-eq62.false ∙ opened (goal.at.returns-else-bytes-q-eq62 c).After-run_len
+pub returns-then-bytes-q-ne62 : goal.returns-then-bytes-q-ne62
+returns-then-bytes-q-ne62 c = let a = c.args in opened_14 a.bytes.now _ _ _ c.if-bytes-q.false c.if-bytes-q-ne62.true ∙ opened (goal.at.returns-then-bytes-q-ne62 c).After-run_len
