@@ -1,26 +1,22 @@
 -- Where a reader of a sequence file stands.
-use Rattle.std.specs.Prelude.{ℕ, ◌≡◌, refl, List}
+use Rattle.std.specs.Prelude.{ℕ, ◌≡◌, refl, List, Some, None, Ok, Err}
 use Rattle.std.proofs.Common.{sym, ap, ap₂, ◌∙◌}
 use Rattle.records.specs.Outcome.{outcome, equal_only}
 use Rattle.fasta.specs.declared.entry.Entry.{Entry}
-use Rattle.fasta.specs.declared.entry.Read.{Read}
-use Rattle.fasta.specs.declared.entry.Read.TheVariants.{Found, Nothing, Long, Refused}
-use Rattle.fasta.specs.Entries.{read_outcome, read_only}
+use Rattle.fasta.specs.Entries.{Read, read_outcome, read_only}
 use Rattle.fasta_reader.specs.declared.Reader.{Reader}
 
 -- behind an entry that was found. Document 02, [1]: "After a refusal the reader stands where it stood."
 abbrev pub place_after : Read → ℕ → ℕ
-place_after (Found e) at = e.next
-place_after Nothing at = at
-place_after (Long place) at = at
-place_after (Refused why) at = at
+place_after (Ok (Some e)) at = e.next
+place_after (Ok None) at = at
+place_after (Err why) at = at
 
 -- after any answer but an entry it stands where it stood
-pub stands : (r : Read) (at : ℕ) → ((e : Entry) → r ≡ Found e → ⊥) → place_after r at ≡ at
-stands (Found e) at none = absurd (none e refl)
-stands Nothing at none = refl
-stands (Long place) at none = refl
-stands (Refused why) at none = refl
+pub stands : (r : Read) (at : ℕ) → ((e : Entry) → r ≡ Ok (Some e) → ⊥) → place_after r at ≡ at
+stands (Ok (Some e)) at none = absurd (none e refl)
+stands (Ok None) at none = refl
+stands (Err why) at none = refl
 
 -- no second answer, no second contents and no second reader meet the contract of `next`
 pub next_only : (old i j : Reader) (name letters : List ℕ) (r q : Read) (k l : List (List ℕ))

@@ -9,7 +9,7 @@ ghost use Rattle.records.specs.Outcome.{outcome};
 ghost use Rattle.fasta.specs.Entries.{read_outcome};
 ghost use Rattle.fasta_reader.specs.Places.{place_after};
 
-use fasta::{Read, read_entry};
+use fasta::{Entry, Fault, read_entry};
 pub use places::place_after;
 
 // The bytes of a file, and the place from which the next entry is read.
@@ -31,7 +31,7 @@ pub fn next<'s, 'a, 'n, 'l>(
     r: &'s mut Reader<'a>,
     name: &'n mut [u8],
     letters: &'l mut [u8],
-) -> Read
+) -> Result<Option<Entry>, Fault>
     ensures { (outcome result (name.new ∷ letters.new ∷ []) ≡ read_outcome r.old.bytes.now r.old.at name.old letters.old) × (r.new.bytes ≡ r.old.bytes) × (r.new.at ≡ place_after result r.old.at) }
 {
     let at = r.at;
@@ -41,7 +41,7 @@ pub fn next<'s, 'a, 'n, 'l>(
 }
 
 // Reads the first entry of a file.
-pub fn first(bytes: &[u8], name: &mut [u8], letters: &mut [u8]) -> Read
+pub fn first(bytes: &[u8], name: &mut [u8], letters: &mut [u8]) -> Result<Option<Entry>, Fault>
     ensures { outcome result (name.new ∷ letters.new ∷ []) ≡ read_outcome bytes.now 0 name.old letters.old }
 {
     let mut r = open(bytes);
