@@ -2,8 +2,7 @@
 use Rattle.std.specs.Prelude.{ℕ, ◌≡◌, List}
 use Rattle.std.proofs.Common.{ap, ◌∙◌}
 use Rattle.records.specs.Outcome.{Outcome, outcome}
-use Rattle.fasta.specs.declared.entry.Read.{Read}
-use Rattle.fasta.specs.Entries.{read_outcome}
+use Rattle.fasta.specs.Entries.{Read, read_outcome}
 use Rattle.sendumaal_calls.specs.Calls.{with_lent}
 use Rattle.sendumaal_calls.specs.FileCalls.{EntryArguments, found_call, entry_call}
 

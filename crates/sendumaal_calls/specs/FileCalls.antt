@@ -1,10 +1,8 @@
 -- What the call on a sequence file leaves: as in Calls, *place first, then *next, *count and *found, then the name and the letters.
-use Rattle.std.specs.Prelude.{ℕ, ◌≡◌, List, [], ◌∷◌}
+use Rattle.std.specs.Prelude.{ℕ, ◌≡◌, List, [], ◌∷◌, Some, None, Ok, Err}
 use Rattle.records.specs.Outcome.{Outcome, outcome, only}
-use Rattle.fasta.specs.declared.entry.Read.{Read}
-use Rattle.fasta.specs.declared.entry.Read.TheVariants.{Found, Nothing, Long, Refused as No}
-use Rattle.fasta.specs.Entries.{read_number, read_place, read_outcome}
-use Rattle.sendumaal_calls.specs.Calls.{accepted, refused, with_lent}
+use Rattle.fasta.specs.Entries.{Read, fault_number, fault_place, read_outcome}
+use Rattle.sendumaal_calls.specs.Calls.{accepted, with_lent}
 
 -- the arguments in their order, and what the lent slices and the results hold at entry
 pub record EntryArguments : Type 0 where
@@ -18,10 +16,9 @@ pub record EntryArguments : Type 0 where
 
 -- an entry: the place behind it, how many letters it has, and 1; where only line ends are left 0; a refusal leaves all three
 abbrev pub found_call : Read → ℕ → ℕ → ℕ → Outcome ℕ
-found_call (Found e) next count found = accepted ((e.next ∷ []) ∷ (e.letters ∷ []) ∷ (1 ∷ []) ∷ [])
-found_call Nothing next count found = accepted ((next ∷ []) ∷ (count ∷ []) ∷ (0 ∷ []) ∷ [])
-found_call (Long at) next count found = outcome (read_number (Long at)) ((read_place (Long at) ∷ []) ∷ (next ∷ []) ∷ (count ∷ []) ∷ (found ∷ []) ∷ [])
-found_call (No why) next count found = refused why ((next ∷ []) ∷ (count ∷ []) ∷ (found ∷ []) ∷ [])
+found_call (Ok (Some e)) next count found = accepted ((e.next ∷ []) ∷ (e.letters ∷ []) ∷ (1 ∷ []) ∷ [])
+found_call (Ok None) next count found = accepted ((next ∷ []) ∷ (count ∷ []) ∷ (0 ∷ []) ∷ [])
+found_call (Err why) next count found = outcome (fault_number why) ((fault_place why ∷ []) ∷ (next ∷ []) ∷ (count ∷ []) ∷ (found ∷ []) ∷ [])
 
 abbrev pub entry_call : EntryArguments → Outcome ℕ
 entry_call a =

@@ -3,11 +3,11 @@ ghost use Rattle.std.specs.Prelude.{◌≡◌, List, [], ◌∷◌};
 ghost use Rattle.records.specs.Outcome.{outcome};
 ghost use Rattle.sendumaal_calls.specs.FileCalls.{found_call};
 
-use fasta::Read;
+use fasta::{Entry, Fault};
 
 // The number and the place; of an entry the place behind it and how many letters it has; whether there is one.
 pub fn told_entry(
-    answer: Read,
+    answer: Result<Option<Entry>, Fault>,
     next: &mut usize,
     count: &mut u32,
     found: &mut u32,
@@ -16,23 +16,19 @@ pub fn told_entry(
     ensures { outcome result ((place.new ∷ []) ∷ (next.new ∷ []) ∷ (count.new ∷ []) ∷ (found.new ∷ []) ∷ []) ≡ found_call answer next.old count.old found.old }
 {
     match answer {
-        Read::Found(entry) => {
+        Ok(Some(entry)) => {
             *next = entry.next;
             *count = entry.letters;
             *found = 1;
             *place = 0;
             0
         }
-        Read::Nothing => {
+        Ok(None) => {
             *found = 0;
             *place = 0;
             0
         }
-        Read::Long(at) => {
-            *place = at;
-            1
-        }
-        Read::Refused(why) => {
+        Err(why) => {
             *place = why.place();
             why.number()
         }
