@@ -1,7 +1,7 @@
 // The second reading of a file, which lists its digests.
 ghost use Rattle.std.specs.Prelude.{◌≡◌, ◌≤◌, length};
 
-use fasta::{Read, read_entry};
+use fasta::read_entry;
 use fasta_listing_names::{Reading, Step, is_named, name, name_table, read_names, say, too_large};
 use fasta_listing_windows::{Found, Window, buffer, next_piece};
 use letters::LetterSet;
@@ -68,7 +68,7 @@ fn list_piece(
 ) -> std::io::Result<Step> {
     let mut record = [0u8; 64];
     match read_entry(piece, 0, &mut record, letters) {
-        Read::Found(entry) => {
+        Ok(Some(entry)) => {
             if is_named(names, number, &record) {
                 let n = up_to(entry.letters as usize, letters);
                 list_entry(rt, piece, &letters[..n], request, number, out)
@@ -76,8 +76,8 @@ fn list_piece(
                 changed(rt)
             }
         }
-        Read::Nothing => Ok(Step::Nothing),
-        _ => changed(rt),
+        Ok(None) => Ok(Step::Nothing),
+        Err(_) => changed(rt),
     }
 }
 

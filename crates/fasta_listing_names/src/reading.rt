@@ -4,7 +4,7 @@ ghost use Rattle.std.specs.Prelude.{◌≤◌, length};
 use crate::saying;
 use crate::steps::Step;
 use crate::tables::{place_at, place_table, put_place};
-use fasta::{Read, read_entry};
+use fasta::{Fault, read_entry};
 use fasta_listing_windows::{Found, Window, next_piece, sum};
 use records::Refusal;
 use std::io::Read as ReadBytes;
@@ -34,13 +34,13 @@ fn read_piece(
 ) -> io::Result<Step> {
     let at = up_to(64 * count as usize, names);
     match read_entry(piece, 0, &mut names[at..], letters) {
-        Read::Found(_) => Ok(Step::Entry),
-        Read::Nothing => Ok(Step::Nothing),
-        Read::Long(at) => {
+        Ok(Some(_)) => Ok(Step::Entry),
+        Ok(None) => Ok(Step::Nothing),
+        Err(Fault::Long(at)) => {
             saying::refused_long(rt, piece, sum(place, at))?;
             Ok(Step::Refused)
         }
-        Read::Refused(why) => {
+        Err(Fault::Refused(why)) => {
             saying::refused_piece(rt, piece, place, why)?;
             Ok(Step::Refused)
         }
