@@ -4,7 +4,7 @@ ghost use Rattle.report_lines_tests.specs.Testing.{too_large, uneven, members_te
 ghost use Rattle.records.specs.Tested.{and_then};
 ghost use Rattle.catalogue_spec.specs.Names.{visible};
 
-use records::{Refusal, and_then, field_tested};
+use records::{Refusal, field_tested};
 
 pub fn too_large(names: &[u8], members: &[u8], marks: &[u8], list: &[u32]) -> bool
     ensures { result ≡ too_large names.now members.now marks.now list.now }
@@ -38,15 +38,12 @@ fn marks_tested(marks: &[u8]) -> Result<(), Refusal>
 fn first_bad_protein(list: &[u32], proteins: usize) -> usize
     ensures { result ≡ first_bad_protein list.now proteins }
 {
-    let mut i = 0;
-    while i < list.len() {
-        let protein = list[i] as usize;
-        if proteins <= protein {
+    for (i, protein) in list.iter().enumerate() {
+        if proteins <= *protein as usize {
             return i;
         }
-        i += 1;
     }
-    i
+    list.len()
 }
 
 fn list_tested(list: &[u32], proteins: usize) -> Result<(), Refusal>
@@ -65,14 +62,12 @@ fn is_hidden(b: u8) -> bool
 fn first_bad_tag_byte(tag: &[u8]) -> usize
     ensures { result ≡ first_bad_tag_byte tag.now }
 {
-    let mut i = 0;
-    while i < tag.len() {
-        if is_hidden(tag[i]) {
+    for (i, b) in tag.iter().enumerate() {
+        if is_hidden(*b) {
             return i;
         }
-        i += 1;
     }
-    i
+    tag.len()
 }
 
 fn tag_tested(tag: &[u8]) -> Result<(), Refusal>
@@ -96,12 +91,9 @@ pub fn lists_tested(
 ) -> Result<(), Refusal>
     ensures { result ≡ and_then named (lists_tested members.now marks.now list.now tag.now proteins) }
 {
-    let held = members_tested(members, marks.len(), proteins);
-    let marked = marks_tested(marks);
-    let listed = list_tested(list, proteins);
-    let tagged = tag_tested(tag);
-    and_then(
-        named,
-        and_then(held, and_then(marked, and_then(listed, tagged))),
-    )
+    named?;
+    members_tested(members, marks.len(), proteins)?;
+    marks_tested(marks)?;
+    list_tested(list, proteins)?;
+    tag_tested(tag)
 }

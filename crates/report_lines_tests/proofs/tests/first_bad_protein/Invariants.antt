@@ -1,5 +1,4 @@
 -- `first_bad_protein` meets its contract. Assumes nothing.
-use Prim.Native.Nat.{◌-◌}
 use lib.ListN.{length}
 use Rattle.records.specs.SeekingLaws.{Seeking}
 use Rattle.report_lines_tests.specs.Testing.{bad_protein, first_bad_protein}
@@ -7,6 +6,3 @@ use Rattle.report_lines_tests.proofs.tests.first_bad_protein.Given as goal
 
 abbrev pub invariant-loop-i : goal.invariant-loop-i
 invariant-loop-i l = Seeking (bad_protein l.list l.proteins) (length l.list) l.i (first_bad_protein l.list l.proteins)
-
-abbrev pub decreases-loop-i : goal.decreases-loop-i
-decreases-loop-i l = length l.list - l.i

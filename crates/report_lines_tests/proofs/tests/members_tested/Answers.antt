@@ -1,5 +1,0 @@
--- `members_tested` meets its contract. Assumes nothing.
-use Rattle.report_lines_tests.proofs.tests.members_tested.Goals as goal
-
-pub returns : goal.returns
-returns c = cc

@@ -1,5 +1,0 @@
--- `too_large` meets its contract. Assumes nothing.
-use Rattle.report_lines_tests.proofs.tests.too_large.Goals as goal
-
-pub returns : goal.returns
-returns c = rw c.too_many_names.ensures
