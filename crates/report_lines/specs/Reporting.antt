@@ -1,11 +1,13 @@
 -- What a call of `report_line` answers, and what its line holds then.
 use Rattle.std.specs.Prelude.{ℕ, ◌≡◌, Bool, cond, List, [], ◌∷◌, length, leb, Result, Ok, Err}
+use Rattle.records.specs.declared.refusal.Refusal.{Refusal}
 use Rattle.records.specs.declared.refusal.Refusal.TheVariants.{Room}
 use Rattle.records.specs.Outcome.{Outcome, outcome, unless_refused, only}
 use Rattle.records.specs.Room.{fitted, singly}
 use Rattle.protein_groups_members.specs.Members.{members_in}
 use Rattle.report_lines_spec.specs.Line.{line_text, line_count}
 use Rattle.report_lines_tests.specs.Testing.{tested}
+use Rattle.report_lines.specs.declared.reporting.Report.{Report}
 
 -- what it answers, or why not
 abbrev pub Reported : Type 0

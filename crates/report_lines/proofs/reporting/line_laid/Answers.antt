@@ -9,7 +9,7 @@ line_in-line-requires c =
     let p = c.requires in
     let l = c.lay_out in
     let a = c.args in
-    stretched_laid a.names.now (members_in a.members.now) a.marks.now a.list.now a.asked.decoy a.tag.now a.asked.generated l.new.w a.c l.ensures p.0.small p.1
+    stretched_laid a.asked.now.names.now (members_in a.asked.now.members.now) a.asked.now.marks.now a.asked.now.list.now a.asked.now.decoy a.asked.now.tag.now a.asked.now.generated l.new.w a.c l.ensures p.0.small p.1
 
 pub returns : goal.returns
 returns c =
@@ -17,4 +17,4 @@ returns c =
     let la = c.lay_out in
     let a = c.args in
     let l = c.line_in-line in
-    line-outcome a.names.now a.members.now a.marks.now a.list.now a.asked.decoy a.tag.now a.asked.generated la.new.w a.c la.ensures p.0.small p.1 a.out.now l.new.out l.result.bytes l.result.groups c.answer.result l.ensures c.answer.ensures
+    line-outcome a.asked.now.names.now a.asked.now.members.now a.asked.now.marks.now a.asked.now.list.now a.asked.now.decoy a.asked.now.tag.now a.asked.now.generated la.new.w a.c la.ensures p.0.small p.1 a.out.now l.new.out l.result.bytes l.result.groups c.answer.result l.ensures c.answer.ensures
