@@ -3,7 +3,7 @@ ghost use Rattle.std.specs.Prelude.{◌≡◌, true, false, ◌+◌, ◌-◌, �
 ghost use Rattle.catalogue_spec.specs.Names.{too_many_names, whole_names};
 ghost use Rattle.digest_groups_spec.specs.DigestGrouping.{too_large, uneven, needed, good_digest, first_bad_digest, contents, tested};
 
-use records::{Refusal, and_then, field_tested};
+use records::{Refusal, field_tested};
 
 fn too_large(names: &[u8], letters: &[u8], digests: &[u8]) -> bool
     ensures { result ≡ too_large names.now letters.now digests.now }
@@ -36,7 +36,7 @@ fn width(bounds: &[u32], protein: u32) -> u32
     let i = protein as usize;
     let from = sorting_texts::number_at(bounds, i);
     let to = sorting_texts::number_at(bounds, i + 1);
-    if from <= to { to - from } else { 0 }
+    to.saturating_sub(from)
 }
 
 // Whether a digest's fields are within theirs, and its range within a protein of the book.
@@ -54,33 +54,40 @@ fn first_bad_digest(bounds: &[u32], proteins: usize, digests: &[u8]) -> usize
     ensures { result ≡ first_bad_digest bounds.now proteins digests.now }
 {
     let n = digests.len() / 20;
-    let mut i = 0;
-    while i < n {
+    for i in 0..n {
         let at = 20 * i;
-        if is_good_digest(bounds, proteins, &digests[at..at + 20]) {
-            i += 1;
-        } else {
+        if !is_good_digest(bounds, proteins, &digests[at..at + 20]) {
             return i;
         }
     }
-    i
+    n
 }
 
 // The contents list by list: names, boundaries, letters, digests.
-fn contents_tested(names: &[u8], bounds: &[u32], letters: &[u8], digests: &[u8]) -> Result<(), Refusal>
+fn contents_tested(
+    names: &[u8],
+    bounds: &[u32],
+    letters: &[u8],
+    digests: &[u8],
+) -> Result<(), Refusal>
     requires { (too_many_names names.now ≡ false) × (whole_names names.now ≡ true) }
     ensures { result ≡ contents names.now bounds.now letters.now digests.now }
 {
-    let listed = catalogue_names::names_tested(names);
-    let bound = catalogue_book::bounds_tested(bounds, letters.len());
-    let spelt = catalogue_book::letters_tested(letters);
+    catalogue_names::names_tested(names)?;
+    catalogue_book::bounds_tested(bounds, letters.len())?;
+    catalogue_book::letters_tested(letters)?;
     let bad = first_bad_digest(bounds, catalogue_names::name_count(names), digests);
-    let cut = field_tested(bad, digests.len() / 20);
-    and_then(listed, and_then(bound, and_then(spelt, cut)))
+    field_tested(bad, digests.len() / 20)
 }
 
 // The first refusal that applies before the groups are written.
-pub fn tested(names: &[u8], bounds: &[u32], letters: &[u8], digests: &[u8], words: usize) -> Result<(), Refusal>
+pub fn tested(
+    names: &[u8],
+    bounds: &[u32],
+    letters: &[u8],
+    digests: &[u8],
+    words: usize,
+) -> Result<(), Refusal>
     ensures { result ≡ tested names.now bounds.now letters.now digests.now words }
 {
     if too_large(names, letters, digests) {

@@ -1,8 +1,9 @@
 -- `first_bad_digest` meets its contract. Assumes nothing.
-use Prim.Native.Nat.{◌+◌, ◌-◌, ◌*◌}
+use Prim.Native.Nat.{◌+◌, ◌-◌, ◌*◌, ◌/◌}
 use native.Mathlib.Omega.{arith}
 use mathlib.Core.Path.{◌≡◌, sym, ap, ◌∙◌}
 use mathlib.Core.Bool.{not}
+use lib.ListN.{length}
 use Rattle.records.specs.SeekingLaws.{seeking_all, seeking_stop, seeking_on, seeking_end}
 use Rattle.digest_groups_spec.specs.DigestGroups.{digest_at}
 use Rattle.digest_groups_spec.specs.DigestGrouping.{good_digest, first_bad_digest}
@@ -22,10 +23,10 @@ unfolding first_bad_digest
 loop-i-init c = seeking_all
 
 pub loop-i-preserved : goal.loop-i-preserved
-loop-i-preserved c = seeking_on c.loop-i.invariant (omega arith) (ap not (sym (told (goal.at.loop-i-preserved c).After-is_good_digest) ∙ c.if-is_good_digest.true))
+loop-i-preserved c = seeking_on c.loop-i.invariant (omega arith) (ap not (sym (told (goal.at.loop-i-preserved c).After-is_good_digest) ∙ c.if-not-is_good_digest.false))
 
-pub returns-else-is_good_digest : goal.returns-else-is_good_digest
-returns-else-is_good_digest c = seeking_stop c.loop-i.invariant (omega arith) (ap not (sym (told (goal.at.returns-else-is_good_digest c).After-is_good_digest) ∙ c.if-is_good_digest.false))
+pub returns-then-not-is_good_digest : goal.returns-then-not-is_good_digest
+returns-then-not-is_good_digest c = seeking_stop c.loop-i.invariant (omega arith) (ap not (sym (told (goal.at.returns-then-not-is_good_digest c).After-is_good_digest) ∙ c.if-not-is_good_digest.true))
 
 pub returns : goal.returns
-returns c = seeking_end c.loop-i.invariant (omega arith)
+returns c = let e : length c.args.digests.now / 20 ≡ c.loop-i.i = omega arith in e ∙ seeking_end c.loop-i.invariant (omega arith)

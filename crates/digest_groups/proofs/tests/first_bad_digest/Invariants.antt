@@ -1,5 +1,5 @@
 -- `first_bad_digest` meets its contract. Assumes nothing.
-use Prim.Native.Nat.{◌-◌, ◌/◌}
+use Prim.Native.Nat.{◌/◌}
 use lib.ListN.{length}
 use Rattle.records.specs.SeekingLaws.{Seeking}
 use Rattle.digest_groups_spec.specs.DigestGrouping.{bad_digest, first_bad_digest}
@@ -7,6 +7,3 @@ use Rattle.digest_groups.proofs.tests.first_bad_digest.Given as goal
 
 abbrev pub invariant-loop-i : goal.invariant-loop-i
 invariant-loop-i l = Seeking (bad_digest l.bounds l.proteins l.digests) (length l.digests / 20) l.i (first_bad_digest l.bounds l.proteins l.digests)
-
-abbrev pub decreases-loop-i : goal.decreases-loop-i
-decreases-loop-i l = length l.digests / 20 - l.i
