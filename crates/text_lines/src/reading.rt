@@ -8,11 +8,9 @@ pub fn read_full<R: Read>(from: &mut R, buffer: &mut [u8]) -> usize
     ensures { IsPrefixLen result buffer.new }
 {
     let mut done = 0;
+    // A while: a turn goes on by as much as was read.
     while done < buffer.len() {
-        let n = match from.read(&mut buffer[done..]) {
-            Ok(n) => n,
-            Err(_) => 0,
-        };
+        let n = from.read(&mut buffer[done..]).unwrap_or(0);
         if n == 0 {
             break;
         }
