@@ -1,27 +1,14 @@
 // What an answer is held to.
 use crate::hexadecimals::unhex;
 use check::same;
-use sorting_texts::number_at;
 
 // Whether work memory is zero.
 pub fn is_zero(work: &[u32]) -> bool {
-    let mut zero = true;
-    let mut i = 0;
-    while i < work.len() {
-        zero = zero & (work[i] == 0);
-        i += 1;
-    }
-    zero
+    work.iter().all(|number| *number == 0)
 }
 
 pub fn same_numbers(a: &[u32], b: &[u32]) -> bool {
-    let mut same = a.len() == b.len();
-    let mut i = 0;
-    while i < a.len() {
-        same = same & (a[i] == number_at(b, i));
-        i += 1;
-    }
-    same
+    a == b
 }
 
 // Whether so many bytes are the text at the front of s, and nothing is written behind them: all were 7. `-` stands for none.

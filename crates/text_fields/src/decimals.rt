@@ -4,51 +4,37 @@ ghost use Rattle.io.specs.Counts.{IsPrefixLen};
 
 use crate::fields::{content, field, field_end};
 
-fn is_digit(b: u8) -> bool {
-    (b'0' <= b) & (b <= b'9')
-}
-
 // A decimal number with one digit more, or the greatest.
 fn longer(n: u32, b: u8) -> u32 {
-    let wide = n as u64 * 10 + (b % 16) as u64;
-    if wide < 4294967295 {
-        wide as u32
-    } else {
-        4294967295
-    }
+    let wide = u64::from(n) * 10 + u64::from(b % 16);
+    u32::try_from(wide).unwrap_or(u32::MAX)
 }
 
 // The decimal number that begins at a place.
 pub fn decimal(line: &[u8], at: usize) -> u32 {
     let mut n: u32 = 0;
-    let mut i = at;
-    while i < line.len() {
+    for i in at..line.len() {
         let b = line[i];
-        if is_digit(b) {
-            n = longer(n, b);
-            i += 1;
-        } else {
+        if !b.is_ascii_digit() {
             return n;
         }
+        n = longer(n, b);
     }
     n
 }
 
 // Whether a byte is a digit of a decimal or a hexadecimal number.
 fn in_number(b: u8) -> bool {
-    is_digit(b) | (b'a' <= b)
+    b.is_ascii_digit() | (b'a' <= b)
 }
 
 // The place behind the number at a place and the byte that ends it.
 pub fn behind(line: &[u8], at: usize) -> usize
     ensures { result ≤ length line.now }
 {
-    let mut i = at;
-    while i < line.len() {
-        let inside = in_number(line[i]);
-        i += 1;
-        if !inside {
-            return i;
+    for i in at..line.len() {
+        if !in_number(line[i]) {
+            return i + 1;
         }
     }
     line.len()
@@ -61,8 +47,7 @@ pub fn decimal_at(line: &[u8], k: usize) -> u32 {
 
 // The same, or 255 where it does not fit a byte.
 pub fn small_at(line: &[u8], k: usize) -> u8 {
-    let n = decimal_at(line, k);
-    if n < 255 { n as u8 } else { 255 }
+    u8::try_from(decimal_at(line, k)).unwrap_or(u8::MAX)
 }
 
 // Whether field k is 1.
@@ -76,16 +61,14 @@ fn numbers(s: &[u8], out: &mut [u32]) -> usize
 {
     let end = content(s);
     let mut at = 0;
-    let mut n: usize = 0;
-    while n < out.len() {
+    for n in 0..out.len() {
         if end <= at {
             return n;
         }
         out[n] = decimal(s, at);
         at = behind(s, at);
-        n += 1;
     }
-    n
+    out.len()
 }
 
 // The decimal numbers of field k.

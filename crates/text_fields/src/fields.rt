@@ -22,10 +22,11 @@ pub fn field_end(line: &[u8], at: usize) -> usize
 
 // One less behind a blank.
 fn passed(left: usize, b: u8) -> usize {
-    if b != b' ' {
-        return left;
+    if b == b' ' {
+        left.saturating_sub(1)
+    } else {
+        left
     }
-    if 0 < left { left - 1 } else { 0 }
 }
 
 // Where field k of a line begins: behind k blanks.
@@ -33,15 +34,13 @@ pub fn field(line: &[u8], k: usize) -> usize
     ensures { result ≤ length line.now }
 {
     let mut left = k;
-    let mut i = 0;
-    while i < line.len() {
+    for (i, b) in line.iter().enumerate() {
         if left == 0 {
             return i;
         }
-        left = passed(left, line[i]);
-        i += 1;
+        left = passed(left, *b);
     }
-    i
+    line.len()
 }
 
 // How many letters field 0 has: `-` stands for none.

@@ -17,11 +17,9 @@ fn hex(line: &[u8], at: usize) -> u32
     requires { at ≤ length line.now }
 {
     let mut n: u32 = 0;
-    let mut k = 0;
-    while k < 8 {
+    for k in 0..8 {
         let d = nibble(byte_at(line, at + k));
-        n = (n % 268435456) * 16 + d as u32;
-        k += 1;
+        n = (n % 268435456) * 16 + u32::from(d);
     }
     n
 }
@@ -40,8 +38,7 @@ pub fn from_hex(high: u8, low: u8) -> u8 {
 pub(crate) fn unhex(line: &[u8], out: &mut [u8]) -> usize
     ensures { IsPrefixLen result out.new }
 {
-    let mut n: usize = 0;
-    while n < out.len() {
+    for n in 0..out.len() {
         let at = 2 * n;
         let high = byte_at(line, at);
         if high < b'0' {
@@ -49,9 +46,8 @@ pub(crate) fn unhex(line: &[u8], out: &mut [u8]) -> usize
         }
         let low = byte_at(line, at + 1);
         out[n] = from_hex(high, low);
-        n += 1;
     }
-    n
+    out.len()
 }
 
 // The bytes of field k.

@@ -10,15 +10,13 @@ use records::{byte_at, put_u32};
 fn put_all(numbers: &[u32], out: &mut [u8]) -> usize
     ensures { IsPrefixLen result out.new }
 {
-    let mut i = 0;
     let mut at = 0;
-    while i < numbers.len() {
+    for number in numbers {
         if out.len() - at < 4 {
             return at;
         }
-        put_u32(out, at, numbers[i]);
+        put_u32(out, at, *number);
         at += 4;
-        i += 1;
     }
     at
 }
@@ -36,14 +34,9 @@ pub fn records_at(line: &[u8], k: usize, out: &mut [u8]) -> usize
 fn digits(s: &[u8], out: &mut [u8]) -> usize
     ensures { IsPrefixLen result out.new }
 {
-    let end = content(s);
-    let mut n: usize = 0;
-    while n < out.len() {
-        if end <= n {
-            return n;
-        }
-        out[n] = byte_at(s, n) % 16;
-        n += 1;
+    let n = content(s).min(out.len());
+    for i in 0..n {
+        out[i] = byte_at(s, i) % 16;
     }
     n
 }

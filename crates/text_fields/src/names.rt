@@ -9,17 +9,17 @@ fn names_of(list: &[u8], names: &mut [u8]) -> usize
     ensures { IsPrefixLen result names.new }
 {
     let mut at = 0;
-    let mut n: usize = 0;
-    while 64 <= names.len() - n {
+    let room = names.len() / 64;
+    for k in 0..room {
+        let n = 64 * k;
         if list.len() <= at {
             return n;
         }
         let end = item_end(list, at);
         unhex(&list[at..end], &mut names[n..n + 64]);
         at = end + 1;
-        n += 64;
     }
-    n
+    64 * room
 }
 
 // The names of field 0.

@@ -12,8 +12,9 @@ pub enum Verdict {
 impl Verdict {
     pub fn of(same: bool) -> Verdict {
         if same {
-            return Verdict::Agrees;
+            Verdict::Agrees
+        } else {
+            Verdict::Differs
         }
-        Verdict::Differs
     }
 }
