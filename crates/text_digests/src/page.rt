@@ -2,20 +2,23 @@
 ghost use Rattle.std.specs.Prelude.{◌+◌, ◌≤◌};
 ghost use Rattle.io.specs.Counts.{IsPrefixLen};
 
-use records::{Refusal, byte_at, put_byte, put_at, u32_at};
+use records::{Refusal, byte_at, put_at, put_byte, u32_at};
 use text_lines::up_to;
 
-// One of the eight numbers of the record at a place.
-fn number_of(out: &[u8], at: usize, k: usize) -> u32
-    requires { (at ≤ 20971500) × (k ≤ 7) }
+// The eight numbers of the record at a place.
+fn numbers_of(out: &[u8], at: usize) -> [u32; 8]
+    requires { at ≤ 20971500 }
 {
-    match k {
-        0 => u32_at(out, at),
-        1 => u32_at(out, at + 4),
-        6 => u32_at(out, at + 12),
-        7 => u32_at(out, at + 16),
-        _ => byte_at(out, at + 6 + k) as u32,
-    }
+    [
+        u32_at(out, at),
+        u32_at(out, at + 4),
+        u32::from(byte_at(out, at + 8)),
+        u32::from(byte_at(out, at + 9)),
+        u32::from(byte_at(out, at + 10)),
+        u32::from(byte_at(out, at + 11)),
+        u32_at(out, at + 12),
+        u32_at(out, at + 16),
+    ]
 }
 
 // What stands behind a number: a blank, or behind the last the line's end.
@@ -27,7 +30,7 @@ fn behind(k: usize) -> u8 {
 fn digit_count(k: usize) -> usize
     ensures { result ≤ 20 }
 {
-    if k < 20 { k } else { 20 }
+    k.min(20)
 }
 
 // Puts a number and the byte behind it at a place of a line: the place behind both.
@@ -36,7 +39,7 @@ fn put_number(line: &mut [u8], at: usize, n: u32, behind: u8) -> usize
     ensures { result ≤ at + 21 }
 {
     let mut digits = [0u8; 20];
-    let k = io::decimal(n as u64, &mut digits);
+    let k = io::decimal(u64::from(n), &mut digits);
     put_at(line, at, &digits[..k]);
     let end = at + digit_count(k);
     put_byte(line, end, behind);
@@ -48,11 +51,10 @@ fn put_record(out: &[u8], at: usize, line: &mut [u8]) -> usize
     requires { at ≤ 20971500 }
     ensures { IsPrefixLen result line.new }
 {
+    let numbers = numbers_of(out, at);
     let mut n = 0;
-    let mut k = 0;
-    while k < 8 {
-        n = put_number(line, n, number_of(out, at, k), behind(k));
-        k += 1;
+    for k in 0..8 {
+        n = put_number(line, n, numbers[k], behind(k));
     }
     up_to(n, line)
 }
@@ -70,20 +72,13 @@ fn print_record(rt: &impl Print, out: &[u8], at: usize) -> std::io::Result<()>
 fn capped(count: u32) -> usize
     ensures { result ≤ 1048576 }
 {
-    if count < 1048576 {
-        count as usize
-    } else {
-        1048576
-    }
+    (count as usize).min(1048576)
 }
 
 // The first count records.
 pub fn print_all(rt: &impl Print, out: &[u8], count: u32) -> std::io::Result<()> {
-    let n = capped(count);
-    let mut k = 0;
-    while k < n {
+    for k in 0..capped(count) {
         print_record(rt, out, 20 * k)?;
-        k += 1;
     }
     Ok(())
 }

@@ -13,36 +13,30 @@ pub struct Request {
 // The set of the letters that begin at a place.
 fn set(line: &[u8], at: usize) -> LetterSet {
     let mut found = LetterSet::EMPTY;
-    let mut i = at;
-    while i < line.len() {
-        let b = line[i];
-        if b == 32 {
+    for i in at..line.len() {
+        if line[i] == b' ' {
             return found;
         }
-        found = found.insert(b);
-        i += 1;
+        found = found.insert(line[i]);
     }
     found
 }
 
 fn kind(line: &[u8]) -> Kind {
-    let b = records::byte_at(line, 0);
-    if b == b'$' {
-        return Kind::End;
+    match records::byte_at(line, 0) {
+        b'$' => Kind::End,
+        b'-' => Kind::None,
+        _ => Kind::Set(set(line, 0)),
     }
-    if b == b'-' {
-        return Kind::None;
-    }
-    let cleave = set(line, 0);
-    Kind::Set(cleave)
 }
 
 fn side(line: &[u8]) -> Side {
     let at = field(line, 2);
     if records::byte_at(line, at) == b'N' {
-        return Side::N;
+        Side::N
+    } else {
+        Side::C
     }
-    Side::C
 }
 
 fn enzyme(line: &[u8]) -> Enzyme {
