@@ -3,7 +3,7 @@
 ghost use Rattle.std.specs.Prelude.{◌≤◌, length};
 
 use check::same;
-use fasta::{Read, read_entry};
+use fasta::read_entry;
 use text_fields::{Verdict, bytes_at, content, field, item_end};
 use text_lines::{next, up_to};
 
@@ -37,17 +37,13 @@ fn is_at(list: &[u8], at: usize, name: &[u8], letters: &[u8]) -> bool
 fn are_entries(file: &[u8], list: &[u8]) -> bool {
     let mut name = [7u8; 64];
     let mut letters = [7u8; 4096];
-    let mut left = file.len();
     let mut at = 0;
     let mut item = 0;
-    loop {
+    for _ in 0..file.len() + 1 {
         match read_entry(file, at, &mut name, &mut letters) {
-            Read::Found(entry) => {
+            Ok(Some(entry)) => {
                 let n = up_to(entry.letters as usize, &letters);
                 if list.len() <= item {
-                    return false;
-                }
-                if left == 0 {
                     return false;
                 }
                 if !is_at(list, item, &name, &letters[..n]) {
@@ -55,12 +51,12 @@ fn are_entries(file: &[u8], list: &[u8]) -> bool {
                 }
                 item = item_end(list, item) + 1;
                 at = entry.next;
-                left -= 1;
             }
-            Read::Nothing => return list.len() <= item,
-            _ => return false,
+            Ok(None) => return list.len() <= item,
+            Err(_) => return false,
         }
     }
+    false
 }
 
 pub fn replay_entries(line: &[u8]) -> Verdict {
