@@ -10,7 +10,7 @@ use Rattle.modification_kinds.specs.Specificities.{specificity}
 use Rattle.modification_texts.specs.Texts.{write_outcome}
 use Rattle.modification_rules.specs.Rules.{write_rule_outcome}
 use Rattle.sendumaal_calls.specs.Calls.{accepted, refused, test_call, insert_call, with_lent, count_call, counted_call, write_call, tested_call, record_call, is_rule}
-use Rattle.records.specs.Answers.{Counted, Passed, Tested}
+use Rattle.records.specs.Answers.{Counted, Tested}
 use Rattle.modification_table.specs.Tables.{Entered}
 
 -- a refusal's number is returned and its place written
@@ -38,7 +38,7 @@ rule_bytes kind letter id e =
 
 -- what the tests' answer is told as
 pub check_said : (a : Tested) (n p : ℕ) → outcome n ((p ∷ []) ∷ []) ≡ test_call a → (lent : List (List ℕ)) → outcome n ((p ∷ []) ∷ lent) ≡ tested_call (outcome a lent)
-check_said Passed n p e lent =
+check_said (Ok x) n p e lent =
     let f : n ≡ 0 = ap (λ (x : Outcome ℕ). x.answer) e in
     let g : p ≡ 0 = ap (λ (x : Outcome ℕ). get_or (get_or x.lent 0 []) 0 0) e in
     rw (f, g)

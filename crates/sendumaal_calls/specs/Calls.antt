@@ -1,7 +1,7 @@
 -- What a call of the C face leaves: the number that it returns, then *place, the other results and the lent slices. 0 says
 -- that the call was accepted, any other number is document 01's; *place is 0 or the refusal's; a refusal leaves the results
 -- as they were.
-use Rattle.std.specs.Prelude.{ℕ, Bool, cond, ◌&&◌, List, [], ◌∷◌, ◌++◌, leb, Ok, Err}
+use Rattle.std.specs.Prelude.{ℕ, Bool, cond, ◌&&◌, List, [], ◌∷◌, ◌++◌, leb, Result, Ok, Err}
 use Rattle.letters.specs.declared.letter_set.LetterSet.{LetterSet}
 use Rattle.modification_kinds.specs.Specificities.{kind_of, letter_of, specificity}
 use Rattle.modification_texts.specs.Texts.{Parsed, write_outcome}
@@ -11,7 +11,7 @@ use Rattle.records.specs.declared.refusal.Refusal.TheVariants.{Field}
 use Rattle.records.specs.Refusals.{number_of, place_of}
 use Rattle.records.specs.Outcome.{Outcome, outcome}
 use Rattle.modification_table.specs.Tables.{Entered}
-use Rattle.records.specs.Answers.{Counted, Passed, Tested}
+use Rattle.records.specs.Answers.{Counted, Tested}
 
 abbrev pub set_of : ℕ → LetterSet
 set_of m = record { mask = m }
@@ -37,7 +37,8 @@ count_call (Err r) count = refused r ((count ∷ []) ∷ [])
 abbrev pub counted_call : Outcome Counted → ℕ → Outcome ℕ
 counted_call o count = with_lent (count_call o.answer count) o.lent
 
-abbrev pub test_call : Tested → Outcome ℕ
+-- an answer, but for what is answered
+abbrev pub test_call : {A : Type 0} → Result A Refusal → Outcome ℕ
 test_call (Ok _) = accepted []
 test_call (Err r) = refused r []
 

@@ -10,7 +10,7 @@ use Rattle.enzyme_spec.specs.Digestion.{tested, digest_outcome}
 use Rattle.records.specs.declared.refusal.Refusal.TheVariants.{Size, Field}
 use Rattle.records.specs.Outcome.{Outcome}
 use Rattle.sendumaal_calls.specs.Calls.{set_of, refused, with_lent, counted_call}
-use Rattle.records.specs.Answers.{Passed, Tested}
+use Rattle.records.specs.Answers.{Tested}
 
 -- 0 none, 1 end, 2 set; 0 C side, 1 N side; 0 or 1 for a flag
 abbrev pub is_enzyme : ℕ → ℕ → ℕ → Bool

@@ -1,14 +1,13 @@
 -- From the answers on peptides to what the calls leave. Assumes nothing.
-use Rattle.std.specs.Prelude.{ℕ, suc, ◌+◌, ◌≤◌, ◌<◌, ◌≡◌, true, false, cond, List, [], ◌∷◌, ◌++◌, length, get_or, set, take, drop, leb, eqb, Float, Err}
+use Rattle.std.specs.Prelude.{ℕ, suc, ◌+◌, ◌≤◌, ◌<◌, ◌≡◌, true, false, cond, List, [], ◌∷◌, ◌++◌, length, get_or, set, take, drop, leb, eqb, Float, Ok, Err}
 use Rattle.std.proofs.Common.{sym, ap, ◌∙◌, append-nil, arith, add-one, zero-add, eq-eqb, ne_eqb, eqb-true}
 use Rattle.std.proofs.Math.Seq.{paste-suc, drop-length}
 use Rattle.peptide_mass.specs.Masses.{wrong_size}
 use Rattle.peptide_mass.specs.MassLaws.{size_fits}
 use Rattle.peptide_listing.specs.FormTests.{too_large}
 use Rattle.peptide.specs.declared.making.Peptide.{Peptide}
-use Rattle.peptide.specs.declared.making.Made.{Made}
 use Rattle.records.specs.TestedLaws.{passed-both, passed_first, passed-second}
-use Rattle.peptide.specs.Peptides.{tested_peptide, reversed_peptide, made_or}
+use Rattle.peptide.specs.Peptides.{Made, tested_peptide, reversed_peptide, made_or}
 use Rattle.peptide.specs.Forms.{forms_outcome}
 use Rattle.records.specs.declared.refusal.Refusal.{Refusal}
 use Rattle.records.specs.declared.refusal.Refusal.TheVariants.{Size, Length, Field}
@@ -85,5 +84,5 @@ pub overlaid-all : (old from : List ℕ) (i : ℕ) → i ≡ length old → over
 overlaid-all old from i e = rw (e, drop-length old) (append-nil (take (length old) from))
 
 -- what passed its tests was reversed
-pub turned_is : (p q : Peptide) (m : Made) → q ≡ p → tested_peptide p ≡ Passed → m ≡ made_or (tested_peptide q) (reversed_peptide q) q → m.peptide ≡ reversed_peptide p
-turned_is p q m e f g = ap (λ (x : Made). x.peptide) g ∙ ap (λ (x : Peptide). (made_or (tested_peptide x) (reversed_peptide x) x).peptide) e ∙ rw f
+pub turned_is : (p q : Peptide) (m : Made) → q ≡ p → tested_peptide p ≡ Passed → m ≡ made_or (tested_peptide q) (reversed_peptide q) q → m ≡ Ok (reversed_peptide p)
+turned_is p q m e f g = g ∙ ap (λ (x : Peptide). made_or (tested_peptide x) (reversed_peptide x) x) e ∙ rw f

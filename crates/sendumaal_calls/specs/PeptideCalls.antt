@@ -13,7 +13,7 @@ use Rattle.peptide.specs.Digested.{weighed_digest}
 use Rattle.peptide.specs.Forms.{forms_outcome}
 use Rattle.records.specs.declared.refusal.Refusal.TheVariants.{Size, Length, Field}
 use Rattle.records.specs.Refusals.{number_of, place_of}
-use Rattle.records.specs.Outcome.{Outcome, equal_only}
+use Rattle.records.specs.Outcome.{Outcome, outcome, equal_only, unless_refused}
 use Rattle.sendumaal_calls.specs.Calls.{accepted, refused, counted_call}
 use Rattle.records.specs.Answers.{Passed, Tested}
 
@@ -118,6 +118,12 @@ tested_turn p decoy = and_then (tested_peptide p) (cond (leb decoy 1) Passed (Er
 
 abbrev pub tested_reverse : List ℕ → List ℕ → ℕ → Tested
 tested_reverse letters ids decoy = and_then (tested_lengths letters ids) (tested_turn (turning letters ids decoy) decoy)
+
+-- reversed in its place, where the tests pass
+abbrev pub reverse_outcome : List ℕ → List ℕ → ℕ → Outcome Tested
+reverse_outcome letters ids decoy =
+    let p = reversed_peptide (turning letters ids decoy) in
+    unless_refused (tested_reverse letters ids decoy) Err (letters ∷ ids ∷ []) (outcome Passed (take (length letters) p.letters ∷ take (length ids) p.ids ∷ []))
 
 abbrev pub other_flag : ℕ → ℕ
 other_flag decoy = cond (eqb decoy 1) 0 1

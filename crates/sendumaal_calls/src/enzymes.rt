@@ -3,7 +3,8 @@ ghost use Rattle.std.specs.Prelude.{◌≡◌, List, [], ◌∷◌};
 ghost use Rattle.records.specs.Outcome.{outcome};
 ghost use Rattle.sendumaal_calls.specs.DigestCalls.{is_enzyme, kind_numbered, side_numbered, enzyme_numbered, field_call};
 
-use enzyme::{Enzyme, Kind, Side};
+use crate::telling::told;
+use enzyme_cuts::{Enzyme, Kind, Side};
 use letters::LetterSet;
 use records::Refusal;
 
@@ -17,13 +18,11 @@ pub fn is_enzyme(kind: u32, side: u32, semi: u32) -> bool
 fn kind_numbered(kind: u32, cleave: u32) -> Kind
     ensures { result ≡ kind_numbered kind cleave }
 {
-    if kind == 1 {
-        return Kind::End;
+    match kind {
+        1 => Kind::End,
+        2 => Kind::Set(LetterSet { mask: cleave }),
+        _ => Kind::None,
     }
-    if kind == 2 {
-        return Kind::Set(LetterSet { mask: cleave });
-    }
-    Kind::None
 }
 
 fn side_numbered(side: u32) -> Side
@@ -32,16 +31,14 @@ fn side_numbered(side: u32) -> Side
     if side == 1 { Side::N } else { Side::C }
 }
 
+// No Option in place of `is_enzyme`: what the tests find with any numbers is told before that one of them stands for nothing.
 pub fn enzyme_numbered(kind: u32, cleave: u32, skip: u32, side: u32, semi: u32) -> Enzyme
     ensures { result ≡ enzyme_numbered kind cleave skip side semi }
 {
-    let k = kind_numbered(kind, cleave);
-    let d = side_numbered(side);
-    let set = LetterSet { mask: skip };
     Enzyme {
-        kind: k,
-        skip: set,
-        side: d,
+        kind: kind_numbered(kind, cleave),
+        skip: LetterSet { mask: skip },
+        side: side_numbered(side),
         semi: semi == 1,
     }
 }
@@ -50,14 +47,5 @@ pub fn enzyme_numbered(kind: u32, cleave: u32, skip: u32, side: u32, semi: u32) 
 pub fn told_field(found: Result<(), Refusal>, place: &mut usize) -> u32
     ensures { outcome result ((place.new ∷ []) ∷ []) ≡ field_call found }
 {
-    match found {
-        Ok(()) => {
-            *place = 0;
-            9
-        }
-        Err(why) => {
-            *place = why.place();
-            why.number()
-        }
-    }
+    told(records::and_then(found, Err(Refusal::Field(0))), place)
 }

@@ -9,6 +9,7 @@ mod telling;
 
 pub use enzymes::{enzyme_numbered, is_enzyme, told_field};
 pub use files::told_entry;
-pub use peptides::{flipped, peptide_of, test_reverse, too_large, turn};
-pub use rules::is_rule;
-pub use telling::{counted, told};
+pub use peptide_listing::too_large;
+pub use peptides::{flipped, peptide_of, reverse};
+pub use rules::rule_numbered;
+pub use telling::{counted, refused, told};

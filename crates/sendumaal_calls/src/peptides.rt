@@ -1,9 +1,7 @@
 // Peptides, which pass as letters and ids.
-ghost use Rattle.std.specs.Prelude.{◌≡◌, ◌≤◌, length, take};
-ghost use Rattle.peptide_listing.specs.FormTests.{too_large};
-ghost use Rattle.records.specs.Answers.{Passed};
-ghost use Rattle.peptide.specs.Peptides.{tested_peptide, reversed_peptide};
-ghost use Rattle.sendumaal_calls.specs.PeptideCalls.{peptide_of, tested_lengths, turning, tested_turn, tested_reverse, other_flag};
+ghost use Rattle.std.specs.Prelude.{◌≡◌, List, [], ◌∷◌, ◌≤◌, length, take};
+ghost use Rattle.records.specs.Outcome.{outcome};
+ghost use Rattle.sendumaal_calls.specs.PeptideCalls.{peptide_of, tested_lengths, reverse_outcome, other_flag};
 
 use peptide::Peptide;
 use records::Refusal;
@@ -20,24 +18,15 @@ pub fn peptide_of(
     requires { length letters.now ≤ 64 }
     ensures { result ≡ peptide_of letters.now ids.now nterm cterm position decoy }
 {
-    let held = peptide_slots::raised(peptide_slots::window(letters, 0));
-    let worn = peptide_slots::window(ids, 0);
-    let len = letters.len() as u8;
     Peptide {
-        letters: held,
-        ids: worn,
+        letters: peptide_slots::raised(peptide_slots::window(letters, 0)),
+        ids: peptide_slots::window(ids, 0),
         nterm,
         cterm,
-        len,
+        len: letters.len() as u8,
         position,
         decoy,
     }
-}
-
-pub fn too_large(len: usize, variable: &[u8], fixed: &[u8], limit: u32) -> bool
-    ensures { result ≡ too_large len variable.now fixed.now limit }
-{
-    (len == 0) | (64 < len) | (16 < variable.len() / 8) | (32 < fixed.len() / 8) | (8 < limit)
 }
 
 // Stores the first bytes of an array, as many as the slice has.
@@ -45,11 +34,8 @@ fn put_back(out: &mut [u8], from: [u8; 64])
     requires { length out.old ≤ 64 }
     ensures { out.new ≡ take (length out.old) from }
 {
-    let mut i = 0;
-    while i < out.len() {
-        out[i] = from[i];
-        i += 1;
-    }
+    let n = out.len();
+    out.copy_from_slice(&from[0..n]);
 }
 
 // Whether the letters are a peptide's, and the ids as many.
@@ -67,41 +53,19 @@ fn test_lengths(letters: &[u8], ids: &[u8]) -> Result<(), Refusal>
     }
 }
 
-// What is found of the peptide itself, then of its flag.
-fn test_turn(p: Peptide, decoy: u32) -> Result<(), Refusal>
-    ensures { result ≡ tested_turn p decoy }
-{
-    let made = p.reverse();
-    let found = made.tested;
-    found?;
-    if decoy <= 1 {
-        Ok(())
-    } else {
-        Err(Refusal::Field(0))
-    }
-}
-
-// The tests of a reversal, in document 01's order.
-pub fn test_reverse(letters: &[u8], ids: &[u8], decoy: u32) -> Result<(), Refusal>
-    ensures { result ≡ tested_reverse letters.now ids.now decoy }
+// Reverses a peptide and stores it over the slices that it came from, if the tests pass, which stand in document 01's order:
+// of the lengths, of the peptide, of its flag.
+pub fn reverse(letters: &mut [u8], ids: &mut [u8], decoy: u32) -> Result<(), Refusal>
+    ensures { outcome result (letters.new ∷ ids.new ∷ []) ≡ reverse_outcome letters.old ids.old decoy }
 {
     test_lengths(letters, ids)?;
-    let p = peptide_of(letters, ids, 0, 0, 0, decoy == 1);
-    test_turn(p, decoy)
-}
-
-// Reverses a peptide and stores it over the slices that it came from.
-pub fn turn(letters: &mut [u8], ids: &mut [u8], decoy: u32)
-    requires { (length letters.old ≤ 64) × (length ids.old ≤ 64) × (tested_peptide (turning letters.old ids.old decoy) ≡ Passed) }
-    ensures { (letters.new ≡ take (length letters.old) (reversed_peptide (turning letters.old ids.old decoy)).letters) × (ids.new ≡ take (length ids.old) (reversed_peptide (turning letters.old ids.old decoy)).ids) }
-{
-    let p = peptide_of(letters, ids, 0, 0, 0, decoy == 1);
-    let made = p.reverse();
-    let turned = made.peptide;
-    let held = turned.letters;
-    let worn = turned.ids;
-    put_back(letters, held);
-    put_back(ids, worn);
+    let turned = peptide_of(letters, ids, 0, 0, 0, decoy == 1).reverse()?;
+    if 1 < decoy {
+        return Err(Refusal::Field(0));
+    }
+    put_back(letters, turned.letters);
+    put_back(ids, turned.ids);
+    Ok(())
 }
 
 // The other flag.
