@@ -20,15 +20,8 @@ fn cleft_of(side: Side, b: u8, c: u8) -> u8
 fn cuts(knife: Knife, b: u8, c: u8) -> bool
     ensures { result ≡ between knife b c }
 {
-    let side = knife.side;
-    let cleave = knife.cleave;
-    let skip = knife.skip;
-    let d = cleft_of(side, b, c);
-    if cleave.contains(d) {
-        !skip.contains(c)
-    } else {
-        false
-    }
+    let d = cleft_of(knife.side, b, c);
+    knife.cleave.contains(d) && !knife.skip.contains(c)
 }
 
 // Whether a site ends behind the letter at j, which is not the last.
@@ -51,16 +44,11 @@ pub fn sites(letters: &[u8], knife: Knife, starts: &mut [u32]) -> usize
     }
     let last = n - 1;
     let mut m = 0;
-    let mut j = 0;
-    while j < last {
-        let next = j + 1;
+    for j in 0..last {
         if ends_at(letters, knife, j) {
-            let place = next as u32;
+            let place = (j + 1) as u32;
             m += 1;
             starts[m] = place;
-            j = next;
-        } else {
-            j = next;
         }
     }
     m += 1;
