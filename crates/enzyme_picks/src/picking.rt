@@ -6,19 +6,6 @@ ghost use Rattle.enzyme_picks.specs.Picks.{StartsRise, windows_put};
 
 use enzyme_keep::Terms;
 
-// A number as an index.
-fn wide(x: u8) -> usize
-    ensures { result ≡ x }
-{
-    x as usize
-}
-
-fn place(x: u32) -> usize
-    ensures { result ≡ x }
-{
-    x as usize
-}
-
 // The weight of the window of n sites from site i, where its length is within the limits. Whether it is new is asked in the same test:
 // where windows repeat, neither can be foreseen.
 fn times_of(
@@ -34,7 +21,7 @@ fn times_of(
     requires { (g ≤ length order.now) × (g ≤ length runs.now) × (g ≤ 65536) × (i < length rank.now) × (i < length share.now) }
     ensures { result ≡ cond fits (weight_in order.now runs.now rank.now share.now g n i) 0 }
 {
-    let shared = wide(share[i]);
+    let shared = usize::from(share[i]);
     if fits & (shared < n) {
         return enzyme_weights::new_weight(order, runs, rank, g, i);
     }
@@ -60,31 +47,16 @@ pub fn list_size(
     requires { (missed ≤ 16) × (g ≤ 65536) × (g ≤ length order.now) × (g ≤ length runs.now) × (m ≤ length rank.now) × (m ≤ length share.now) × StartsRise starts.now m }
     ensures { after result out.new ≡ windows_put n terms.protein starts.now (weight_in order.now runs.now rank.now share.now g (suc missed)) terms.minimum terms.maximum missed 0 (m - missed) count out.old }
 {
-    let sites = wide(missed) + 1;
-    let mut i = 0;
-    let mut e = sites;
+    let before = usize::from(missed);
+    let sites = before + 1;
     let mut k = count;
-    while e <= m {
-        let from = place(starts[i]);
-        let to = place(starts[e]);
+    for i in 0..m.saturating_sub(before) {
+        let from = starts[i] as usize;
+        let to = starts[i + sites] as usize;
         let fits = enzyme_keep::length_within(to - from, terms.minimum, terms.maximum);
         let times = times_of(fits, order, runs, rank, share, g, sites, i);
         let new = 0 < times;
-        let x = enzyme_keep::write_range(
-            new,
-            from,
-            to,
-            missed,
-            0,
-            n,
-            terms.protein,
-            times,
-            out,
-            k,
-        )?;
-        k = x;
-        i += 1;
-        e += 1;
+        k = enzyme_keep::write_range(new, from, to, missed, 0, n, terms.protein, times, out, k)?;
     }
     Some(k)
 }

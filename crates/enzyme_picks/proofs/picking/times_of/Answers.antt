@@ -12,7 +12,7 @@ use Rattle.enzyme_picks.proofs.picking.times_of.Goals as goal
 
 pub returns-then-fits-shared : goal.returns-then-fits-shared
 returns-then-fits-shared c = let a = c.args in
-    let x = c.wide-shared in
+    let x = c.from-shared in
     let t = both a.fits (ltb x.result a.n) c.if-fits-shared.true in
     rw t.0 (c.new_weight.ensures ∙ weight_class a.order.now a.runs.now a.rank.now a.share.now a.g a.n a.i (omega (arith, x.ensures, ltb-true x.result a.n t.1)))
 
@@ -23,5 +23,5 @@ untold true x n w h f = f h
 
 pub returns : goal.returns
 returns c = let a = c.args in
-    let x = c.wide-shared in
+    let x = c.from-shared in
     untold a.fits x.result a.n (weight_in a.order.now a.runs.now a.rank.now a.share.now a.g a.n a.i) c.if-fits-shared.false (λ h. weight-shared a.order.now a.runs.now a.rank.now a.share.now a.g a.n a.i (omega (arith, x.ensures, ltb-false x.result a.n h)))
