@@ -9,8 +9,8 @@ use crate::windows::list_windows;
 use enzyme_cuts::Knife;
 use enzyme_keep::Terms;
 
-// Lists the windows of m sites, with tables of three sizes.
-fn few_sites(
+// Lists the windows of m sites, with tables of N.
+fn sites_with<const N: usize>(
     letters: &[u8],
     knife: Knife,
     missed: u8,
@@ -20,62 +20,14 @@ fn few_sites(
     m: usize,
     seen: &mut [u8],
 ) -> Option<usize>
-    requires { (length letters.now ≤ 65536) × (missed ≤ 16) × Starts knife letters.now starts.now m × (m ≤ 1024) }
+    requires { (length letters.now ≤ 65536) × (missed ≤ 16) × Starts knife letters.now starts.now m × (m ≤ N) × (N ≤ 65536) }
     ensures { DigestsListed letters.now terms (each_once knife false missed letters.now) out.old result out.new }
 {
-    let mut order = [0 as u16; 1024];
-    let mut other = [0 as u16; 1024];
-    let mut name = [0 as u16; 1024];
-    let mut rank = [0 as u16; 1024];
-    let mut share = [0 as u8; 1024];
-    list_windows(
-        letters, knife, missed, terms, out, starts, m, &mut order, &mut other, &mut name,
-        &mut rank, &mut share, seen,
-    )
-}
-
-fn some_sites(
-    letters: &[u8],
-    knife: Knife,
-    missed: u8,
-    terms: Terms,
-    out: &mut [u8],
-    starts: &[u32],
-    m: usize,
-    seen: &mut [u8],
-) -> Option<usize>
-    requires { (length letters.now ≤ 65536) × (missed ≤ 16) × Starts knife letters.now starts.now m × (m ≤ 8192) }
-    ensures { DigestsListed letters.now terms (each_once knife false missed letters.now) out.old result out.new }
-{
-    let mut order = [0 as u16; 8192];
-    let mut other = [0 as u16; 8192];
-    let mut name = [0 as u16; 8192];
-    let mut rank = [0 as u16; 8192];
-    let mut share = [0 as u8; 8192];
-    list_windows(
-        letters, knife, missed, terms, out, starts, m, &mut order, &mut other, &mut name,
-        &mut rank, &mut share, seen,
-    )
-}
-
-fn many_sites(
-    letters: &[u8],
-    knife: Knife,
-    missed: u8,
-    terms: Terms,
-    out: &mut [u8],
-    starts: &[u32],
-    m: usize,
-    seen: &mut [u8],
-) -> Option<usize>
-    requires { (length letters.now ≤ 65536) × (missed ≤ 16) × Starts knife letters.now starts.now m × (m ≤ 65536) }
-    ensures { DigestsListed letters.now terms (each_once knife false missed letters.now) out.old result out.new }
-{
-    let mut order = [0 as u16; 65536];
-    let mut other = [0 as u16; 65536];
-    let mut name = [0 as u16; 65536];
-    let mut rank = [0 as u16; 65536];
-    let mut share = [0 as u8; 65536];
+    let mut order = [0u16; N];
+    let mut other = [0u16; N];
+    let mut name = [0u16; N];
+    let mut rank = [0u16; N];
+    let mut share = [0u8; N];
     list_windows(
         letters, knife, missed, terms, out, starts, m, &mut order, &mut other, &mut name,
         &mut rank, &mut share, seen,
@@ -112,12 +64,12 @@ fn sites_within(
         );
     }
     if room <= 1024 {
-        return few_sites(letters, knife, missed, terms, out, starts, m, seen);
+        return sites_with::<1024>(letters, knife, missed, terms, out, starts, m, seen);
     }
     if room <= 8192 {
-        return some_sites(letters, knife, missed, terms, out, starts, m, seen);
+        return sites_with::<8192>(letters, knife, missed, terms, out, starts, m, seen);
     }
-    many_sites(letters, knife, missed, terms, out, starts, m, seen)
+    sites_with::<65536>(letters, knife, missed, terms, out, starts, m, seen)
 }
 
 // With tables that are lent: where the sites start, and what was seen of their letters.
@@ -137,36 +89,18 @@ fn windows_over(
     sites_within(1024, letters, knife, missed, terms, out, starts, m, seen)
 }
 
-// The same with tables of three sizes.
-pub fn windows_small(letters: &[u8], knife: Knife, missed: u8, terms: Terms, out: &mut [u8]) -> Option<usize>
-    requires { (length letters.now ≤ 1024) × (missed ≤ 16) }
-    ensures { DigestsListed letters.now terms (each_once knife false missed letters.now) out.old result out.new }
-{
-    let mut starts = [0 as u32; 1025];
-    let mut seen = [0 as u8; 2048];
-    windows_over(letters, knife, missed, terms, out, &mut starts, &mut seen)
-}
-
-pub fn windows_middle(
+// The same with a table of starts, one longer than the letters, and one of what was seen.
+pub fn windows_with<const STARTS: usize, const SEEN: usize>(
     letters: &[u8],
     knife: Knife,
     missed: u8,
     terms: Terms,
     out: &mut [u8],
 ) -> Option<usize>
-    requires { (length letters.now ≤ 8192) × (missed ≤ 16) }
+    requires { (length letters.now < STARTS) × (STARTS ≤ 65537) × (SEEN ≤ 65536) × (missed ≤ 16) }
     ensures { DigestsListed letters.now terms (each_once knife false missed letters.now) out.old result out.new }
 {
-    let mut starts = [0 as u32; 8193];
-    let mut seen = [0 as u8; 16384];
-    windows_over(letters, knife, missed, terms, out, &mut starts, &mut seen)
-}
-
-pub fn windows_large(letters: &[u8], knife: Knife, missed: u8, terms: Terms, out: &mut [u8]) -> Option<usize>
-    requires { (length letters.now ≤ 65536) × (missed ≤ 16) }
-    ensures { DigestsListed letters.now terms (each_once knife false missed letters.now) out.old result out.new }
-{
-    let mut starts = [0 as u32; 65537];
-    let mut seen = [0 as u8; 65536];
+    let mut starts = [0u32; STARTS];
+    let mut seen = [0u8; SEEN];
     windows_over(letters, knife, missed, terms, out, &mut starts, &mut seen)
 }

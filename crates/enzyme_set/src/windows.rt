@@ -12,12 +12,6 @@ ghost use Rattle.enzyme_picks.specs.Picks.{sizes_put};
 use enzyme_cuts::Knife;
 use enzyme_keep::Terms;
 
-fn wide(x: u8) -> usize
-    ensures { result ≡ x }
-{
-    x as usize
-}
-
 // Lists the windows of 1 to missed + 1 of the m sites, size by size: `first` of them are ranked by windows of one site.
 fn list_levels(
     letters: &[u8],
@@ -39,15 +33,12 @@ fn list_levels(
 {
     let n = letters.len();
     let mut g = first;
-    let mut over = 0u8;
     let mut k = 0;
-    while over < missed {
-        let x = enzyme_picks::list_size(
+    for over in 0..missed {
+        k = enzyme_picks::list_size(
             starts, order, other, rank, share, g, m, over, n, terms, out, k,
         )?;
-        k = x;
-        over += 1;
-        let sites = wide(over);
+        let sites = usize::from(over) + 1;
         g = enzyme_levels::next_level(
             letters, starts, m, sites, g, order, other, name, rank, share,
         );

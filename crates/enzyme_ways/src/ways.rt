@@ -74,12 +74,12 @@ pub(crate) fn offer_all(
                 return enzyme_halves::semi_large(letters, knife, missed, terms, out);
             }
             if n <= 1024 {
-                return enzyme_set::windows_small(letters, knife, missed, terms, out);
+                return enzyme_set::windows_with::<1025, 2048>(letters, knife, missed, terms, out);
             }
             if n <= 8192 {
-                return enzyme_set::windows_middle(letters, knife, missed, terms, out);
+                return enzyme_set::windows_with::<8193, 16384>(letters, knife, missed, terms, out);
             }
-            enzyme_set::windows_large(letters, knife, missed, terms, out)
+            enzyme_set::windows_with::<65537, 65536>(letters, knife, missed, terms, out)
         }
     }
 }

@@ -10,27 +10,27 @@ use Rattle.enzyme_set.proofs.windows.list_levels.Invariants.{weights}
 use Rattle.enzyme_set.proofs.windows.list_levels.Goals as goal
 
 pub loop-over-init : goal.loop-over-init
-loop-over-init c = let z : suc c.args.missed - 0 ≡ suc c.args.missed = omega arith in (omega arith, refl, refl, refl, refl, refl, λ ts lr. (lr, rw z))
+loop-over-init c = let z : suc c.args.missed - 0 ≡ suc c.args.missed = omega arith in (refl, refl, refl, refl, refl, λ ts lr. (lr, rw z))
 
 pub list_size-requires : goal.list_size-requires
 list_size-requires c =
     let a = c.args in
     let p = c.requires in
     let l = c.loop-over in
-    let q = l.invariant.6 (pieces a.knife a.letters.now) p.2 in
-    level_ready a.knife a.letters.now a.starts.now l.order l.other a.name.now l.rank l.share l.over l.g a.m q.0 p.0 (omega (arith, p.1, l.invariant.0)) (omega (arith, p.3, l.invariant.1)) (omega (arith, p.4, l.invariant.2)) (omega (arith, p.5, l.invariant.3)) (omega (arith, p.6, l.invariant.4))
+    let q = l.invariant.5 (pieces a.knife a.letters.now) p.2 in
+    level_ready a.knife a.letters.now a.starts.now l.order l.other a.name.now l.rank l.share l.over l.g a.m q.0 p.0 (omega arith) (omega (arith, p.3, l.invariant.0)) (omega (arith, p.4, l.invariant.1)) (omega (arith, p.5, l.invariant.2)) (omega (arith, p.6, l.invariant.3))
 
-pub returns-in_default : goal.returns-in_default
-returns-in_default c =
+pub returns-in_err-k : goal.returns-in_err-k
+returns-in_err-k c =
     let a = c.args in
     let p = c.requires in
     let l = c.loop-over in
     let u = c.list_size in
     let s = a.letters.now in
     let ts = pieces a.knife s in
-    let q = l.invariant.6 ts p.2 in
-    sizes_full (length s) a.terms.protein a.starts.now (weights ts) a.terms.minimum a.terms.maximum a.m l.over a.missed l.k l.out q.1 l.invariant.0 u.new.out
-    (rw c.in_default.is at u.ensures ∙ level_listed ts s a.starts.now l.order l.other a.name.now l.rank l.share l.over l.g a.m q.0 (length s) a.terms.protein a.terms.minimum a.terms.maximum l.k l.out)
+    let q = l.invariant.5 ts p.2 in
+    rw c.from_residual.ensures (sizes_full (length s) a.terms.protein a.starts.now (weights ts) a.terms.minimum a.terms.maximum a.m l.over a.missed l.k l.out q.1 (omega arith) u.new.out
+    (rw c.in_err-k.was at u.ensures ∙ level_listed ts s a.starts.now l.order l.other a.name.now l.rank l.share l.over l.g a.m q.0 (length s) a.terms.protein a.terms.minimum a.terms.maximum l.k l.out))
 
 pub next_level-g-requires : goal.next_level-g-requires
 next_level-g-requires c =
@@ -38,9 +38,9 @@ next_level-g-requires c =
     let p = c.requires in
     let l = c.loop-over in
     let ts = pieces a.knife a.letters.now in
-    let q = l.invariant.6 ts p.2 in
-    let z : c.wide-sites.result ≡ suc l.over = omega arith in
-    ((ts, rw z q.0), omega (arith, p.1, c.loop-over-test.true), omega (arith, p.3, l.invariant.1), omega (arith, p.4, l.invariant.2), omega (arith, p.5, l.invariant.3), omega (arith, p.6, l.invariant.4))
+    let q = l.invariant.5 ts p.2 in
+    let z : c.from-sites.result + 1 ≡ suc l.over = omega arith in
+    ((ts, rw z q.0), omega arith, omega (arith, p.3, l.invariant.0), omega (arith, p.4, l.invariant.1), omega (arith, p.5, l.invariant.2), omega (arith, p.6, l.invariant.3))
 
 pub loop-over-preserved : goal.loop-over-preserved
 loop-over-preserved c =
@@ -49,19 +49,18 @@ loop-over-preserved c =
     let u = c.list_size in
     let v = c.next_level-g in
     let s = a.letters.now in
-    let z : c.wide-sites.result ≡ suc l.over = omega arith in
-    let y : c.wide-sites.result + 1 ≡ suc (l.over + 1) = omega arith in (
-      omega (arith, c.loop-over-test.true),
-      v.auto.order ∙ l.invariant.1,
-      v.auto.other ∙ l.invariant.2,
-      v.auto.rank ∙ l.invariant.3,
-      v.auto.share ∙ l.invariant.4,
-      omega (arith, u.auto.out, l.invariant.5),
+    let z : c.from-sites.result + 1 ≡ suc l.over = omega arith in
+    let y : c.from-sites.result + 1 + 1 ≡ suc (l.over + 1) = omega arith in (
+      v.auto.order ∙ l.invariant.0,
+      v.auto.other ∙ l.invariant.1,
+      v.auto.rank ∙ l.invariant.2,
+      v.auto.share ∙ l.invariant.3,
+      omega (arith, u.auto.out, l.invariant.4),
       λ ts lr.
-          let q = l.invariant.6 ts lr in (
+          let q = l.invariant.5 ts lr in (
             rw y at (v.ensures ts (rw z q.0)),
-            sizes-kept (length s) a.terms.protein a.starts.now (weights ts) a.terms.minimum a.terms.maximum a.m l.over a.missed l.k l.out q.1 l.invariant.0 u.new.out c.in-Kept.x
-                (rw c.in-Kept.is at u.ensures ∙ level_listed ts s a.starts.now l.order l.other a.name.now l.rank l.share l.over l.g a.m q.0 (length s) a.terms.protein a.terms.minimum a.terms.maximum l.k l.out),
+            sizes-kept (length s) a.terms.protein a.starts.now (weights ts) a.terms.minimum a.terms.maximum a.m l.over a.missed l.k l.out q.1 (omega arith) u.new.out c.in_ok-k.k
+                (rw c.in_ok-k.was at u.ensures ∙ level_listed ts s a.starts.now l.order l.other a.name.now l.rank l.share l.over l.g a.m q.0 (length s) a.terms.protein a.terms.minimum a.terms.maximum l.k l.out),
           ),
     )
 
@@ -70,9 +69,9 @@ list_size-requires-2 c =
     let a = c.args in
     let p = c.requires in
     let l = c.loop-over in
-    let e : l.over ≡ a.missed = omega (arith, l.invariant.0, c.loop-over-test.false) in
-    let q = l.invariant.6 (pieces a.knife a.letters.now) p.2 in
-    level_ready a.knife a.letters.now a.starts.now l.order l.other a.name.now l.rank l.share a.missed l.g a.m (rw e at q.0) p.0 p.1 (omega (arith, p.3, l.invariant.1)) (omega (arith, p.4, l.invariant.2)) (omega (arith, p.5, l.invariant.3)) (omega (arith, p.6, l.invariant.4))
+    let e : l.over ≡ a.missed = omega arith in
+    let q = l.invariant.5 (pieces a.knife a.letters.now) p.2 in
+    level_ready a.knife a.letters.now a.starts.now l.order l.other a.name.now l.rank l.share a.missed l.g a.m (rw e at q.0) p.0 p.1 (omega (arith, p.3, l.invariant.0)) (omega (arith, p.4, l.invariant.1)) (omega (arith, p.5, l.invariant.2)) (omega (arith, p.6, l.invariant.3))
 
 pub returns : goal.returns
 returns c =
@@ -82,7 +81,7 @@ returns c =
     let u = c.list_size-2 in
     let s = a.letters.now in
     let ts = pieces a.knife s in
-    let e : a.missed ≡ l.over = omega (arith, l.invariant.0, c.loop-over-test.false) in
-    let q = l.invariant.6 ts p.2 in
+    let e : a.missed ≡ l.over = omega arith in
+    let q = l.invariant.5 ts p.2 in
     sizes-last (length s) a.terms.protein a.starts.now (weights ts) a.terms.minimum a.terms.maximum a.m l.over a.missed l.k l.out q.1 (omega arith) u.result u.new.out
     (rw e at u.ensures ∙ level_listed ts s a.starts.now l.order l.other a.name.now l.rank l.share l.over l.g a.m q.0 (length s) a.terms.protein a.terms.minimum a.terms.maximum l.k l.out)

@@ -1,7 +1,7 @@
 -- `list_levels` meets its contract: the sizes ahead give the whole, and the next size is ranked. Assumes nothing.
 use mathlib.Core.Path.{◌≡◌}
 use mathlib.Core.List.{List}
-use Prim.Native.Nat.{ℕ, suc, ◌-◌, ◌≤◌}
+use Prim.Native.Nat.{ℕ, suc, ◌-◌}
 use lib.ListN.{length}
 use Rattle.enzyme_windows.specs.Weights.{class_weight}
 use Rattle.enzyme_levels.specs.Levels.{LevelRanked}
@@ -13,11 +13,8 @@ weights ts y i = class_weight ts (suc y) i
 
 abbrev pub invariant-loop-over : goal.invariant-loop-over
 invariant-loop-over l =
-    (l.over ≤ l.missed) × (length l.order ≡ length l.initial.order) × (length l.other ≡ length l.initial.other) × (length l.rank ≡ length l.initial.rank) × (length l.share ≡ length l.initial.share) × (length l.out ≡ length l.initial.out)
+    (length l.order ≡ length l.initial.order) × (length l.other ≡ length l.initial.other) × (length l.rank ≡ length l.initial.rank) × (length l.share ≡ length l.initial.share) × (length l.out ≡ length l.initial.out)
     × ((ts : List (List ℕ)) → LevelRanked ts l.letters l.starts l.initial.order l.initial.other l.name l.initial.rank l.initial.share 1 l.first l.m
     → LevelRanked ts l.letters l.starts l.order l.other l.name l.rank l.share (suc l.over) l.g l.m
     × (sizes_put l.n l.terms.protein l.starts (weights ts) l.terms.minimum l.terms.maximum l.m l.over (suc l.missed - l.over) l.k l.out
     ≡ sizes_put l.n l.terms.protein l.starts (weights ts) l.terms.minimum l.terms.maximum l.m 0 (suc l.missed) 0 l.initial.out))
-
-abbrev pub decreases-loop-over : goal.decreases-loop-over
-decreases-loop-over l = l.missed - l.over
