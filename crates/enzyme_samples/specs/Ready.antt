@@ -11,6 +11,7 @@ use Rattle.enzyme_list.specs.Tally.{step_at, seen_at, added_by, Tally}
 use Rattle.enzyme_list.specs.Offer.{Keeps, ListTells}
 use Rattle.enzyme_search.specs.Marks.{SamplesListed}
 use Rattle.enzyme_samples.specs.declared.offering.Run.{Run}
+use Rattle.enzyme_samples.specs.declared.offering.Source.{Source}
 
 abbrev pub run_started : Run
 run_started = record { count = 0; head = 0; samples = 0; limit = 8; full = false }
@@ -65,6 +66,13 @@ pub record Offers (s f : List ℕ) (t : Terms) (ws : List Weighted) (run : Run) 
   pub view : seen_as t run' out' ≡ unless_full (seen_as t run out) (offers s t untold (ranges ws))
   pub next : (rest : List Weighted) → RangesReady s f (ws ++ rest) run out marks → RangesReady s f rest run' out' marks'
   pub tells : (T : List ℕ → ℕ) → Tallied s t run out T → Tallied s t run' out' (λ x. T x + added s t ws x)
+
+-- the same of what ranges are offered of
+abbrev pub ReadyOf : Source → List Weighted → Run → List ℕ → List ℕ → Type 0
+ReadyOf source = RangesReady source.letters.now source.far.now
+
+abbrev pub OffersOf : Source → List Weighted → Run → List ℕ → List ℕ → Run → List ℕ → List ℕ → Type 0
+OffersOf source = Offers source.letters.now source.far.now source.terms
 
 -- the list is the same, whatever became of the samples
 pub record Noted (run : Run) (out marks : List ℕ) (r : Run) : Type 0 where

@@ -5,4 +5,4 @@
 mod noting;
 mod offering;
 
-pub use offering::{Run, offer_range, start_run};
+pub use offering::{Run, Source, offer_range, start_run};

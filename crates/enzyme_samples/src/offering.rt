@@ -1,7 +1,7 @@
 // Ranges offered to the list of records.
 ghost use Rattle.std.specs.Prelude.{◌≡◌, [], ◌∷◌, ◌-◌, ◌≤◌, ◌<◌, get_or};
 ghost use Rattle.enzyme_cuts.specs.Cutting.{range};
-ghost use Rattle.enzyme_samples.specs.Ready.{run_started, weighted, RangesReady, Offers};
+ghost use Rattle.enzyme_samples.specs.Ready.{run_started, weighted, ReadyOf, OffersOf};
 
 use crate::noting::note;
 use enzyme_keep::Terms;
@@ -16,6 +16,15 @@ pub struct Run {
     pub samples: usize,
     pub limit: usize,
     pub full: bool,
+}
+
+// What ranges are offered of: the letters; for each start, the most letters that any other start may share with it; and what is
+// wanted of a digest.
+#[derive(Clone, Copy)]
+pub struct Source<'a> {
+    pub letters: &'a [u8],
+    pub far: &'a [u32],
+    pub terms: Terms,
 }
 
 // No record yet.
@@ -40,23 +49,31 @@ fn far_at(far: &[u32], at: usize) -> usize
 
 // A range that is longer than what its start shares with any other is new: it is neither sought nor linked in.
 fn write_range(
-    letters: &[u8],
-    far: &[u32],
+    source: &Source,
     a: usize,
     e: usize,
     missed: u8,
     semi: u8,
     times: u32,
-    terms: Terms,
     out: &mut [u8],
     marks: &[u32],
     run: Run,
 ) -> Run
-    requires { RangesReady letters.now far.now (weighted (range a e missed semi) times ∷ []) run out.old marks.now × (get_or far.now a 0 < e - a) }
-    ensures { Offers letters.now far.now terms (weighted (range a e missed semi) times ∷ []) run out.old marks.now result out.new marks.now }
+    requires { ReadyOf source.now (weighted (range a e missed semi) times ∷ []) run out.old marks.now × (get_or source.now.far.now a 0 < e - a) }
+    ensures { OffersOf source.now (weighted (range a e missed semi) times ∷ []) run out.old marks.now result out.new marks.now }
 {
     let at = enzyme_list::write(
-        letters, a, e, missed, semi, times, terms, out, run.count, run.head, run.full,
+        source.letters,
+        a,
+        e,
+        missed,
+        semi,
+        times,
+        source.terms,
+        out,
+        run.count,
+        run.head,
+        run.full,
     );
     Run {
         count: at.count,
@@ -68,26 +85,44 @@ fn write_range(
 
 // Any other is sought, and linked in where it is new: from the last sample below it on.
 fn seek_range(
-    letters: &[u8],
-    far: &[u32],
+    source: &Source,
     a: usize,
     e: usize,
     missed: u8,
     semi: u8,
     times: u32,
-    terms: Terms,
     out: &mut [u8],
     marks: &mut [u32],
     run: Run,
 ) -> Run
-    requires { RangesReady letters.now far.now (weighted (range a e missed semi) times ∷ []) run out.old marks.old × (e - a ≤ get_or far.now a 0) }
-    ensures { Offers letters.now far.now terms (weighted (range a e missed semi) times ∷ []) run out.old marks.old result out.new marks.new }
+    requires { ReadyOf source.now (weighted (range a e missed semi) times ∷ []) run out.old marks.old × (e - a ≤ get_or source.now.far.now a 0) }
+    ensures { OffersOf source.now (weighted (range a e missed semi) times ∷ []) run out.old marks.old result out.new marks.new }
 {
-    let head = enzyme_search::head_of(&letters[a..e]);
-    let k = enzyme_search::last_below(letters, out, run.count, marks, run.samples, a, e, head);
+    let head = enzyme_search::head_of(&source.letters[a..e]);
+    let k = enzyme_search::last_below(
+        source.letters,
+        out,
+        run.count,
+        marks,
+        run.samples,
+        a,
+        e,
+        head,
+    );
     let from = enzyme_search::sample(marks, k);
     let at = enzyme_list::offer(
-        letters, a, e, missed, semi, times, terms, out, run.count, run.head, run.full, from,
+        source.letters,
+        a,
+        e,
+        missed,
+        semi,
+        times,
+        source.terms,
+        out,
+        run.count,
+        run.head,
+        run.full,
+        from,
     );
     let next = Run {
         count: at.count,
@@ -98,36 +133,30 @@ fn seek_range(
     if at.count == run.count {
         return next;
     }
-    note(letters, out, marks, next, k, head)
+    note(source.letters, out, marks, next, k, head)
 }
 
 // A record that has the letters a..e gets `times` more; where none has them, the length is wanted and there is room, their
-// record is written, with that number. `far` has for each start the most letters that any other start may share with it.
+// record is written, with that number.
 pub fn offer_range(
-    letters: &[u8],
-    far: &[u32],
+    source: &Source,
     a: usize,
     e: usize,
     missed: u8,
     semi: u8,
     times: u32,
-    terms: Terms,
     out: &mut [u8],
     marks: &mut [u32],
     run: Run,
 ) -> Run
-    requires { RangesReady letters.now far.now (weighted (range a e missed semi) times ∷ []) run out.old marks.old }
-    ensures { Offers letters.now far.now terms (weighted (range a e missed semi) times ∷ []) run out.old marks.old result out.new marks.new }
+    requires { ReadyOf source.now (weighted (range a e missed semi) times ∷ []) run out.old marks.old }
+    ensures { OffersOf source.now (weighted (range a e missed semi) times ∷ []) run out.old marks.old result out.new marks.new }
 {
-    if enzyme_keep::length_within(e - a, terms.minimum, terms.maximum) {
-        if far_at(far, a) < e - a {
-            return write_range(
-                letters, far, a, e, missed, semi, times, terms, out, marks, run,
-            );
+    if enzyme_keep::length_within(e - a, source.terms.minimum, source.terms.maximum) {
+        if far_at(source.far, a) < e - a {
+            return write_range(source, a, e, missed, semi, times, out, marks, run);
         }
-        return seek_range(
-            letters, far, a, e, missed, semi, times, terms, out, marks, run,
-        );
+        return seek_range(source, a, e, missed, semi, times, out, marks, run);
     }
     // Field by field: a copy of the whole would carry the bytes behind `full` along, and wait for them.
     Run {
