@@ -6,4 +6,4 @@ use Rattle.enzyme_parts.specs.Going.{Underway}
 use Rattle.enzyme_parts.proofs.parts.offer_endings.Given as goal
 
 abbrev pub invariant-loop-c : goal.invariant-loop-c
-invariant-loop-c l = Underway l.letters l.far l.terms (loaded l.times (endings l.missed l.e (suc l.a) (l.z - suc l.a))) l.initial.at l.initial.out l.initial.marks (loaded l.times (endings l.missed l.e l.c (l.z - l.c))) l.at l.out l.marks
+invariant-loop-c l = Underway l.source.letters.now l.source.far.now l.source.terms (loaded l.times (endings l.missed l.e (suc l.a) (l.z - suc l.a))) l.initial.at l.initial.out l.initial.marks (loaded l.times (endings l.missed l.e l.c (l.z - l.c))) l.at l.out l.marks

@@ -19,7 +19,7 @@ mid : (c : After-slice_known-in-loop-c-2-1)
     let l = c.loop-c in
     let g = c.offer_range-x.new in
     let r = range a.a a.e 0 0 in
-    Underway a.letters.now a.far.now a.terms (loaded a.times (halves r (suc a.a) (a.e - suc a.a))) a.run a.out.now a.marks.now
+    Underway a.source.now.letters.now a.source.now.far.now a.source.now.terms (loaded a.times (halves r (suc a.a) (a.e - suc a.a))) a.run a.out.now a.marks.now
     (loaded a.times (range l.c a.e 0 1 ∷ halves r (l.c + 1) (a.e - (l.c + 1)))) c.offer_range-x.result g.out g.marks
 mid c =
     let a = c.args in

@@ -6,4 +6,4 @@ use Rattle.enzyme_parts.specs.Going.{Underway}
 use Rattle.enzyme_parts.proofs.parts.offer_openings.Given as goal
 
 abbrev pub invariant-loop-c : goal.invariant-loop-c
-invariant-loop-c l = Underway l.letters l.far l.terms (loaded l.times (openings l.missed l.a (suc l.b) (l.e - suc l.b))) l.initial.at l.initial.out l.initial.marks (loaded l.times (openings l.missed l.a l.c (l.e - l.c))) l.at l.out l.marks
+invariant-loop-c l = Underway l.source.letters.now l.source.far.now l.source.terms (loaded l.times (openings l.missed l.a (suc l.b) (l.e - suc l.b))) l.initial.at l.initial.out l.initial.marks (loaded l.times (openings l.missed l.a l.c (l.e - l.c))) l.at l.out l.marks
