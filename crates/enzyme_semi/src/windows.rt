@@ -1,11 +1,10 @@
 // Windows of neighbouring sites, by the table of their starts.
 ghost use Rattle.std.specs.Prelude.{◌≡◌, [], ◌∷◌, suc, ◌+◌, ◌<◌, ◌≤◌, length};
 ghost use Rattle.enzyme_cuts.specs.Cutting.{range, windows, windows_from};
-ghost use Rattle.enzyme_samples.specs.Ready.{weighted, loaded, RangesReady, Offers};
+ghost use Rattle.enzyme_samples.specs.Ready.{weighted, loaded, ReadyOf, OffersOf};
 ghost use Rattle.enzyme_parts.specs.Walk.{site_start, sites_in};
 
-use enzyme_keep::Terms;
-use enzyme_samples::{Run, offer_range};
+use enzyme_samples::{Run, Source, offer_range};
 
 // The place at which site i starts.
 pub(crate) fn place(starts: &[u32], i: usize) -> usize
@@ -17,77 +16,60 @@ pub(crate) fn place(starts: &[u32], i: usize) -> usize
 
 // Offers the window of the sites i to j.
 fn offer_window(
-    letters: &[u8],
-    far: &[u32],
+    source: &Source,
     starts: &[u32],
     i: usize,
     j: usize,
     missed: u8,
-    terms: Terms,
     out: &mut [u8],
     marks: &mut [u32],
     run: Run,
 ) -> Run
-    requires { (i ≤ j) × (j + 1 < length starts.now) × RangesReady letters.now far.now (weighted (range (site_start starts.now i) (site_start starts.now (j + 1)) missed 0) 1 ∷ []) run out.old marks.old }
-    ensures { Offers letters.now far.now terms (weighted (range (site_start starts.now i) (site_start starts.now (j + 1)) missed 0) 1 ∷ []) run out.old marks.old result out.new marks.new }
+    requires { (i ≤ j) × (j + 1 < length starts.now) × ReadyOf source.now (weighted (range (site_start starts.now i) (site_start starts.now (j + 1)) missed 0) 1 ∷ []) run out.old marks.old }
+    ensures { OffersOf source.now (weighted (range (site_start starts.now i) (site_start starts.now (j + 1)) missed 0) 1 ∷ []) run out.old marks.old result out.new marks.new }
 {
     let a = place(starts, i);
     let e = place(starts, j + 1);
-    offer_range(letters, far, a, e, missed, 0, 1, terms, out, marks, run)
+    offer_range(source, a, e, missed, 0, 1, out, marks, run)
 }
 
 // Offers the windows of missed + 1 sites.
 fn offer_windows(
-    letters: &[u8],
-    far: &[u32],
+    source: &Source,
     starts: &[u32],
     m: usize,
     missed: u8,
-    terms: Terms,
     out: &mut [u8],
     marks: &mut [u32],
     run: Run,
 ) -> Run
-    requires { (m < length starts.now) × RangesReady letters.now far.now (loaded 1 (windows missed (sites_in starts.now m))) run out.old marks.old }
-    ensures { Offers letters.now far.now terms (loaded 1 (windows missed (sites_in starts.now m))) run out.old marks.old result out.new marks.new }
+    requires { (m < length starts.now) × ReadyOf source.now (loaded 1 (windows missed (sites_in starts.now m))) run out.old marks.old }
+    ensures { OffersOf source.now (loaded 1 (windows missed (sites_in starts.now m))) run out.old marks.old result out.new marks.new }
 {
     let on = missed as usize;
     let mut at = run;
     for i in 0..m.saturating_sub(on) {
-        at = offer_window(
-            letters,
-            far,
-            starts,
-            i,
-            i + on,
-            missed,
-            terms,
-            out,
-            marks,
-            at,
-        );
+        at = offer_window(source, starts, i, i + on, missed, out, marks, at);
     }
     at
 }
 
 // Offers the windows of 1 to missed + 1 sites.
 pub fn offer_all_windows(
-    letters: &[u8],
-    far: &[u32],
+    source: &Source,
     starts: &[u32],
     m: usize,
     missed: u8,
-    terms: Terms,
     out: &mut [u8],
     marks: &mut [u32],
     run: Run,
 ) -> Run
-    requires { (m < length starts.now) × (missed < 255) × RangesReady letters.now far.now (loaded 1 (windows_from 0 (suc missed) (sites_in starts.now m))) run out.old marks.old }
-    ensures { Offers letters.now far.now terms (loaded 1 (windows_from 0 (suc missed) (sites_in starts.now m))) run out.old marks.old result out.new marks.new }
+    requires { (m < length starts.now) × (missed < 255) × ReadyOf source.now (loaded 1 (windows_from 0 (suc missed) (sites_in starts.now m))) run out.old marks.old }
+    ensures { OffersOf source.now (loaded 1 (windows_from 0 (suc missed) (sites_in starts.now m))) run out.old marks.old result out.new marks.new }
 {
     let mut at = run;
     for k in 0..=missed {
-        at = offer_windows(letters, far, starts, m, k, terms, out, marks, at);
+        at = offer_windows(source, starts, m, k, out, marks, at);
     }
     at
 }

@@ -8,4 +8,4 @@ use Rattle.enzyme_semi.proofs.owns.offer_owns.Given as goal
 
 abbrev pub invariant-loop-i : goal.invariant-loop-i
 invariant-loop-i l =
-    Underway l.letters l.far l.terms (weigh_owns (weight_in l.order l.runs l.rank l.share l.g (suc l.missed)) l.missed (sites_in l.starts l.m)) l.initial.at l.initial.out l.initial.marks (weigh_ins l.starts (weight_in l.order l.runs l.rank l.share l.g (suc l.missed)) l.missed l.i (l.i + l.missed) (l.m - (l.i + l.missed))) l.at l.out l.marks
+    Underway l.source.letters.now l.source.far.now l.source.terms (weigh_owns (weight_in l.order l.runs l.rank l.share l.g (suc l.missed)) l.missed (sites_in l.starts l.m)) l.initial.at l.initial.out l.initial.marks (weigh_ins l.starts (weight_in l.order l.runs l.rank l.share l.g (suc l.missed)) l.missed l.i (l.i + l.missed) (l.m - (l.i + l.missed))) l.at l.out l.marks

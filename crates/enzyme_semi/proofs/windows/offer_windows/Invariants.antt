@@ -8,4 +8,4 @@ use Rattle.enzyme_parts.specs.Going.{Underway}
 use Rattle.enzyme_semi.proofs.windows.offer_windows.Given as goal
 
 abbrev pub invariant-loop-i : goal.invariant-loop-i
-invariant-loop-i l = Underway l.letters l.far l.terms (loaded 1 (windows l.missed (sites_in l.starts l.m))) l.initial.at l.initial.out l.initial.marks (loaded 1 (spans (site_start l.starts) l.missed l.i (l.i + l.missed) (l.m - (l.i + l.missed)))) l.at l.out l.marks
+invariant-loop-i l = Underway l.source.letters.now l.source.far.now l.source.terms (loaded 1 (windows l.missed (sites_in l.starts l.m))) l.initial.at l.initial.out l.initial.marks (loaded 1 (spans (site_start l.starts) l.missed l.i (l.i + l.missed) (l.m - (l.i + l.missed)))) l.at l.out l.marks
