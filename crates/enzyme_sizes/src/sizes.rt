@@ -1,7 +1,7 @@
 // The parts of windows of more and more sites.
 ghost use Rattle.std.specs.Prelude.{suc, ◌≤◌, ◌<◌, length};
 ghost use Rattle.enzyme_windows.specs.Pieces.{pieces};
-ghost use Rattle.enzyme_samples.specs.Ready.{RangesReady, Offers};
+ghost use Rattle.enzyme_samples.specs.Ready.{ReadyOf, OffersOf};
 ghost use Rattle.enzyme_parts.specs.Walk.{sites_in};
 ghost use Rattle.enzyme_parts.specs.Weighed.{weigh_from};
 ghost use Rattle.enzyme_semi.specs.WeightLaws.{weight_of};
@@ -9,20 +9,17 @@ ghost use Rattle.enzyme_sizes.specs.Told.{TablesLong, LevelTold};
 
 use crate::levels::raise;
 use enzyme_cuts::Knife;
-use enzyme_keep::Terms;
-use enzyme_samples::Run;
+use enzyme_samples::{Run, Source};
 use enzyme_semi::offer_owns;
 
 // Offers those of 2 to missed + 1 sites. The tables are those of one site, with g sites in the order.
 fn offer_more(
     looked: bool,
-    letters: &[u8],
+    source: &Source,
     knife: Knife,
-    far: &[u32],
     starts: &[u32],
     m: usize,
     missed: u8,
-    terms: Terms,
     out: &mut [u8],
     marks: &mut [u32],
     order: &mut [u16],
@@ -33,20 +30,29 @@ fn offer_more(
     first: usize,
     run: Run,
 ) -> Run
-    requires { (m < length starts.now) × (missed ≤ 16) × TablesLong looked order.old other.old rank.old share.old m × LevelTold looked (pieces knife letters.now) letters.now starts.now order.old other.old name.now rank.old share.old 1 first m × RangesReady letters.now far.now (weigh_from (weight_of looked (pieces knife letters.now)) 1 missed (sites_in starts.now m)) run out.old marks.old }
-    ensures { Offers letters.now far.now terms (weigh_from (weight_of looked (pieces knife letters.now)) 1 missed (sites_in starts.now m)) run out.old marks.old result out.new marks.new }
+    requires { (m < length starts.now) × (missed ≤ 16) × TablesLong looked order.old other.old rank.old share.old m × LevelTold looked (pieces knife source.now.letters.now) source.now.letters.now starts.now order.old other.old name.now rank.old share.old 1 first m × ReadyOf source.now (weigh_from (weight_of looked (pieces knife source.now.letters.now)) 1 missed (sites_in starts.now m)) run out.old marks.old }
+    ensures { OffersOf source.now (weigh_from (weight_of looked (pieces knife source.now.letters.now)) 1 missed (sites_in starts.now m)) run out.old marks.old result out.new marks.new }
 {
-    let mut k: u8 = 0;
     let mut g = first;
     let mut at = run;
-    while k < missed {
-        k += 1;
+    for k in 1..=missed {
         let sites = k as usize;
         g = raise(
-            looked, letters, knife, starts, m, sites, g, order, other, name, rank, share,
+            looked,
+            source.letters,
+            knife,
+            starts,
+            m,
+            sites,
+            g,
+            order,
+            other,
+            name,
+            rank,
+            share,
         );
         at = offer_owns(
-            letters, far, starts, order, other, rank, share, g, m, k, terms, out, marks, at,
+            source, starts, order, other, rank, share, g, m, k, out, marks, at,
         );
     }
     at
@@ -55,13 +61,11 @@ fn offer_more(
 // Offers those of 1 to missed + 1 sites.
 pub fn offer_sizes(
     looked: bool,
-    letters: &[u8],
+    source: &Source,
     knife: Knife,
-    far: &[u32],
     starts: &[u32],
     m: usize,
     missed: u8,
-    terms: Terms,
     out: &mut [u8],
     marks: &mut [u32],
     order: &mut [u16],
@@ -72,14 +76,14 @@ pub fn offer_sizes(
     first: usize,
     run: Run,
 ) -> Run
-    requires { (m < length starts.now) × (missed ≤ 16) × TablesLong looked order.old other.old rank.old share.old m × LevelTold looked (pieces knife letters.now) letters.now starts.now order.old other.old name.now rank.old share.old 1 first m × RangesReady letters.now far.now (weigh_from (weight_of looked (pieces knife letters.now)) 0 (suc missed) (sites_in starts.now m)) run out.old marks.old }
-    ensures { Offers letters.now far.now terms (weigh_from (weight_of looked (pieces knife letters.now)) 0 (suc missed) (sites_in starts.now m)) run out.old marks.old result out.new marks.new }
+    requires { (m < length starts.now) × (missed ≤ 16) × TablesLong looked order.old other.old rank.old share.old m × LevelTold looked (pieces knife source.now.letters.now) source.now.letters.now starts.now order.old other.old name.now rank.old share.old 1 first m × ReadyOf source.now (weigh_from (weight_of looked (pieces knife source.now.letters.now)) 0 (suc missed) (sites_in starts.now m)) run out.old marks.old }
+    ensures { OffersOf source.now (weigh_from (weight_of looked (pieces knife source.now.letters.now)) 0 (suc missed) (sites_in starts.now m)) run out.old marks.old result out.new marks.new }
 {
     let at = offer_owns(
-        letters, far, starts, order, other, rank, share, first, m, 0, terms, out, marks, run,
+        source, starts, order, other, rank, share, first, m, 0, out, marks, run,
     );
     offer_more(
-        looked, letters, knife, far, starts, m, missed, terms, out, marks, order, other, name,
-        rank, share, first, at,
+        looked, source, knife, starts, m, missed, out, marks, order, other, name, rank, share,
+        first, at,
     )
 }

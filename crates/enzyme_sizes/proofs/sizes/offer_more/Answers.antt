@@ -1,6 +1,6 @@
 -- `offer_more` meets its contract. Assumes nothing.
 use Prim.Native.Nat.{◌+◌, ◌-◌}
-use mathlib.Core.Path.{◌≡◌, refl}
+use mathlib.Core.Path.{◌≡◌}
 use native.Mathlib.Omega.{arith}
 use Rattle.enzyme_windows.specs.Pieces.{pieces}
 use Rattle.enzyme_parts.specs.Walk.{sites_in}
@@ -14,63 +14,45 @@ use Rattle.enzyme_sizes.proofs.sizes.offer_more.Goals as goal
 pub loop-k-init : goal.loop-k-init
 loop-k-init c =
     let p = c.requires in
-    let e : c.args.missed - 0 ≡ c.args.missed = omega arith in
-    (omega arith, p.2, p.3, rw e (underway_start p.4), refl, refl, refl, refl)
-
-pub overflow_add-k : goal.overflow_add-k
-overflow_add-k c = omega (arith, c.loop-k-test.true, c.requires.1)
-
-pub overflow_cast-sites : goal.overflow_cast-sites
-overflow_cast-sites c = omega (arith, c.loop-k-test.true, c.requires.1)
+    let e : c.args.missed + 1 - 1 ≡ c.args.missed = omega arith in
+    (p.2, p.3, rw e (underway_start p.4))
 
 pub raise-g-requires : goal.raise-g-requires
-raise-g-requires c = let l = c.loop-k in (l.invariant.2, omega (arith, c.loop-k-test.true, c.requires.1), l.invariant.1)
+raise-g-requires c = let l = c.loop-k in (l.invariant.1, omega (arith, c.requires.1), l.invariant.0)
 
 pub offer_owns-at-requires : goal.offer_owns-at-requires
 offer_owns-at-requires c =
     let a = c.args in
     let l = c.loop-k in
     let t = c.raise-g.ensures in
-    (c.requires.0, told_serves (pieces a.knife a.letters.now) _ _ _ _ _ _ _ _ _ _ a.looked t (long_same l.invariant.1 (omega arith) (omega arith) (omega arith) (omega arith)), step_ready (l.k + 1) (a.missed - l.k) t (omega (arith, c.loop-k-test.true)) l.invariant.3)
-
-pub loop-k-smaller : goal.loop-k-smaller
-loop-k-smaller c = omega (arith, c.loop-k-test.true)
+    (c.requires.0, told_serves (pieces a.knife a.source.now.letters.now) _ _ _ _ _ _ _ _ _ _ a.looked t (long_same l.invariant.0 (omega arith) (omega arith) (omega arith) (omega arith)), step_ready l.k (a.missed + 1 - l.k) t (omega arith) l.invariant.2)
 
 pub loop-k-preserved : goal.loop-k-preserved
 loop-k-preserved c =
     let a = c.args in
     let l = c.loop-k in
     let t = c.raise-g.ensures in (
-      omega (arith, c.loop-k-test.true),
-      long_same l.invariant.1 (omega (arith, c.order-1)) (omega arith) (omega arith) (omega arith),
+      long_same l.invariant.0 (omega (arith, c.order-1)) (omega arith) (omega arith) (omega arith),
       t,
-      step_on (l.k + 1) (a.missed - l.k) t (omega (arith, c.loop-k-test.true)) l.invariant.3 (a.missed - (l.k + 1)) (omega arith) c.offer_owns-at.ensures (omega arith) (omega arith),
-      omega (arith, c.order-1),
-      omega arith,
-      omega arith,
-      omega arith,
+      step_on l.k (a.missed + 1 - l.k) t (omega arith) l.invariant.2 (a.missed + 1 - (l.k + 1)) (omega arith) c.offer_owns-at.ensures (omega arith) (omega arith),
     )
 
 pub returns : goal.returns
 returns c =
     let a = c.args in
     let l = c.loop-k in
-    underway_end (weigh_sizes_end (sites_in a.starts.now a.m) (l.k + 1) (a.missed - l.k) (weight_of a.looked (pieces a.knife a.letters.now)) (omega arith)) l.invariant.3
+    underway_end (weigh_sizes_end (sites_in a.starts.now a.m) l.k (a.missed + 1 - l.k) (weight_of a.looked (pieces a.knife a.source.now.letters.now)) (omega arith)) l.invariant.2
+
+pub returns-2 : goal.returns-2
+returns-2 c =
+    let a = c.args in
+    let l = c.loop-k in
+    let t = c.raise-g.ensures in
+    underway_end (weigh_sizes_end (sites_in a.starts.now a.m) (l.k + 1) (a.missed + 1 - (l.k + 1)) (weight_of a.looked (pieces a.knife a.source.now.letters.now)) (omega arith))
+    (step_on l.k (a.missed + 1 - l.k) t (omega arith) l.invariant.2 (a.missed + 1 - (l.k + 1)) (omega arith) c.offer_owns-at.ensures (omega arith) (omega arith))
 
 pub shape_of-out : goal.shape_of-out
-shape_of-out c = c.loop-k.invariant.3.long_out
+shape_of-out c = c.loop-k.invariant.2.long_out
 
 pub shape_of-marks : goal.shape_of-marks
-shape_of-marks c = c.loop-k.invariant.3.long_marks
-
-pub shape_of-order : goal.shape_of-order
-shape_of-order c = c.loop-k.invariant.4
-
-pub shape_of-other : goal.shape_of-other
-shape_of-other c = c.loop-k.invariant.5
-
-pub shape_of-rank : goal.shape_of-rank
-shape_of-rank c = c.loop-k.invariant.6
-
-pub shape_of-share : goal.shape_of-share
-shape_of-share c = c.loop-k.invariant.7
+shape_of-marks c = c.loop-k.invariant.2.long_marks

@@ -11,16 +11,16 @@ pub offer_owns-at-requires : goal.offer_owns-at-requires
 offer_owns-at-requires c =
     let a = c.args in
     let p = c.requires in
-    (p.0, told_serves (pieces a.knife a.letters.now) _ _ _ _ _ _ _ _ _ _ a.looked p.3 p.2, step_ready 0 (suc a.missed) p.3 {terms = a.terms} (omega arith) (underway_start p.4))
+    (p.0, told_serves (pieces a.knife a.source.now.letters.now) _ _ _ _ _ _ _ _ _ _ a.looked p.3 p.2, step_ready 0 (suc a.missed) p.3 {terms = a.source.now.terms} (omega arith) (underway_start p.4))
 
 pub offer_more-requires : goal.offer_more-requires
 offer_more-requires c =
     let a = c.args in
     let p = c.requires in
-    (p.0, p.1, p.2, p.3, (step_on 0 (suc a.missed) p.3 {terms = a.terms} (omega arith) (underway_start p.4) a.missed (omega arith) c.offer_owns-at.ensures (omega arith) (omega arith)).ready)
+    (p.0, p.1, p.2, p.3, (step_on 0 (suc a.missed) p.3 {terms = a.source.now.terms} (omega arith) (underway_start p.4) a.missed (omega arith) c.offer_owns-at.ensures (omega arith) (omega arith)).ready)
 
 pub returns : goal.returns
 returns c =
     let a = c.args in
     let p = c.requires in
-    (step_on 0 (suc a.missed) p.3 {terms = a.terms} (omega arith) (underway_start p.4) a.missed (omega arith) c.offer_owns-at.ensures (omega arith) (omega arith)).ahead _ _ _ c.offer_more.ensures
+    (step_on 0 (suc a.missed) p.3 {terms = a.source.now.terms} (omega arith) (underway_start p.4) a.missed (omega arith) c.offer_owns-at.ensures (omega arith) (omega arith)).ahead _ _ _ c.offer_more.ensures
