@@ -9,25 +9,23 @@ ghost use Rattle.enzyme_windows.specs.Pieces.{pieces};
 ghost use Rattle.enzyme_once.specs.Once.{each_once};
 ghost use Rattle.enzyme_words.specs.Words.{Zeros, Far};
 ghost use Rattle.enzyme_sites.specs.Starts.{Starts};
-ghost use Rattle.enzyme_samples.specs.Ready.{run_started, run_step, Offers};
+ghost use Rattle.enzyme_samples.specs.Ready.{run_started, run_step, Offers, OffersOf};
 ghost use Rattle.enzyme_parts.specs.Walk.{sites_in};
 ghost use Rattle.enzyme_semi.specs.WeightLaws.{weight_of};
 ghost use Rattle.enzyme_semi.specs.SemiLaws.{semi_of};
 
 use enzyme_cuts::Knife;
 use enzyme_keep::Terms;
-use enzyme_samples::Run;
+use enzyme_samples::{Run, Source};
 
 // Offers all windows, and behind them their parts: those of the first of equal windows for all of them, where the tables are long
 // enough to find these.
 fn offer_semi(
-    letters: &[u8],
+    source: &Source,
     knife: Knife,
     missed: u8,
     starts: &[u32],
     m: usize,
-    far: &[u32],
-    terms: Terms,
     out: &mut [u8],
     marks: &mut [u32],
     order: &mut [u16],
@@ -37,20 +35,28 @@ fn offer_semi(
     share: &mut [u8],
     seen: &mut [u8],
 ) -> Run
-    requires { (length letters.now ≤ 65536) × (missed ≤ 16) × Starts knife letters.now starts.now m × Far letters.now far.now × (length order.old ≤ length other.old) × (length order.old ≤ length name.old) × (length order.old ≤ length rank.old) × (length order.old ≤ length share.old) × Zeros share.old }
-    ensures { (looked : Bool) × Offers letters.now far.now terms (semi_of (weight_of looked (pieces knife letters.now)) missed (sites_in starts.now m)) run_started out.old marks.old result out.new marks.new }
+    requires { (length source.now.letters.now ≤ 65536) × (missed ≤ 16) × Starts knife source.now.letters.now starts.now m × Far source.now.letters.now source.now.far.now × (length order.old ≤ length other.old) × (length order.old ≤ length name.old) × (length order.old ≤ length rank.old) × (length order.old ≤ length share.old) × Zeros share.old }
+    ensures { (looked : Bool) × OffersOf source.now (semi_of (weight_of looked (pieces knife source.now.letters.now)) missed (sites_in starts.now m)) run_started out.old marks.old result out.new marks.new }
 {
     let looked = m <= order.len();
     let g = enzyme_sizes::begin(
-        looked, letters, knife, starts, m, order, other, name, rank, share, seen,
+        looked,
+        source.letters,
+        knife,
+        starts,
+        m,
+        order,
+        other,
+        name,
+        rank,
+        share,
+        seen,
     );
     let run = enzyme_samples::start_run();
-    let at = enzyme_semi::offer_all_windows(
-        letters, far, starts, m, missed, terms, out, marks, run,
-    );
+    let at = enzyme_semi::offer_all_windows(source, starts, m, missed, out, marks, run);
     enzyme_sizes::offer_sizes(
-        looked, letters, knife, far, starts, m, missed, terms, out, marks, order, other, name,
-        rank, share, g, at,
+        looked, source, knife, starts, m, missed, out, marks, order, other, name, rank, share, g,
+        at,
     )
 }
 
@@ -69,13 +75,11 @@ fn finish(out: &mut [u8], protein: u32, run: Run) -> Option<usize>
 
 // Offers the ranges, and writes the protein's number where the links stood.
 fn list_semi(
-    letters: &[u8],
+    source: &Source,
     knife: Knife,
     missed: u8,
     starts: &[u32],
     m: usize,
-    far: &[u32],
-    terms: Terms,
     out: &mut [u8],
     marks: &mut [u32],
     order: &mut [u16],
@@ -85,14 +89,13 @@ fn list_semi(
     share: &mut [u8],
     seen: &mut [u8],
 ) -> Option<usize>
-    requires { (length letters.now ≤ 65536) × (missed ≤ 16) × Starts knife letters.now starts.now m × Far letters.now far.now × (length order.old ≤ length other.old) × (length order.old ≤ length name.old) × (length order.old ≤ length rank.old) × (length order.old ≤ length share.old) × Zeros share.old }
-    ensures { DigestsListed letters.now terms (each_once knife true missed letters.now) out.old result out.new }
+    requires { (length source.now.letters.now ≤ 65536) × (missed ≤ 16) × Starts knife source.now.letters.now starts.now m × Far source.now.letters.now source.now.far.now × (length order.old ≤ length other.old) × (length order.old ≤ length name.old) × (length order.old ≤ length rank.old) × (length order.old ≤ length share.old) × Zeros share.old }
+    ensures { DigestsListed source.now.letters.now source.now.terms (each_once knife true missed source.now.letters.now) out.old result out.new }
 {
     let run = offer_semi(
-        letters, knife, missed, starts, m, far, terms, out, marks, order, other, name, rank, share,
-        seen,
+        source, knife, missed, starts, m, out, marks, order, other, name, rank, share, seen,
     );
-    finish(out, terms.protein, run)
+    finish(out, source.terms.protein, run)
 }
 
 // With tables that are lent: where the sites start; what a start shares at most; which words stand twice;
@@ -119,93 +122,39 @@ fn semi_over(
 {
     let m = enzyme_sites::sites(letters, knife, starts);
     enzyme_words::fill_far(letters, far, count);
+    let source = Source {
+        letters,
+        far,
+        terms,
+    };
     list_semi(
-        letters, knife, missed, starts, m, far, terms, out, marks, order, other, name, rank, share,
-        seen,
+        &source, knife, missed, starts, m, out, marks, order, other, name, rank, share, seen,
     )
 }
 
-// The same with tables of three sizes.
-pub fn semi_small(letters: &[u8], knife: Knife, missed: u8, terms: Terms, out: &mut [u8]) -> Option<usize>
-    requires { (length letters.now ≤ 1024) × (missed ≤ 16) }
+// The same with tables on the stack, so long as the numbers say: one place more than letters for where the sites start, one for
+// each letter, word, mark and site in the order, and for what was seen of letters.
+pub fn semi_with<
+    const STARTS: usize,
+    const LETTERS: usize,
+    const WORDS: usize,
+    const MARKS: usize,
+    const SITES: usize,
+    const SEEN: usize,
+>(letters: &[u8], knife: Knife, missed: u8, terms: Terms, out: &mut [u8]) -> Option<usize>
+    requires { (missed ≤ 16) × (length letters.now < STARTS) × (STARTS ≤ 65537) × (length letters.now ≤ LETTERS) × (LETTERS ≤ 65536) × (0 < WORDS) × (WORDS ≤ 131072) × (MARKS ≤ 65536) × (SITES ≤ 65536) × (SEEN ≤ 65536) }
     ensures { DigestsListed letters.now terms (each_once knife true missed letters.now) out.old result out.new }
 {
-    let mut starts = [0 as u32; 1025];
-    let mut far = [0 as u32; 1024];
-    let mut count = [0 as u8; 17576];
-    let mut marks = [0 as u32; 4096];
-    let mut order = [0 as u16; 1024];
-    let mut other = [0 as u16; 1024];
-    let mut name = [0 as u16; 1024];
-    let mut rank = [0 as u16; 1024];
-    let mut share = [0 as u8; 1024];
-    let mut seen = [0 as u8; 2048];
-    semi_over(
-        letters,
-        knife,
-        missed,
-        terms,
-        out,
-        &mut starts,
-        &mut far,
-        &mut count,
-        &mut marks,
-        &mut order,
-        &mut other,
-        &mut name,
-        &mut rank,
-        &mut share,
-        &mut seen,
-    )
-}
-
-pub fn semi_middle(letters: &[u8], knife: Knife, missed: u8, terms: Terms, out: &mut [u8]) -> Option<usize>
-    requires { (length letters.now ≤ 8192) × (missed ≤ 16) }
-    ensures { DigestsListed letters.now terms (each_once knife true missed letters.now) out.old result out.new }
-{
-    let mut starts = [0 as u32; 8193];
-    let mut far = [0 as u32; 8192];
-    let mut count = [0 as u8; 131071];
-    let mut marks = [0 as u32; 32768];
-    let mut order = [0 as u16; 2048];
-    let mut other = [0 as u16; 2048];
-    let mut name = [0 as u16; 2048];
-    let mut rank = [0 as u16; 2048];
-    let mut share = [0 as u8; 2048];
-    let mut seen = [0 as u8; 4096];
-    semi_over(
-        letters,
-        knife,
-        missed,
-        terms,
-        out,
-        &mut starts,
-        &mut far,
-        &mut count,
-        &mut marks,
-        &mut order,
-        &mut other,
-        &mut name,
-        &mut rank,
-        &mut share,
-        &mut seen,
-    )
-}
-
-pub fn semi_large(letters: &[u8], knife: Knife, missed: u8, terms: Terms, out: &mut [u8]) -> Option<usize>
-    requires { (length letters.now ≤ 65536) × (missed ≤ 16) }
-    ensures { DigestsListed letters.now terms (each_once knife true missed letters.now) out.old result out.new }
-{
-    let mut starts = [0 as u32; 65537];
-    let mut far = [0 as u32; 65536];
-    let mut count = [0 as u8; 131071];
-    let mut marks = [0 as u32; 40960];
-    let mut order = [0 as u16; 12288];
-    let mut other = [0 as u16; 12288];
-    let mut name = [0 as u16; 12288];
-    let mut rank = [0 as u16; 12288];
-    let mut share = [0 as u8; 12288];
-    let mut seen = [0 as u8; 16384];
+    let mut starts = [0u32; STARTS];
+    let mut far = [0u32; LETTERS];
+    let mut count = [0u8; WORDS];
+    let mut marks = [0u32; MARKS];
+    let mut order = [0u16; SITES];
+    let mut other = [0u16; SITES];
+    let mut name = [0u16; SITES];
+    let mut rank = [0u16; SITES];
+    let mut share = [0u8; SITES];
+    let mut seen = [0u8; SEEN];
     semi_over(
         letters,
         knife,

@@ -7,7 +7,7 @@ finish-requires c =
     let a = c.args in
     let p = c.requires in
     let o = c.offer_semi-run.ensures in
-    semi_room o.0 a.knife a.missed a.letters.now a.starts.now a.m p.2 a.far.now a.out.now a.marks.now a.terms p.0 p.3 _ _ _ o.1
+    semi_room o.0 a.knife a.missed a.source.now.letters.now a.starts.now a.m p.2 a.source.now.far.now a.out.now a.marks.now a.source.now.terms p.0 p.3 _ _ _ o.1
 
 pub returns : goal.returns
 returns c =
@@ -15,4 +15,4 @@ returns c =
     let p = c.requires in
     let o = c.offer_semi-run.ensures in
     let e = c.finish.ensures in
-    rw (e.0, e.1) (semi_listed o.0 a.knife a.missed a.letters.now a.starts.now a.m p.2 a.far.now a.out.now a.marks.now a.terms p.0 p.3 _ _ _ o.1)
+    rw (e.0, e.1) (semi_listed o.0 a.knife a.missed a.source.now.letters.now a.starts.now a.m p.2 a.source.now.far.now a.out.now a.marks.now a.source.now.terms p.0 p.3 _ _ _ o.1)

@@ -31,7 +31,7 @@ long order other rank share m a b d = record {
 pub begin-g-requires : goal.begin-g-requires
 begin-g-requires c =
     let k = c.args.knife in
-    let l = c.args.letters.now in
+    let l = c.args.source.now.letters.now in
     let p = c.requires in
     let st = p.2 in
     (pieces-placed k l _ _ st.count st.room st.at, omega (arith, st.count, pieces_few k l, p.0), long c.args.order.now c.args.other.now c.args.rank.now c.args.share.now c.args.m p.4 p.6 p.7, λ e. let x = leb-true c.args.m (length c.args.order.now) e in omega (arith, x, p.5), p.8)
@@ -44,8 +44,8 @@ offer_all_windows-at-requires c =
     let rs = sites_in a.starts.now a.m in (
       p.2.room,
       omega (arith, p.1),
-      rw c.start_run-run.ensures (ready_first (loaded 1 (windows_from 0 (suc a.missed) rs)) (weigh_from (weight_of looked (pieces a.knife a.letters.now)) 0 (suc a.missed) rs)
-          (semi_ready looked a.knife a.missed a.letters.now a.starts.now a.m p.2 a.far.now a.out.now a.marks.now p.0 p.3)),
+      rw c.start_run-run.ensures (ready_first (loaded 1 (windows_from 0 (suc a.missed) rs)) (weigh_from (weight_of looked (pieces a.knife a.source.now.letters.now)) 0 (suc a.missed) rs)
+          (semi_ready looked a.knife a.missed a.source.now.letters.now a.starts.now a.m p.2 a.source.now.far.now a.out.now a.marks.now p.0 p.3)),
     )
 
 pub offer_sizes-requires : goal.offer_sizes-requires
@@ -58,8 +58,8 @@ offer_sizes-requires c =
       p.1,
       long_same (long a.order.now a.other.now a.rank.now a.share.now a.m p.4 p.6 p.7) (omega (arith, c.order-1)) (omega (arith, c.other-1)) (omega (arith, c.rank-1)) (omega (arith, c.share-1)),
       c.begin-g.ensures,
-      (rw c.start_run-run.ensures at c.offer_all_windows-at.ensures).next (weigh_from (weight_of looked (pieces a.knife a.letters.now)) 0 (suc a.missed) rs)
-          (semi_ready looked a.knife a.missed a.letters.now a.starts.now a.m p.2 a.far.now a.out.now a.marks.now p.0 p.3),
+      (rw c.start_run-run.ensures at c.offer_all_windows-at.ensures).next (weigh_from (weight_of looked (pieces a.knife a.source.now.letters.now)) 0 (suc a.missed) rs)
+          (semi_ready looked a.knife a.missed a.source.now.letters.now a.starts.now a.m p.2 a.source.now.far.now a.out.now a.marks.now p.0 p.3),
     )
 
 pub shape_of-order : goal.shape_of-order
@@ -85,4 +85,4 @@ returns c =
     let a = c.args in
     let looked = leb a.m (length a.order.now) in
     let rs = sites_in a.starts.now a.m in
-    (looked, offers_then {xs = loaded 1 (windows_from 0 (suc a.missed) rs)} {ys = weigh_from (weight_of looked (pieces a.knife a.letters.now)) 0 (suc a.missed) rs} (rw c.start_run-run.ensures at c.offer_all_windows-at.ensures) c.offer_sizes.ensures)
+    (looked, offers_then {xs = loaded 1 (windows_from 0 (suc a.missed) rs)} {ys = weigh_from (weight_of looked (pieces a.knife a.source.now.letters.now)) 0 (suc a.missed) rs} (rw c.start_run-run.ensures at c.offer_all_windows-at.ensures) c.offer_sizes.ensures)
