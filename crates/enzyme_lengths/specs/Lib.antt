@@ -5,3 +5,4 @@ pub mod ListingLaws
 pub mod StartLaws
 pub mod PositionLaws
 pub mod TellingLaws
+pub mod Reading

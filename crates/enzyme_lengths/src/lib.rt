@@ -4,6 +4,7 @@
 #![tactic(auto)]
 
 mod listing;
+mod tables;
 mod telling;
 
 pub use listing::list_measured;

@@ -9,21 +9,21 @@ use Rattle.enzyme_lengths.proofs.listing.list_blocks.Goals as goal
 
 pub loop-b-init : goal.loop-b-init
 loop-b-init c = let e : 64 * (c.args.from / 64) ≡ c.args.from = omega arith in
-    (c.requires.6, rw e)
+    (c.requires.4, rw e)
 
 pub list_block-requires : goal.list_block-requires
 list_block-requires c = let l = c.loop-b in
     let e = c.block_end-end in
     let x = c.wide-floor in
-    let low = block_above 64 0 (length c.args.letters.now) c.args.longest.now c.args.least.now c.requires.3.small (64 * l.b) l.b l.b e.result x.result refl (omega arith) (omega (arith, e.ensures)) x.ensures.0 in
-    (c.requires.0, c.requires.1, omega (arith, e.ensures), low, c.requires.5, l.invariant.0)
+    let low = block_above 64 0 (length c.args.tables.now.letters.now) c.args.tables.now.longest.now c.args.least.now c.requires.1.small (64 * l.b) l.b l.b e.result x.result refl (omega arith) (omega (arith, e.ensures)) x.ensures.0 in
+    (omega (arith, e.ensures), low, c.requires.3, l.invariant.0)
 
 pub returns-in_err-k : goal.returns-in_err-k
 returns-in_err-k c = let a = c.args in
     let l = c.loop-b in
     let b = c.block_end-end in
     let x = c.list_block in
-    rw c.from_residual.ensures (walk_full a.letters.now a.protein a.len 64 (64 * l.b) b.result a.to l.k l.out x.new.out b.ensures (omega (arith, c.div_ceil-b-end.ensures)) (rw c.in_err-k.was at x.ensures.0) ∙ l.invariant.1, x.ensures.1)
+    rw c.from_residual.ensures (walk_full a.tables.now.letters.now a.protein a.len 64 (64 * l.b) b.result a.to l.k l.out x.new.out b.ensures (omega (arith, c.div_ceil-b-end.ensures)) (rw c.in_err-k.was at x.ensures.0) ∙ l.invariant.1, x.ensures.1)
 
 pub loop-b-preserved : goal.loop-b-preserved
 loop-b-preserved c = let a = c.args in
@@ -31,7 +31,7 @@ loop-b-preserved c = let a = c.args in
     let b = c.block_end-end in
     let x = c.list_block in
     let e : 64 * (l.b + 1) ≡ 64 * l.b + 64 = omega arith in
-    (x.ensures.1, rw e (walk_kept a.letters.now a.protein a.len 64 (64 * l.b) b.result a.to l.k l.out x.new.out b.ensures (omega (arith, c.div_ceil-b-end.ensures)) c.in_ok-k.k (rw c.in_ok-k.was at x.ensures.0) ∙ l.invariant.1))
+    (x.ensures.1, rw e (walk_kept a.tables.now.letters.now a.protein a.len 64 (64 * l.b) b.result a.to l.k l.out x.new.out b.ensures (omega (arith, c.div_ceil-b-end.ensures)) c.in_ok-k.k (rw c.in_ok-k.was at x.ensures.0) ∙ l.invariant.1))
 
 pub returns : goal.returns
 returns c = let a = c.args in

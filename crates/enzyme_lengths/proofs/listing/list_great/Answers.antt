@@ -11,5 +11,5 @@ pub returns-then-len-floor : goal.returns-then-len-floor
 returns-then-len-floor c = let a = c.args in
     let x = c.wide-floor in
     let b = a.from / 4096 in
-    let low = block_above 4096 1024 (length a.letters.now) a.longest.now a.least.now c.requires.3.great a.from b (1024 + b) a.to x.result (omega arith) refl c.requires.6 x.ensures.0 in
-    (block_passed a.letters.now a.protein a.len a.count a.out.now a.longest.now a.from a.to x.result c.requires.1 c.requires.2 low c.if-len-floor.true, c.requires.8)
+    let low = block_above 4096 1024 (length a.tables.now.letters.now) a.tables.now.longest.now a.least.now c.requires.1.great a.from b (1024 + b) a.to x.result (omega arith) refl c.requires.4 x.ensures.0 in
+    (block_passed a.tables.now.letters.now a.protein a.len a.count a.out.now a.tables.now.longest.now a.from a.to x.result c.args.tables.now.measured c.requires.0 low c.if-len-floor.true, c.requires.6)

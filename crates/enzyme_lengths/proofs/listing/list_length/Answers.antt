@@ -7,21 +7,21 @@ use Rattle.enzyme_lengths.specs.StartLaws.{walk_kept, walk_full, starting_end}
 use Rattle.enzyme_lengths.proofs.listing.list_length.Goals as goal
 
 pub loop-b-init : goal.loop-b-init
-loop-b-init c = let z : length c.args.letters.now + 1 - c.args.len - 0 ≡ suc (length c.args.letters.now) - c.args.len = omega arith in
-    (c.requires.5, rw z)
+loop-b-init c = let z : length c.args.tables.now.letters.now + 1 - c.args.len - 0 ≡ suc (length c.args.tables.now.letters.now) - c.args.len = omega arith in
+    (c.requires.3, rw z)
 
 pub list_great-requires : goal.list_great-requires
 list_great-requires c = let l = c.loop-b in
     let e = c.block_end-to.ensures in
     let d = c.div_ceil-b-end.ensures in
-    (c.requires.0, c.requires.2, omega arith, c.requires.3, omega arith, omega (arith, d), omega arith, c.requires.4, l.invariant.0)
+    (omega arith, c.requires.1, omega arith, omega (arith, d), omega arith, c.requires.2, l.invariant.0)
 
 pub returns-in_err-k : goal.returns-in_err-k
 returns-in_err-k c = let a = c.args in
     let l = c.loop-b in
     let b = c.block_end-to in
     let x = c.list_great in
-    rw c.from_residual.ensures (walk_full a.letters.now a.protein a.len 4096 (4096 * l.b) b.result (length a.letters.now + 1 - a.len) l.k l.out x.new.out b.ensures (omega (arith, c.div_ceil-b-end.ensures)) (rw c.in_err-k.was at x.ensures.0) ∙ l.invariant.1, x.ensures.1)
+    rw c.from_residual.ensures (walk_full a.tables.now.letters.now a.protein a.len 4096 (4096 * l.b) b.result (length a.tables.now.letters.now + 1 - a.len) l.k l.out x.new.out b.ensures (omega (arith, c.div_ceil-b-end.ensures)) (rw c.in_err-k.was at x.ensures.0) ∙ l.invariant.1, x.ensures.1)
 
 pub loop-b-preserved : goal.loop-b-preserved
 loop-b-preserved c = let a = c.args in
@@ -29,9 +29,9 @@ loop-b-preserved c = let a = c.args in
     let b = c.block_end-to in
     let x = c.list_great in
     let e : 4096 * (l.b + 1) ≡ 4096 * l.b + 4096 = omega arith in
-    (x.ensures.1, rw e (walk_kept a.letters.now a.protein a.len 4096 (4096 * l.b) b.result (length a.letters.now + 1 - a.len) l.k l.out x.new.out b.ensures (omega (arith, c.div_ceil-b-end.ensures)) c.in_ok-k.k (rw c.in_ok-k.was at x.ensures.0) ∙ l.invariant.1))
+    (x.ensures.1, rw e (walk_kept a.tables.now.letters.now a.protein a.len 4096 (4096 * l.b) b.result (length a.tables.now.letters.now + 1 - a.len) l.k l.out x.new.out b.ensures (omega (arith, c.div_ceil-b-end.ensures)) c.in_ok-k.k (rw c.in_ok-k.was at x.ensures.0) ∙ l.invariant.1))
 
 pub returns : goal.returns
 returns c = let a = c.args in
     let l = c.loop-b in
-    (rw (starting_end a.len (4096 * l.b) (length a.letters.now + 1 - a.len) (omega (arith, c.div_ceil-b-end.ensures))) at l.invariant.1, l.invariant.0)
+    (rw (starting_end a.len (4096 * l.b) (length a.tables.now.letters.now + 1 - a.len) (omega (arith, c.div_ceil-b-end.ensures))) at l.invariant.1, l.invariant.0)

@@ -2,9 +2,10 @@
 use mathlib.Core.Path.{◌≡◌}
 use Prim.Native.Nat.{◌-◌}
 use Rattle.enzyme_cuts.specs.Cutting.{starting}
-use Rattle.enzyme_lengths.specs.Listing.{chosen_of, Told}
+use Rattle.enzyme_lengths.specs.Listing.{chosen_of}
+use Rattle.enzyme_lengths.specs.Reading.{ToldBy}
 use Rattle.enzyme_lengths.proofs.listing.list_placed.Given as goal
 
 abbrev pub invariant-loop-a : goal.invariant-loop-a
-invariant-loop-a l = Told l.len l.letters l.longest l.next l.size l.head
-    × (chosen_of l.letters l.protein (starting l.len l.a (l.to - l.a)) l.k l.out ≡ chosen_of l.letters l.protein (starting l.len l.from (l.to - l.from)) l.count l.initial.out)
+invariant-loop-a l = ToldBy l.tables l.len l.head
+    × (chosen_of l.tables.letters.now l.protein (starting l.len l.a (l.to - l.a)) l.k l.out ≡ chosen_of l.tables.letters.now l.protein (starting l.len l.from (l.to - l.from)) l.count l.initial.out)

@@ -14,21 +14,21 @@ within c = let e = c.max-second.ensures in (omega (arith, e, c.if-to-from.false)
 
 pub returns-then-to-from : goal.returns-then-to-from
 returns-then-to-from c = let a = c.args in
-    (rw (starting_end a.len a.from a.to (omega arith)), c.requires.4)
+    (rw (starting_end a.len a.from a.to (omega arith)), c.requires.2)
 
 pub list_placed-requires : goal.list_placed-requires
 list_placed-requires c = let e = c.max-second in
-    (c.requires.0, c.requires.1, omega (arith, within (goal.at.list_placed-requires c).After-position-position, c.requires.2), c.requires.3, c.requires.4, first_alone (length c.args.letters.now) c.args.len c.position-position.result c.args.from e.result c.position-position.ensures e.ensures)
+    (omega (arith, within (goal.at.list_placed-requires c).After-position-position, c.requires.0), c.requires.1, c.requires.2, first_alone (length c.args.tables.now.letters.now) c.args.len c.position-position.result c.args.from e.result c.position-position.ensures e.ensures)
 
 pub returns-in_err-k : goal.returns-in_err-k
 returns-in_err-k c = let a = c.args in
     let m = c.max-second in
     let x = c.list_placed in
     let w = within (goal.at.returns-in_err-k c).After-position-position in
-    rw c.from_residual.ensures (part_full a.letters.now a.protein a.len a.from m.result a.to a.count a.out.now x.new.out w.1 w.0 (rw c.in_err-k.was at x.ensures.0), x.ensures.1)
+    rw c.from_residual.ensures (part_full a.tables.now.letters.now a.protein a.len a.from m.result a.to a.count a.out.now x.new.out w.1 w.0 (rw c.in_err-k.was at x.ensures.0), x.ensures.1)
 
 pub list_later-requires : goal.list_later-requires
-list_later-requires c = (c.requires.0, c.requires.1, c.requires.2, c.requires.3, c.list_placed.ensures.1, omega (arith, c.max-second.ensures), (within (goal.at.list_later-requires c).After-position-position).0)
+list_later-requires c = (c.requires.0, c.requires.1, c.list_placed.ensures.1, omega (arith, c.max-second.ensures), (within (goal.at.list_later-requires c).After-position-position).0)
 
 pub returns : goal.returns
 returns c = let a = c.args in
@@ -36,4 +36,4 @@ returns c = let a = c.args in
     let x = c.list_placed in
     let y = c.list_later.ensures in
     let w = within (goal.at.returns c).After-position-position in
-    (y.0 ∙ part-kept a.letters.now a.protein a.len a.from m.result a.to a.count a.out.now x.new.out w.1 w.0 c.in_ok-k.k (rw c.in_ok-k.was at x.ensures.0), y.1)
+    (y.0 ∙ part-kept a.tables.now.letters.now a.protein a.len a.from m.result a.to a.count a.out.now x.new.out w.1 w.0 c.in_ok-k.k (rw c.in_ok-k.was at x.ensures.0), y.1)
