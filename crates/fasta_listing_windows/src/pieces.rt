@@ -1,8 +1,8 @@
 // The pieces of a file: an entry, from its `>` up to the next line that starts with one. Before the first entry there may be a piece of
 // line ends, or of what has no place there. No piece ends inside an entry: a CR at its end would read as a bad byte.
-ghost use Rattle.std.specs.Prelude.{◌≡◌, ◌≤◌, length};
+ghost use Rattle.std.specs.Prelude.{◌≡◌, ◌≤◌, length, IfOk};
 
-use crate::filling::{fill, move_to_front};
+use crate::filling::fill;
 use fasta_lines::{Run, entry_len, run_len};
 use records::byte_at;
 use std::io;
@@ -16,8 +16,6 @@ pub enum Found {
     End,
     // The front of an entry that is larger than the buffer.
     Front,
-    // A read failed.
-    Failure(io::Error),
 }
 
 // What stands in the buffer.
@@ -63,11 +61,7 @@ pub fn buffer() -> [u8; 262145]
 
 // A sum, or the greatest number.
 pub fn sum(a: usize, b: usize) -> usize {
-    if a <= usize::MAX - b {
-        a + b
-    } else {
-        usize::MAX
-    }
+    a.saturating_add(b)
 }
 
 // What it is whose end is not in a full buffer.
@@ -124,54 +118,49 @@ fn of_last(filled: usize, before: usize) -> Window
 }
 
 // The piece that begins at the buffer's front, of which the first bytes are there.
-fn first_piece<F: Read>(file: &mut F, bytes: &mut [u8], first: usize, before: usize) -> Window
+fn first_piece<F: Read>(
+    file: &mut F,
+    bytes: &mut [u8],
+    first: usize,
+    before: usize,
+) -> io::Result<Window>
     requires { first ≤ length bytes.old }
-    ensures { (result.from ≤ result.to) × (result.to ≤ result.filled) × (result.filled ≤ length bytes.new) }
+    ensures { IfOk result (λ w. (w.from ≤ w.to) × (w.to ≤ w.filled) × (w.filled ≤ length bytes.new)) }
 {
-    let read = fill(file, bytes, first);
-    let filled = read.to;
-    if let Some(why) = read.failed {
-        return Window {
-            found: Found::Failure(why),
-            from: 0,
-            to: 0,
-            filled,
-            before,
-        };
-    }
+    let filled = fill(file, bytes, first)?;
     let end = entry_len(&bytes[0..filled]);
     if end < filled {
-        return Window {
+        return Ok(Window {
             found: Found::Piece,
             from: 0,
             to: end,
             filled,
             before,
-        };
+        });
     }
     if filled < bytes.len() {
-        return of_last(filled, before);
+        return Ok(of_last(filled, before));
     }
-    of_full(bytes, before)
+    Ok(of_full(bytes, before))
 }
 
 // The piece behind the last one.
-pub fn next_piece<F: Read>(file: &mut F, bytes: &mut [u8], last: Window) -> Window
+pub fn next_piece<F: Read>(file: &mut F, bytes: &mut [u8], last: Window) -> io::Result<Window>
     requires { (last.to ≤ last.filled) × (last.filled ≤ length bytes.old) }
-    ensures { (result.from ≤ result.to) × (result.to ≤ result.filled) × (result.filled ≤ length bytes.new) }
+    ensures { IfOk result (λ w. (w.from ≤ w.to) × (w.to ≤ w.filled) × (w.filled ≤ length bytes.new)) }
 {
     let from = last.to;
     let filled = last.filled;
     let end = from + entry_len(&bytes[from..filled]);
     if end < filled {
-        return Window {
+        return Ok(Window {
             found: Found::Piece,
             from,
             to: end,
             filled,
             before: last.before,
-        };
+        });
     }
-    move_to_front(bytes, from, filled);
+    bytes.copy_within(from..filled, 0);
     first_piece(file, bytes, filled - from, sum(last.before, from))
 }
