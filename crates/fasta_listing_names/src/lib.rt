@@ -6,7 +6,7 @@ mod saying;
 mod steps;
 mod tables;
 
-pub use reading::{Reading, read_names};
+pub use reading::read_names;
 pub use saying::{name, say, too_large};
-pub use steps::Step;
+pub use steps::{Step, Stop, of_file};
 pub use tables::{is_named, name_table};

@@ -2,7 +2,7 @@
 ghost use Rattle.std.specs.Prelude.{◌≤◌, length};
 
 use crate::saying;
-use crate::steps::Step;
+use crate::steps::{Step, Stop, of_file};
 use crate::tables::{place_at, place_table, put_place};
 use fasta::{Fault, read_entry};
 use fasta_listing_windows::{Found, Window, next_piece, sum};
@@ -10,18 +10,7 @@ use records::Refusal;
 use std::io::Read as ReadBytes;
 use std::rt::Files;
 use std::{fs, io};
-use text_lines::up_to;
-
-// What a reading of a file comes to.
-#[derive(Clone, Copy)]
-pub enum Reading {
-    // The file is taken: so many names.
-    Names(u32),
-    // It is not, and why was said.
-    Refused,
-    // A call on it failed.
-    Failed(io::Error),
-}
+use text_lines::{more, up_to};
 
 // Reads a piece that begins at a place of the file. Its name goes behind so many others.
 fn read_piece(
@@ -31,18 +20,18 @@ fn read_piece(
     names: &mut [u8],
     count: u32,
     letters: &mut [u8],
-) -> io::Result<Step> {
+) -> Result<Step, Stop> {
     let at = up_to(64 * count as usize, names);
     match read_entry(piece, 0, &mut names[at..], letters) {
         Ok(Some(_)) => Ok(Step::Entry),
         Ok(None) => Ok(Step::Nothing),
         Err(Fault::Long(at)) => {
             saying::refused_long(rt, piece, sum(place, at))?;
-            Ok(Step::Refused)
+            Err(Stop::Said)
         }
         Err(Fault::Refused(why)) => {
             saying::refused_piece(rt, piece, place, why)?;
-            Ok(Step::Refused)
+            Err(Stop::Said)
         }
     }
 }
@@ -55,39 +44,22 @@ fn take(
     names: &mut [u8],
     count: u32,
     letters: &mut [u8],
-) -> io::Result<Step>
+) -> Result<Step, Stop>
     requires { (window.from ≤ window.to) × (window.to ≤ length bytes.now) }
 {
-    let from = window.from;
-    let to = window.to;
-    let found = window.found;
-    match found {
-        Found::Piece => read_piece(rt, &bytes[from..to], window.place(), names, count, letters),
+    let piece = &bytes[window.from..window.to];
+    match window.found {
+        Found::Piece => read_piece(rt, piece, window.place(), names, count, letters),
         Found::End => Ok(Step::End),
         Found::Front => {
-            saying::too_large(rt, &bytes[from..to], "262144 bytes")?;
-            Ok(Step::Refused)
+            saying::too_large(rt, piece, "262144 bytes")?;
+            Err(Stop::Said)
         }
-        Found::Failure(why) => Ok(Step::Failed(why)),
     }
-}
-
-// What a reading comes to that ends with a step, behind so many names.
-fn ended(step: Step, count: u32) -> Reading {
-    match step {
-        Step::End => Reading::Names(count),
-        Step::Failed(why) => Reading::Failed(why),
-        _ => Reading::Refused,
-    }
-}
-
-fn endless(rt: &impl Print) -> io::Result<Reading> {
-    saying::say(rt, "the file does not end")?;
-    Ok(Reading::Refused)
 }
 
 // Reads all names, and keeps the place of each: the byte behind its `>`. A loop has to end, and nothing says that a file does: turns
-// are counted, from a number that no file uses up.
+// are counted, up to a number that no file uses up.
 fn read_all<F: ReadBytes>(
     rt: &impl Print,
     file: &mut F,
@@ -95,21 +67,20 @@ fn read_all<F: ReadBytes>(
     names: &mut [u8],
     places: &mut [u64],
     letters: &mut [u8],
-) -> io::Result<Reading> {
+) -> Result<u32, Stop> {
     let mut window = Window::start();
     let mut count: u32 = 0;
-    let mut turns = u64::MAX;
-    while 0 < turns {
-        window = next_piece(file, bytes, window);
+    for _ in 0..u64::MAX {
+        window = next_piece(file, bytes, window).map_err(of_file)?;
         put_place(places, count, sum(window.place(), 1));
-        let step = take(rt, bytes, window, names, count, letters)?;
-        if step.is_last() {
-            return Ok(ended(step, count));
+        match take(rt, bytes, window, names, count, letters)? {
+            Step::Entry => count = more(count),
+            Step::Nothing => {}
+            Step::End => return Ok(count),
         }
-        count = step.counted(count);
-        turns -= 1;
     }
-    endless(rt)
+    saying::say(rt, "the file does not end")?;
+    Err(Stop::Said)
 }
 
 // Says why a table of names is refused.
@@ -123,18 +94,6 @@ fn refuse(rt: &impl Print, names: &[u8], places: &[u64], why: Refusal) -> io::Re
     }
 }
 
-// Tests so many names.
-fn tested(rt: &impl Print, names: &[u8], count: u32, places: &[u64]) -> io::Result<Reading> {
-    let n = up_to(64 * count as usize, names);
-    match catalogue::names_tested(&names[..n]) {
-        Ok(()) => Ok(Reading::Names(count)),
-        Err(why) => {
-            refuse(rt, names, places, why)?;
-            Ok(Reading::Refused)
-        }
-    }
-}
-
 // Reads and tests the names of an open file.
 fn read_tested<F: ReadBytes>(
     rt: &impl Print,
@@ -142,25 +101,26 @@ fn read_tested<F: ReadBytes>(
     bytes: &mut [u8],
     names: &mut [u8],
     letters: &mut [u8],
-) -> io::Result<Reading> {
+) -> Result<u32, Stop> {
     let mut places = place_table();
-    let reading = read_all(rt, file, bytes, names, &mut places, letters)?;
-    match reading {
-        Reading::Names(count) => tested(rt, names, count, &places),
-        _ => Ok(reading),
+    let count = read_all(rt, file, bytes, names, &mut places, letters)?;
+    let n = up_to(64 * count as usize, names);
+    if let Err(why) = catalogue::names_tested(&names[..n]) {
+        refuse(rt, names, &places, why)?;
+        return Err(Stop::Said);
     }
+    Ok(count)
 }
 
-// Reads and tests the names of a file. Lent are the buffer of a window, a table of names, and room for 65,536 letters.
+// Reads and tests the names of a file: how many there are. Lent are the buffer of a window, a table of names, and room for 65,536
+// letters.
 pub fn read_names<R: Files + Print>(
     rt: &R,
     path: &str,
     bytes: &mut [u8],
     names: &mut [u8],
     letters: &mut [u8],
-) -> io::Result<Reading> {
-    match fs::open(rt, path) {
-        Ok(mut file) => read_tested(rt, &mut file, bytes, names, letters),
-        Err(why) => Ok(Reading::Failed(why)),
-    }
+) -> Result<u32, Stop> {
+    let mut file = fs::open(rt, path).map_err(of_file)?;
+    read_tested(rt, &mut file, bytes, names, letters)
 }

@@ -1,6 +1,5 @@
 // The steps of a reading.
 use std::io;
-use text_lines::more;
 
 // What a piece of a file comes to.
 #[derive(Clone, Copy)]
@@ -9,27 +8,26 @@ pub enum Step {
     Nothing,
     // The file has no more.
     End,
-    // Why was said.
-    Refused,
-    // A call on the file failed.
-    Failed(io::Error),
 }
 
-impl Step {
-    // Whether the reading ends with it.
-    pub fn is_last(self) -> bool {
-        match self {
-            Step::Entry => false,
-            Step::Nothing => false,
-            _ => true,
-        }
-    }
+// Why a reading ends before the end of the file.
+#[derive(Clone, Copy)]
+pub enum Stop {
+    // The file is not taken, and why was said.
+    Said,
+    // A call on the file failed.
+    File(io::Error),
+    // What was to be said could not be written.
+    Print(io::Error),
+}
 
-    // How many entries there are with it, behind so many.
-    pub fn counted(self, count: u32) -> u32 {
-        match self {
-            Step::Entry => more(count),
-            _ => count,
-        }
+impl From<io::Error> for Stop {
+    fn from(why: io::Error) -> Stop {
+        Stop::Print(why)
     }
+}
+
+// The same of a call on the file.
+pub fn of_file(why: io::Error) -> Stop {
+    Stop::File(why)
 }
