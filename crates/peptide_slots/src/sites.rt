@@ -11,7 +11,7 @@ use crate::hits::Rule;
 pub fn site_at(sites: &[u16], k: usize) -> u16
     ensures { result ≡ get_or sites.now k 0 }
 {
-    if k < sites.len() { sites[k] } else { 0 }
+    sites.get(k).copied().unwrap_or(0)
 }
 
 // Stores v at the place, and answers the next place, where `hit` is set.

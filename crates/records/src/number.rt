@@ -16,7 +16,7 @@ pub fn wide(x: u32) -> usize
 pub fn byte_at(s: &[u8], at: usize) -> u8
     ensures { result ≡ get_or s.now at 0 }
 {
-    if at < s.len() { s[at] } else { 0 }
+    s.get(at).copied().unwrap_or(0)
 }
 
 // Stores a byte at a place, and nothing else.
