@@ -6,6 +6,7 @@ ghost use Rattle.cover_spec.specs.Marks.{handed};
 ghost use Rattle.cover.specs.Covering.{cover_marks, cover_outcome};
 
 use crate::handing::{cover_all, cover_short};
+use cover_edges::Edges;
 use cover_tests::cover_tested;
 use records::{Refusal, clear};
 
@@ -20,17 +21,17 @@ pub(crate) fn cover_passed(
     requires { CoverReady edges.now groups metas (length work.old) }
     ensures { outcome result (work.new ∷ marks.new ∷ []) ≡ handed work.old marks.old (cover_marks edges.now groups) }
 {
-    let n = edges.len() / 8;
+    let all = Edges::of(edges);
     if groups == 0 {
         clear(work);
         return Ok(0);
     }
     if marks.len() < groups {
-        cover_short(edges, n, groups, metas, marks, work);
+        cover_short(&all, groups, metas, marks, work);
         return Err(Refusal::Room);
     }
     let count = groups as u32;
-    cover_all(edges, n, groups, metas, marks, work);
+    cover_all(&all, groups, metas, marks, work);
     Ok(count)
 }
 

@@ -8,6 +8,7 @@ ghost use Rattle.cover_touched.specs.Touching.{Mixed};
 ghost use Rattle.cover.specs.Updating.{update_marks, update_outcome};
 
 use crate::covering::cover_passed;
+use cover_edges::Edges;
 use cover_tests::update_tested;
 use cover_touched::renew;
 use records::{Refusal, clear};
@@ -26,14 +27,14 @@ fn keep_given(
     ensures mixed { Mixed (edges_of old.now) (edges_of new.now) given.now (min groups (length marks.old)) marks.old marks.new }
     ensures work_after { work.new ≡ replicate (length work.old) 0 }
 {
-    let on = old.len() / 8;
-    let nn = new.len() / 8;
+    let before = Edges::of(old);
+    let after = Edges::of(new);
     let k = groups.min(marks.len());
     if k == 0 {
         clear(work);
         return;
     }
-    renew(old, on, new, nn, groups, metas, given, k, marks, work);
+    renew(&before, &after, groups, metas, given, k, marks, work);
 }
 
 // The update of marks and edges that are in order: the cover of the new edges, and then the marks given where nothing is touched.

@@ -2,25 +2,24 @@
 // off, and what is left is looked at and cleared along the old ones.
 ghost use Rattle.std.specs.Prelude.{◌≡◌, ◌<◌};
 ghost use Rattle.cover_differing.specs.Walking.{differing, GroupsLinked};
-ghost use Rattle.cover_edges.specs.Edges.{edges_to};
+ghost use Rattle.cover_edges.specs.Records.{edges_in};
 
 use crate::links::Links;
 use crate::passing::{Pass, go_along};
+use cover_edges::Edges;
 
 // Whether some edge of group g stands a different number of times in the two lists. The work slice is then as it was.
 pub fn differs_at(
-    old: &[u8],
-    on: usize,
-    new: &[u8],
-    nn: usize,
+    old: &Edges,
+    new: &Edges,
     groups: usize,
     metas: usize,
     w: &mut [u32],
     g: usize,
 ) -> bool
-    requires groups_linked { GroupsLinked old.now on new.now nn groups metas w.old }
+    requires groups_linked { GroupsLinked old.now.bytes.now old.now.count new.now.bytes.now new.now.count groups metas w.old }
     requires g_lt_groups { g < groups }
-    ensures value { result ≡ differing (edges_to old.now on) (edges_to new.now nn) g }
+    ensures value { result ≡ differing (edges_in old.now) (edges_in new.now) g }
     ensures w_unchanged { w.new ≡ w.old }
 {
     let ho = metas + (1 + groups + metas);
@@ -29,16 +28,16 @@ pub fn differs_at(
     let of_old = Links {
         groups,
         metas,
-        records: on,
+        records: old.count,
         heads: ho,
         nexts: no,
     };
     let of_new = Links {
         groups,
         metas,
-        records: nn,
+        records: new.count,
         heads: hn,
-        nexts: no + on,
+        nexts: no + old.count,
     };
     go_along(old, w, of_old, g, Pass::Up);
     let lack = go_along(new, w, of_new, g, Pass::Off);

@@ -3,7 +3,8 @@ ghost use Rattle.std.specs.Prelude.{◌≡◌, ℕ, ◌<◌, ◌≤◌, get_or};
 ghost use Rattle.cover_differing.specs.Walking.{changed, telling, Walkable, Gone};
 
 use crate::links::Links;
-use records::{u32_at, wide};
+use cover_edges::Edges;
+use records::wide;
 
 // What a pass does at each record: it counts it, takes it off, or clears its count.
 #[derive(Clone, Copy)]
@@ -39,17 +40,17 @@ impl Pass {
 }
 
 // Passes along the records of group g; says whether some count was one to tell of.
-pub(crate) fn go_along(edges: &[u8], w: &mut [u32], links: Links, g: usize, pass: Pass) -> bool
-    requires walkable { Walkable links edges.now w.old }
+pub(crate) fn go_along(edges: &Edges, w: &mut [u32], links: Links, g: usize, pass: Pass) -> bool
+    requires walkable { Walkable links edges.now.bytes.now w.old }
     requires g_lt_groups { (g < links.groups) × ((m : ℕ) → m < links.metas → get_or w.old m 0 ≤ 1048576) }
-    ensures { Gone pass links edges.now g w.old w.new result }
+    ensures { Gone pass links edges.now.bytes.now g w.old w.new result }
 {
     let mut told = false;
     let mut h = wide(w[links.heads + g]);
     // A while: each turn goes to the record that the last one names.
     while 0 < h {
         let i = h - 1;
-        let m = wide(u32_at(edges, 8 * i + 4));
+        let m = edges.meta(i);
         let v = w[m];
         told |= pass.tells(v);
         w[m] = pass.change(v);

@@ -1,5 +1,6 @@
 -- What a reader has to believe: Edges.
 pub mod Edges
+pub mod Records
 pub mod RangeLaws
 pub mod EdgeLaws
 pub mod BackLaws

@@ -3,9 +3,11 @@
 #![tactic(auto)]
 
 mod clearing;
+mod edges;
 mod linking;
 mod range;
 
 pub use clearing::clear_marks;
+pub use edges::Edges;
 pub use linking::link;
 pub use range::{first_bad_edge, first_bad_mark};

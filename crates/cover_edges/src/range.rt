@@ -2,14 +2,14 @@
 ghost use Rattle.std.specs.Prelude.{◌≡◌, ◌/◌, ◌≤◌, length};
 ghost use Rattle.cover_edges.specs.Edges.{edge_at, bad_edge, first_bad_edge, first_bad_mark};
 
-use records::u32_at;
+use crate::edges::Edges;
 
-fn is_bad_edge(edges: &[u8], i: usize, groups: usize, metas: usize) -> bool
+fn is_bad_edge(edges: &Edges, i: usize, groups: usize, metas: usize) -> bool
     requires { i ≤ 1048576 }
-    ensures { result ≡ bad_edge groups metas (edge_at edges.now i) }
+    ensures { result ≡ bad_edge groups metas (edge_at edges.now.bytes.now i) }
 {
-    let group = u32_at(edges, 8 * i) as usize;
-    let meta = u32_at(edges, 8 * i + 4) as usize;
+    let group = edges.group(i);
+    let meta = edges.meta(i);
     (groups <= group) | (metas <= meta)
 }
 
@@ -18,13 +18,13 @@ pub fn first_bad_edge(edges: &[u8], groups: usize, metas: usize) -> usize
     requires { length edges.now / 8 ≤ 1048576 }
     ensures { result ≡ first_bad_edge edges.now groups metas }
 {
-    let n = edges.len() / 8;
-    for i in 0..n {
-        if is_bad_edge(edges, i, groups, metas) {
+    let all = Edges::of(edges);
+    for i in 0..all.count {
+        if is_bad_edge(&all, i, groups, metas) {
             return i;
         }
     }
-    n
+    all.count
 }
 
 // The first mark that is not 0 or 1, or how many there are.

@@ -2,6 +2,5 @@
 #![tactic(auto)]
 
 mod marking;
-mod reading;
 
 pub use marking::first;

@@ -3,10 +3,10 @@ ghost use Rattle.std.specs.Prelude.{ℕ, ◌+◌, ◌<◌, ◌≤◌, ◌≡◌,
 ghost use Rattle.cover_tables.specs.StepLaws.{Levels};
 ghost use Rattle.cover_first.specs.FirstLaws.{Unmarked, Forced, Covered, OpenCounted};
 ghost use Rattle.lists.specs.Lists.{bit};
-ghost use Rattle.cover_edges.specs.Edges.{edges_to};
+ghost use Rattle.cover_edges.specs.Records.{edges_in};
 ghost use Rattle.cover_edges.specs.RangeLaws.{InRange};
 
-use crate::reading::{group_of, meta_of};
+use cover_edges::Edges;
 use cover_tables::{Areas, size_at};
 
 // 1 where it is on, else what there was.
@@ -24,13 +24,13 @@ fn fresh(a: u32) -> u32
 }
 
 // Marks each group that holds the only edge of a meta-peptide.
-fn forced(edges: &[u8], n: usize, w: &mut [u32], areas: Areas)
-    requires { Unmarked areas edges.now n w.old }
-    ensures { Forced areas edges.now w.old w.new n }
+fn forced(edges: &Edges, w: &mut [u32], areas: Areas)
+    requires { Unmarked areas edges.now.bytes.now edges.now.count w.old }
+    ensures { Forced areas edges.now.bytes.now w.old w.new edges.now.count }
 {
-    for i in 0..n {
-        let g = group_of(edges, i);
-        let x = meta_of(edges, i);
+    for i in 0..edges.count {
+        let g = edges.group(i);
+        let x = edges.meta(i);
         let only = size_at(w, areas.mo + x) == 1;
         let at = areas.groups + areas.metas + g;
         w[at] = flagged(only, w[at]);
@@ -38,35 +38,35 @@ fn forced(edges: &[u8], n: usize, w: &mut [u32], areas: Areas)
 }
 
 // Covers each meta-peptide of a marked group.
-fn covered(edges: &[u8], n: usize, w: &mut [u32], groups: usize, metas: usize)
-    requires { (groups + metas + groups ≤ length w.old) × InRange edges.now n groups metas × ((y : ℕ) → y < metas → get_or w.old (groups + y) 0 ≡ 0) × (n ≤ 1048576) }
-    ensures { Covered groups metas edges.now w.old w.new n }
+fn covered(edges: &Edges, w: &mut [u32], groups: usize, metas: usize)
+    requires { (groups + metas + groups ≤ length w.old) × InRange edges.now.bytes.now edges.now.count groups metas × ((y : ℕ) → y < metas → get_or w.old (groups + y) 0 ≡ 0) × (edges.now.count ≤ 1048576) }
+    ensures { Covered groups metas edges.now.bytes.now w.old w.new edges.now.count }
 {
-    for i in 0..n {
-        let g = group_of(edges, i);
-        let x = meta_of(edges, i);
+    for i in 0..edges.count {
+        let g = edges.group(i);
+        let x = edges.meta(i);
         w[groups + x] = flagged(w[groups + metas + g] == 1, w[groups + x]);
     }
 }
 
 // Counts the edges of uncovered meta-peptides.
-fn counts(edges: &[u8], n: usize, w: &mut [u32], groups: usize, metas: usize)
-    requires { (groups + metas ≤ length w.old) × InRange edges.now n groups metas × ((y : ℕ) → y < groups → get_or w.old y 0 ≡ 0) × (n ≤ 1048576) }
-    ensures { OpenCounted groups edges.now w.old w.new n }
+fn counts(edges: &Edges, w: &mut [u32], groups: usize, metas: usize)
+    requires { (groups + metas ≤ length w.old) × InRange edges.now.bytes.now edges.now.count groups metas × ((y : ℕ) → y < groups → get_or w.old y 0 ≡ 0) × (edges.now.count ≤ 1048576) }
+    ensures { OpenCounted groups edges.now.bytes.now w.old w.new edges.now.count }
 {
-    for i in 0..n {
-        let g = group_of(edges, i);
-        let x = meta_of(edges, i);
+    for i in 0..edges.count {
+        let g = edges.group(i);
+        let x = edges.meta(i);
         w[g] += fresh(w[groups + x]);
     }
 }
 
 // The first pass.
-pub fn first(edges: &[u8], n: usize, w: &mut [u32], areas: Areas)
-    requires { Unmarked areas edges.now n w.old }
-    ensures { Levels areas (edges_to edges.now n) n 0 w.new }
+pub fn first(edges: &Edges, w: &mut [u32], areas: Areas)
+    requires { Unmarked areas edges.now.bytes.now edges.now.count w.old }
+    ensures { Levels areas (edges_in edges.now) edges.now.count 0 w.new }
 {
-    forced(edges, n, w, areas);
-    covered(edges, n, w, areas.groups, areas.metas);
-    counts(edges, n, w, areas.groups, areas.metas);
+    forced(edges, w, areas);
+    covered(edges, w, areas.groups, areas.metas);
+    counts(edges, w, areas.groups, areas.metas);
 }

@@ -5,7 +5,7 @@ ghost use Rattle.cover_joining.specs.Joining.{Forest, LowestFound, Joined, nodes
 ghost use Rattle.cover_edges.specs.PutLaws.{Puts};
 ghost use Rattle.cover_edges.specs.RangeLaws.{InRange};
 
-use records::u32_at;
+use cover_edges::Edges;
 
 // Each of n nodes is a part of its own.
 pub fn each_alone(w: &mut [u32], p: usize, n: usize)
@@ -46,16 +46,16 @@ pub fn join(w: &mut [u32], p: usize, n: usize, x: usize, y: usize)
     w[p + a.max(b)] = a.min(b) as u32;
 }
 
-// Joins the group and the meta-peptide of each of n records.
-pub fn join_edges(edges: &[u8], n: usize, groups: usize, metas: usize, w: &mut [u32], p: usize)
-    requires n_bound { (n ≤ 1048576) × (groups ≤ 131072) × (metas ≤ 262144) × InRange edges.now n groups metas }
+// Joins the group and the meta-peptide of each record.
+pub fn join_edges(edges: &Edges, groups: usize, metas: usize, w: &mut [u32], p: usize)
+    requires n_bound { (edges.now.count ≤ 1048576) × (groups ≤ 131072) × (metas ≤ 262144) × InRange edges.now.bytes.now edges.now.count groups metas }
     requires forest { Forest w.old p (nodes groups metas) }
-    ensures { Joined (edge_links groups edges.now n) w.old w.new p (nodes groups metas) }
+    ensures { Joined (edge_links groups edges.now.bytes.now edges.now.count) w.old w.new p (nodes groups metas) }
 {
     let size = 1 + groups + metas;
-    for i in 0..n {
-        let g = u32_at(edges, 8 * i) as usize;
-        let m = u32_at(edges, 8 * i + 4) as usize;
+    for i in 0..edges.count {
+        let g = edges.group(i);
+        let m = edges.meta(i);
         join(w, p, size, 1 + g, 1 + groups + m);
     }
 }

@@ -3,15 +3,16 @@ ghost use Rattle.std.specs.Prelude.{◌+◌, ◌-◌, ◌*◌, ◌≤◌, length
 ghost use Rattle.records.specs.Le.{number_at};
 ghost use Rattle.cover_edges.specs.PutLaws.{Puts};
 
+use cover_edges::Edges;
 use records::u32_at;
 
-// The numbers at byte f of n records go to w from place a on.
-pub(crate) fn copy_field(edges: &[u8], n: usize, f: usize, w: &mut [u32], a: usize)
-    requires { (a + n ≤ length w.old) × (n ≤ 1048576) × (f ≤ 4) }
-    ensures { Puts (λ i. number_at 4 edges.now (8 * i + f)) a (a + n) w.old w.new }
+// The numbers at byte f of the records go to w from place a on.
+pub(crate) fn copy_field(edges: &Edges, f: usize, w: &mut [u32], a: usize)
+    requires { (a + edges.now.count ≤ length w.old) × (edges.now.count ≤ 1048576) × (f ≤ 4) }
+    ensures { Puts (λ i. number_at 4 edges.now.bytes.now (8 * i + f)) a (a + edges.now.count) w.old w.new }
 {
-    for i in 0..n {
-        w[a + i] = u32_at(edges, 8 * i + f);
+    for i in 0..edges.count {
+        w[a + i] = u32_at(edges.bytes, 8 * i + f);
     }
 }
 

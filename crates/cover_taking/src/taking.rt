@@ -5,8 +5,9 @@ ghost use Rattle.lists.specs.Lists.{times};
 ghost use Rattle.lists.specs.FrameLaws.{Framed};
 ghost use Rattle.cover_tables.specs.TableLaws.{Lowerable};
 ghost use Rattle.cover_tables.specs.StepLaws.{Walk, Visits, Reaches, Takes};
-ghost use Rattle.cover_edges.specs.Edges.{edges_to};
+ghost use Rattle.cover_edges.specs.Records.{edges_in};
 
+use cover_edges::Edges;
 use cover_tables::{Areas, stretch_at};
 use records::wide;
 
@@ -22,9 +23,9 @@ fn lower(w: &mut [u32], groups: usize, a: usize, e: usize)
 }
 
 // Covers meta-peptide x, if it is not covered yet.
-fn visit(edges: &[u8], n: usize, w: &mut [u32], areas: Areas, x: usize)
-    requires { Walk areas (edges_to edges.now n) w.old × (x < areas.metas) }
-    ensures { Visits areas (edges_to edges.now n) x w.old w.new }
+fn visit(edges: &Edges, w: &mut [u32], areas: Areas, x: usize)
+    requires { Walk areas (edges_in edges.now) w.old × (x < areas.metas) }
+    ensures { Visits areas (edges_in edges.now) x w.old w.new }
 {
     if w[areas.groups + x] == 1 {
         return;
@@ -35,22 +36,22 @@ fn visit(edges: &[u8], n: usize, w: &mut [u32], areas: Areas, x: usize)
 }
 
 // Covers the meta-peptides of group c.
-fn reach(edges: &[u8], n: usize, w: &mut [u32], areas: Areas, c: usize)
-    requires { Walk areas (edges_to edges.now n) w.old × (c < areas.groups) }
-    ensures { Reaches areas (edges_to edges.now n) c w.old w.new }
+fn reach(edges: &Edges, w: &mut [u32], areas: Areas, c: usize)
+    requires { Walk areas (edges_in edges.now) w.old × (c < areas.groups) }
+    ensures { Reaches areas (edges_in edges.now) c w.old w.new }
 {
     let list = stretch_at(w, areas.go + c);
     for p in list.from..list.till {
         let x = wide(w[p]);
-        visit(edges, n, w, areas, x);
+        visit(edges, w, areas, x);
     }
 }
 
 // Takes group c: marks it and covers its meta-peptides.
-pub fn choose(edges: &[u8], n: usize, w: &mut [u32], areas: Areas, c: usize)
-    requires { Walk areas (edges_to edges.now n) w.old × (c < areas.groups) }
-    ensures { Takes areas (edges_to edges.now n) c w.old w.new }
+pub fn choose(edges: &Edges, w: &mut [u32], areas: Areas, c: usize)
+    requires { Walk areas (edges_in edges.now) w.old × (c < areas.groups) }
+    ensures { Takes areas (edges_in edges.now) c w.old w.new }
 {
     w[areas.groups + areas.metas + c] = 1;
-    reach(edges, n, w, areas, c);
+    reach(edges, w, areas, c);
 }

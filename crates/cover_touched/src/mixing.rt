@@ -2,10 +2,11 @@
 ghost use Rattle.std.specs.Prelude.{◌≡◌, cond, List, ◌≤◌, ◌<◌, length, replicate, eqb};
 ghost use Rattle.cover_joining.specs.Joining.{Forest, nodes};
 ghost use Rattle.cover_spec.specs.Cover.{Edge};
-ghost use Rattle.cover_edges.specs.Edges.{edges_to};
+ghost use Rattle.cover_edges.specs.Records.{edges_in};
 ghost use Rattle.cover_touched.specs.Touching.{UpdateSized, PartsTell, Mixed};
 
 use crate::touching::touch;
+use cover_edges::Edges;
 use cover_joining::lowest;
 use records::clear;
 
@@ -31,10 +32,8 @@ fn mix(given: &[u8], groups: usize, metas: usize, w: &mut [u32], k: usize, marks
 // Of the first k marks, which are the cover's, those of groups that the update does not touch become the ones given. The work slice is
 // zeros then.
 pub fn renew(
-    old: &[u8],
-    on: usize,
-    new: &[u8],
-    nn: usize,
+    old: &Edges,
+    new: &Edges,
     groups: usize,
     metas: usize,
     given: &[u8],
@@ -42,12 +41,12 @@ pub fn renew(
     marks: &mut [u8],
     w: &mut [u32],
 )
-    requires update_sized { UpdateSized old.now on new.now nn groups metas (length w.old) }
+    requires update_sized { UpdateSized old.now.bytes.now old.now.count new.now.bytes.now new.now.count groups metas (length w.old) }
     requires k_le_groups { (k ≤ groups) × (k ≤ length given.now) × (k ≤ length marks.old) }
-    ensures mixed { Mixed (edges_to old.now on) (edges_to new.now nn) given.now k marks.old marks.new }
+    ensures mixed { Mixed (edges_in old.now) (edges_in new.now) given.now k marks.old marks.new }
     ensures w_after { w.new ≡ replicate (length w.old) 0 }
 {
-    touch(old, on, new, nn, groups, metas, w);
+    touch(old, new, groups, metas, w);
     mix(given, groups, metas, w, k, marks);
     clear(w);
 }

@@ -15,9 +15,9 @@ pub renew-requires : goal.renew-requires
 renew-requires c =
     let k = c.min-k.ensures in
     record {
-      update_sized = update_sized c.requires (positive (goal.at.renew-requires c).Else-k-eq0);
+      update_sized = rw (c.of-before.ensures.0, c.of-before.ensures.1, c.of-after.ensures.0, c.of-after.ensures.1) (update_sized c.requires (positive (goal.at.renew-requires c).Else-k-eq0));
       k_le_groups = (omega (arith, k), omega (arith, k, c.requires.as_many), omega (arith, k));
     }
 
 pub returns : goal.returns
-returns c = record { mixed = rw c.min-k.ensures at c.renew.ensures.mixed; work_after = c.renew.ensures.w_after }
+returns c = record { mixed = rw (c.min-k.ensures, c.of-before.ensures.0, c.of-before.ensures.1, c.of-after.ensures.0, c.of-after.ensures.1) at c.renew.ensures.mixed; work_after = c.renew.ensures.w_after }

@@ -8,7 +8,7 @@ use Rattle.cover_edges.proofs.linking.link.Goals as goal
 pub loop-i-init : goal.loop-i-init
 loop-i-init c =
     let a = c.args in
-    (refl, link_start a.w.now a.edges.now a.f a.size a.h a.nx c.requires.by_index_2, λ j u v. refl)
+    (refl, link_start a.w.now a.edges.now.bytes.now a.f a.size a.h a.nx c.requires.by_index_2, λ j u v. refl)
 
 pub link_one-requires : goal.link_one-requires
 link_one-requires c =
@@ -24,18 +24,18 @@ loop-i-preserved c =
     let a = c.args in
     let lp = c.loop-i in
     let call = c.link_one in
-    let more : lp.i < a.n = omega arith in
+    let more : lp.i < a.edges.now.count = omega arith in
     let inside = c.requires.by_index lp.i more in (
       call.auto.w ∙ lp.invariant.0,
-      link_turn lp.w _ a.edges.now a.f lp.i a.n a.size a.h a.nx lp.invariant.1 more c.requires.size_bound.0 (omega (arith, lp.invariant.0)) inside call.ensures,
-      link_rest a.w.now lp.w _ a.edges.now a.f lp.i a.n a.size a.h a.nx more inside call.ensures lp.invariant.2,
+      link_turn lp.w _ a.edges.now.bytes.now a.f lp.i a.edges.now.count a.size a.h a.nx lp.invariant.1 more c.requires.size_bound.0 (omega (arith, lp.invariant.0)) inside call.ensures,
+      link_rest a.w.now lp.w _ a.edges.now.bytes.now a.f lp.i a.edges.now.count a.size a.h a.nx more inside call.ensures lp.invariant.2,
     )
 
 pub returns : goal.returns
 returns c =
     let a = c.args in
     let lp = c.loop-i in
-    let z : lp.i ≡ a.n = omega arith in
+    let z : lp.i ≡ a.edges.now.count = omega arith in
     record { chains = rw (← z) lp.invariant.1; by_index_3 = lp.invariant.2 }
 
 pub shape_of-w : goal.shape_of-w

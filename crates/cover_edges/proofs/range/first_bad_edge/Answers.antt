@@ -10,10 +10,10 @@ unfolding first_bad_edge
 loop-i-init c = seeking_all
 
 pub returns-then-is_bad_edge : goal.returns-then-is_bad_edge
-returns-then-is_bad_edge c = seeking_stop c.loop-i.invariant (omega arith) (sym c.is_bad_edge.ensures ∙ c.if-is_bad_edge.true)
+returns-then-is_bad_edge c = seeking_stop c.loop-i.invariant (omega arith) (sym (rw c.of-all.ensures.0 at c.is_bad_edge.ensures) ∙ c.if-is_bad_edge.true)
 
 pub loop-i-preserved : goal.loop-i-preserved
-loop-i-preserved c = seeking_on c.loop-i.invariant (omega arith) (sym c.is_bad_edge.ensures ∙ c.if-is_bad_edge.false)
+loop-i-preserved c = seeking_on c.loop-i.invariant (omega arith) (sym (rw c.of-all.ensures.0 at c.is_bad_edge.ensures) ∙ c.if-is_bad_edge.false)
 
 pub returns : goal.returns
-returns c = omega (arith, seeking_end c.loop-i.invariant (omega arith))
+returns c = omega (arith, c.of-all.ensures.1, seeking_end c.loop-i.invariant (omega arith))

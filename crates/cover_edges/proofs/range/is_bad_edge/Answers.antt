@@ -2,4 +2,4 @@
 use Rattle.cover_edges.proofs.range.is_bad_edge.Goals as goal
 
 pub returns : goal.returns
-returns c = rw (c.u32_at-group.ensures, c.u32_at-meta.ensures)
+returns c = rw (c.group-group.ensures.0, c.meta-meta.ensures.0)

@@ -3,4 +3,4 @@ use Rattle.cover_first.specs.FirstLaws.{Covered}
 use Rattle.cover_first.proofs.marking.covered.Given as goal
 
 abbrev pub invariant-loop-i : goal.invariant-loop-i
-invariant-loop-i l = Covered l.groups l.metas l.edges l.initial.w l.w l.i
+invariant-loop-i l = Covered l.groups l.metas l.edges.bytes.now l.initial.w l.w l.i

@@ -13,4 +13,4 @@ pub counts-requires : goal.counts-requires
 counts-requires c = let f = c.forced in let g = c.covered in (omega (arith, c.requires.0.order_above, c.requires.0.order-fits, f.auto.w, g.auto.w), c.requires.1, (λ y b. g.ensures.rest y (inl (omega arith)) ∙ f.ensures.rest y (inl (omega arith)) ∙ c.requires.2 y (omega arith)), c.requires.3)
 
 pub returns : goal.returns
-returns c = let f = c.forced in let g = c.covered in let h = c.counts in first_levels c.args.areas c.args.edges.now c.args.n c.args.w.now f.new.w g.new.w h.new.w c.requires.0 c.requires.1 f.ensures g.ensures h.ensures
+returns c = let f = c.forced in let g = c.covered in let h = c.counts in first_levels c.args.areas c.args.edges.now.bytes.now c.args.edges.now.count c.args.w.now f.new.w g.new.w h.new.w c.requires.0 c.requires.1 f.ensures g.ensures h.ensures

@@ -5,4 +5,4 @@ use Rattle.cover_joining.specs.Joining.{Joined, nodes, edge_links}
 use Rattle.cover_joining.proofs.joining.join_edges.Given as goal
 
 abbrev pub invariant-loop-i : goal.invariant-loop-i
-invariant-loop-i l = (length l.w ≡ length l.initial.w) × Joined (edge_links l.groups l.edges l.i) l.initial.w l.w l.p (nodes l.groups l.metas)
+invariant-loop-i l = (length l.w ≡ length l.initial.w) × Joined (edge_links l.groups l.edges.bytes.now l.i) l.initial.w l.w l.p (nodes l.groups l.metas)

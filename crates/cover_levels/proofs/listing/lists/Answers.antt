@@ -4,7 +4,7 @@ use Rattle.cover_levels.proofs.listing.lists.Goals.{After-gather}
 use Rattle.cover_levels.proofs.listing.lists.Goals as goal
 
 -- the layout, once the edges are gathered
-layout : (c : After-gather) → Layout c.args.areas c.args.n c.gather.new.w
+layout : (c : After-gather) → Layout c.args.areas c.args.edges.now.count c.gather.new.w
 layout c = layout_kept c.args.w.now _ c.gather.auto.w c.requires.0
 
 pub sort_by_keys-requires : goal.sort_by_keys-requires

@@ -1,7 +1,7 @@
 -- `join_if` meets its contract. Assumes nothing.
 use native.Mathlib.Omega.{arith}
 use Rattle.cover_differing.specs.Walking.{differing}
-use Rattle.cover_edges.specs.Edges.{edges_to}
+use Rattle.cover_edges.specs.Records.{edges_in}
 use Rattle.cover_touched.specs.TouchingLaws.{seed_yes, seed_no}
 use Rattle.cover_touched.proofs.touching.join_if.Goals as goal
 
@@ -16,10 +16,10 @@ pub returns-then-differs_at : goal.returns-then-differs_at
 returns-then-differs_at c =
     let a = c.args in
     let say = c.differs_at.ensures in
-    seed_yes c.differs_at.result (differing (edges_to a.old.now a.on) (edges_to a.new.now a.nn) a.g) a.g say.value c.if-differs_at.true (rw say.w_unchanged at c.join.ensures)
+    seed_yes c.differs_at.result (differing (edges_in a.old.now) (edges_in a.new.now) a.g) a.g say.value c.if-differs_at.true (rw say.w_unchanged at c.join.ensures)
 
 pub returns-else-differs_at : goal.returns-else-differs_at
 returns-else-differs_at c =
     let a = c.args in
     let say = c.differs_at.ensures in
-    rw say.w_unchanged (seed_no c.differs_at.result (differing (edges_to a.old.now a.on) (edges_to a.new.now a.nn) a.g) a.g say.value c.if-differs_at.false c.requires.forest)
+    rw say.w_unchanged (seed_no c.differs_at.result (differing (edges_in a.old.now) (edges_in a.new.now) a.g) a.g say.value c.if-differs_at.false c.requires.forest)

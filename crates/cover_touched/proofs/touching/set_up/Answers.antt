@@ -13,7 +13,7 @@ link-requires c =
     record {
       n_bound = (c.requires.old_few, omega arith);
       size_bound = (omega arith, omega (arith, c.clear.auto.w));
-      by_index = field_inside a.old.now a.on a.groups a.metas c.requires.old_inside;
+      by_index = field_inside a.old.now.bytes.now a.old.now.count a.groups a.metas c.requires.old_inside;
       by_index_2 = λ x l. cleared_at a.w.now w₁ (a.metas + (1 + a.groups + a.metas) + x) c.clear.ensures;
     }
 
@@ -26,7 +26,7 @@ link-requires-2 c =
     record {
       n_bound = (c.requires.new_few, omega arith);
       size_bound = (omega arith, omega (arith, cleared.auto.w, first.auto.w));
-      by_index = field_inside a.new.now a.nn a.groups a.metas c.requires.new_inside;
+      by_index = field_inside a.new.now.bytes.now a.new.now.count a.groups a.metas c.requires.new_inside;
       by_index_2 = new_heads a.w.now cleared.new.w c.requires cleared.ensures first.new.w first.ensures.by_index_3;
     }
 

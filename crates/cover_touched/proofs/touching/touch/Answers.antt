@@ -34,4 +34,4 @@ returns c =
     let second = c.join_edges-2.ensures in
     let last = c.join_differing in
     let none = alone-held made.new.w a.metas (nodes a.groups a.metas) made.ensures.by_index in
-    parts_told a.old.now a.on a.new.now a.nn a.groups a.metas last.new.w c.requires.old_inside c.requires.new_inside last.ensures.forest (last.ensures.held _ (second.held _ (first.held [] none)))
+    parts_told a.old.now.bytes.now a.old.now.count a.new.now.bytes.now a.new.now.count a.groups a.metas last.new.w c.requires.old_inside c.requires.new_inside last.ensures.forest (last.ensures.held _ (second.held _ (first.held [] none)))
