@@ -12,10 +12,8 @@ fn copy_raised(letters: &[u8], table: &mut [u8])
     requires { length letters.now ≤ length table.old }
     ensures { take (length letters.now) table.new ≡ capitals letters.now }
 {
-    let mut i = 0;
-    while i < letters.len() {
+    for i in 0..letters.len() {
         table[i] = letters::capital(letters[i]);
-        i += 1;
     }
 }
 
@@ -36,28 +34,18 @@ fn offer_over(
     offer_all(&table[0..n], enzyme, missed, terms, out)
 }
 
-// The same with tables of three sizes.
-fn raised_small(letters: &[u8], enzyme: Enzyme, missed: u8, terms: Terms, out: &mut [u8]) -> Option<usize>
-    requires { (length letters.now ≤ 1024) × (missed ≤ 16) × (terms.maximum ≤ 65536) }
+// The same with a table on the stack.
+fn raised_with<const LETTERS: usize>(
+    letters: &[u8],
+    enzyme: Enzyme,
+    missed: u8,
+    terms: Terms,
+    out: &mut [u8],
+) -> Option<usize>
+    requires { (length letters.now ≤ LETTERS) × (LETTERS ≤ 65536) × (missed ≤ 16) × (terms.maximum ≤ 65536) }
     ensures { DigestsRead letters.now enzyme missed terms out.old result out.new }
 {
-    let mut table = [0 as u8; 1024];
-    offer_over(letters, enzyme, missed, terms, out, &mut table)
-}
-
-fn raised_middle(letters: &[u8], enzyme: Enzyme, missed: u8, terms: Terms, out: &mut [u8]) -> Option<usize>
-    requires { (length letters.now ≤ 8192) × (missed ≤ 16) × (terms.maximum ≤ 65536) }
-    ensures { DigestsRead letters.now enzyme missed terms out.old result out.new }
-{
-    let mut table = [0 as u8; 8192];
-    offer_over(letters, enzyme, missed, terms, out, &mut table)
-}
-
-fn raised_large(letters: &[u8], enzyme: Enzyme, missed: u8, terms: Terms, out: &mut [u8]) -> Option<usize>
-    requires { (length letters.now ≤ 65536) × (missed ≤ 16) × (terms.maximum ≤ 65536) }
-    ensures { DigestsRead letters.now enzyme missed terms out.old result out.new }
-{
-    let mut table = [0 as u8; 65536];
+    let mut table = [0u8; LETTERS];
     offer_over(letters, enzyme, missed, terms, out, &mut table)
 }
 
@@ -78,16 +66,22 @@ fn offer_raised(
         return offer_raised(8 * room, letters, enzyme, missed, terms, out);
     }
     if room <= 1024 {
-        return raised_small(letters, enzyme, missed, terms, out);
+        return raised_with::<1024>(letters, enzyme, missed, terms, out);
     }
     if room <= 8192 {
-        return raised_middle(letters, enzyme, missed, terms, out);
+        return raised_with::<8192>(letters, enzyme, missed, terms, out);
     }
-    raised_large(letters, enzyme, missed, terms, out)
+    raised_with::<65536>(letters, enzyme, missed, terms, out)
 }
 
 // Writes what is kept of the sites of an enzyme in letters that are read as capitals.
-pub fn offer_read(letters: &[u8], enzyme: Enzyme, missed: u8, terms: Terms, out: &mut [u8]) -> Option<usize>
+pub fn offer_read(
+    letters: &[u8],
+    enzyme: Enzyme,
+    missed: u8,
+    terms: Terms,
+    out: &mut [u8],
+) -> Option<usize>
     requires { (length letters.now ≤ 65536) × (missed ≤ 16) × (terms.maximum ≤ 65536) }
     ensures { DigestsRead letters.now enzyme missed terms out.old result out.new }
 {

@@ -32,9 +32,9 @@ fn knife_of(enzyme: Enzyme, cleave: LetterSet) -> Knife
     Knife { cleave, skip, side }
 }
 
-// Writes what is kept of the sites of an enzyme, with tables for as many letters. An empty set means "none": said by a call of
-// itself, for into a function that calls itself the compiler joins none that has large tables. So each way has its stack to
-// itself at each size.
+// Writes what is kept of the sites of an enzyme, with tables for as many letters; which table has which of the numbers stands at
+// each function. An empty set means "none": said by a call of itself, for into a function that calls itself the compiler joins none
+// that has large tables. So each way has its stack to itself at each size.
 pub(crate) fn offer_all(
     letters: &[u8],
     enzyme: Enzyme,
@@ -66,12 +66,18 @@ pub(crate) fn offer_all(
             let knife = knife_of(enzyme, cleave);
             if enzyme.semi {
                 if n <= 1024 {
-                    return enzyme_halves::semi_small(letters, knife, missed, terms, out);
+                    return enzyme_halves::semi_with::<1025, 1024, 17576, 4096, 1024, 2048>(
+                        letters, knife, missed, terms, out,
+                    );
                 }
                 if n <= 8192 {
-                    return enzyme_halves::semi_middle(letters, knife, missed, terms, out);
+                    return enzyme_halves::semi_with::<8193, 8192, 131071, 32768, 2048, 4096>(
+                        letters, knife, missed, terms, out,
+                    );
                 }
-                return enzyme_halves::semi_large(letters, knife, missed, terms, out);
+                return enzyme_halves::semi_with::<65537, 65536, 131071, 40960, 12288, 16384>(
+                    letters, knife, missed, terms, out,
+                );
             }
             if n <= 1024 {
                 return enzyme_set::windows_with::<1025, 2048>(letters, knife, missed, terms, out);

@@ -1,12 +1,9 @@
 -- `copy_raised` meets its contract: the first i places hold capitals. Assumes nothing.
-use Prim.Native.Nat.{ℕ, ◌-◌, ◌<◌}
+use Prim.Native.Nat.{ℕ, ◌<◌}
 use mathlib.Core.Path.{◌≡◌}
-use lib.ListN.{length, get_or}
+use lib.ListN.{get_or}
 use Rattle.letters.specs.Letters.{capital}
 use Rattle.enzyme_ways.proofs.reading.copy_raised.Given as goal
 
 abbrev pub invariant-loop-i : goal.invariant-loop-i
-invariant-loop-i l = (length l.table ≡ length l.initial.table) × ((j : ℕ) → j < l.i → get_or l.table j 0 ≡ capital (get_or l.letters j 0))
-
-abbrev pub decreases-loop-i : goal.decreases-loop-i
-decreases-loop-i l = length l.letters - l.i
+invariant-loop-i l = (j : ℕ) → j < l.i → get_or l.table j 0 ≡ capital (get_or l.letters j 0)
