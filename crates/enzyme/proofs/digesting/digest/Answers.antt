@@ -4,10 +4,4 @@ use Rattle.enzyme_tests.specs.TestLaws.{passed-sizes}
 use Rattle.enzyme.proofs.digesting.digest.Goals as goal
 
 pub digest_passed-requires : goal.digest_passed-requires
-digest_passed-requires c = let a = c.args in passed-sizes a.letters.now a.alphabet a.enzyme a.settings (sym c.tested-found.ensures ∙ c.in-Passed.is)
-
-pub returns-in-Refused : goal.returns-in-Refused
-returns-in-Refused c = rw (sym c.tested-found.ensures ∙ c.in-Refused.is)
-
-pub returns-in-Passed : goal.returns-in-Passed
-returns-in-Passed c = rw (sym c.tested-found.ensures ∙ c.in-Passed.is) c.digest_passed.ensures
+digest_passed-requires c = let a = c.args in passed-sizes a.letters.now a.alphabet a.enzyme a.settings (sym c.tested.ensures ∙ c.in_ok-tested.was)

@@ -16,8 +16,8 @@ returns-in_default c = let a = c.args in
 pub overflow_cast-count : goal.overflow_cast-count
 overflow_cast-count c = let a = c.args in
     let cs = way a.enzyme a.missed a.terms.minimum a.terms.maximum (capitals a.letters.now) in
-    omega (arith, offers_capped (capitals a.letters.now) a.terms (among (capitals a.letters.now) cs) (way a.enzyme a.missed a.terms.minimum a.terms.maximum (capitals a.letters.now)) 0 a.out.now c.in-Kept.k _ (omega arith) (rw c.in-Kept.is at c.offer_read.ensures))
+    omega (arith, offers_capped (capitals a.letters.now) a.terms (among (capitals a.letters.now) cs) (way a.enzyme a.missed a.terms.minimum a.terms.maximum (capitals a.letters.now)) 0 a.out.now c.in-Some.k _ (omega arith) (rw c.in-Some.is at c.offer_read.ensures))
 
 pub returns : goal.returns
 returns c = let a = c.args in
-    ap run_answer (rw c.in-Kept.is at c.offer_read.ensures) ∙ run-all a.enzyme a.missed a.terms (capitals a.letters.now) a.out.now (rw (length-map a.letters.now capital) c.requires.0)
+    ap run_answer (rw c.in-Some.is at c.offer_read.ensures) ∙ run-all a.enzyme a.missed a.terms (capitals a.letters.now) a.out.now (rw (length-map a.letters.now capital) c.requires.0)
