@@ -7,20 +7,19 @@ ghost use Rattle.sendumaal_calls.specs.DigestCalls.{digest_call};
 
 use enzyme::Settings;
 use letters::LetterSet;
-use sendumaal_calls::{counted, enzyme_numbered, is_enzyme, told, told_field};
+use records::Refusal;
+use sendumaal_calls::{counted, enzyme_numbered, is_enzyme, refused, told, told_field};
 
 pub fn sendumaal_letters_reverse(letters: &mut [u8], place: &mut usize) -> u32
     ensures { outcome result ((place.new ∷ []) ∷ letters.new ∷ []) ≡ tested_call (reverse_outcome letters.old) }
 {
-    let answer = enzyme::reverse_letters(letters);
-    told(answer, place)
+    told(enzyme::reverse_letters(letters), place)
 }
 
 pub fn sendumaal_digest_reverse(bytes: &mut [u8], place: &mut usize) -> u32
     ensures { outcome result ((place.new ∷ []) ∷ bytes.new ∷ []) ≡ tested_call (reverse_record_outcome bytes.old) }
 {
-    let answer = enzyme::reverse_record(bytes);
-    told(answer, place)
+    told(enzyme::reverse_record(bytes), place)
 }
 
 pub fn sendumaal_digest_letters(
@@ -32,8 +31,7 @@ pub fn sendumaal_digest_letters(
 ) -> u32
     ensures { outcome result ((place.new ∷ []) ∷ (count.new ∷ []) ∷ out.new ∷ []) ≡ counted_call (letters_outcome letters.now bytes.now out.old) count.old }
 {
-    let answer = enzyme::digest_letters(letters, bytes, out);
-    counted(answer, count, place)
+    counted(enzyme::digest_letters(letters, bytes, out), count, place)
 }
 
 pub fn sendumaal_digest(
@@ -55,8 +53,7 @@ pub fn sendumaal_digest(
     ensures { outcome result ((place.new ∷ []) ∷ (count.new ∷ []) ∷ out.new ∷ []) ≡ digest_call (record { letters = letters.entry.now; alphabet = alphabet; kind = kind; cleave = cleave; skip = skip; side = side; semi = semi; missed = missed; minimum = minimum; maximum = maximum; protein = protein; out = out.old; count = count.old }) }
 {
     if 16 < missed {
-        *place = 0;
-        return 1;
+        return refused(Refusal::Size, place);
     }
     let cutter = enzyme_numbered(kind, cleave, skip, side, semi);
     let set = LetterSet { mask: alphabet };

@@ -1,4 +1,6 @@
 // The C face: the entries of the library over numbers, slices and results, as include/sendumaal.h declares them.
+// That header holds what no Rust would say so: long lists of arguments, numbers for kinds and flags, results behind references,
+// and an entry of its own for each of two that differ in what they call.
 #![tactic(auto)]
 
 mod digests;

@@ -5,8 +5,9 @@ ghost use Rattle.records.specs.Outcome.{outcome};
 ghost use Rattle.sendumaal_calls.specs.Calls.{test_call};
 ghost use Rattle.sendumaal_calls.specs.PeptideCalls.{weight, weight_call, digest_weight, digest_mass_call, forms_call, reverse_call};
 
-use peptide::{Peptide};
-use sendumaal_calls::{counted, flipped, peptide_of, test_reverse, told, too_large, turn};
+use peptide::Peptide;
+use records::Refusal;
+use sendumaal_calls::{counted, flipped, peptide_of, refused, reverse, told, too_large};
 
 pub fn sendumaal_base_mass(
     letters: &[u8],
@@ -18,17 +19,10 @@ pub fn sendumaal_base_mass(
     ensures { weight result place.new mass.new ≡ weight_call (weighed letters.now masses.now water) mass.old }
 {
     let answer = peptide::base_mass(letters, masses, water);
-    match answer {
-        Ok(m) => {
-            *mass = m;
-            *place = 0;
-            0
-        }
-        Err(why) => {
-            *place = why.place();
-            why.number()
-        }
+    if let Ok(m) = answer {
+        *mass = m;
     }
+    told(answer, place)
 }
 
 pub fn sendumaal_digest_mass(
@@ -43,18 +37,11 @@ pub fn sendumaal_digest_mass(
     ensures { digest_weight result place.new mass.new position.new ≡ digest_mass_call letters.now bytes.now masses.now water mass.old position.old }
 {
     let answer = peptide::digest_mass(letters, bytes, masses, water);
-    match answer {
-        Ok(m) => {
-            *mass = m;
-            *position = records::byte_at(bytes, 10) as u32;
-            *place = 0;
-            0
-        }
-        Err(why) => {
-            *place = why.place();
-            why.number()
-        }
+    if let Ok(m) = answer {
+        *mass = m;
+        *position = u32::from(records::byte_at(bytes, 10));
     }
+    told(answer, place)
 }
 
 pub fn sendumaal_peptide_test(
@@ -65,9 +52,7 @@ pub fn sendumaal_peptide_test(
 ) -> u32
     ensures { outcome result ((place.new ∷ []) ∷ []) ≡ test_call (tested_part letters.now masses.now position) }
 {
-    let made = Peptide::of_part(letters, masses, position, false);
-    let found = made.tested;
-    told(found, place)
+    told(Peptide::of_part(letters, masses, position, false), place)
 }
 
 pub fn sendumaal_forms(
@@ -87,12 +72,10 @@ pub fn sendumaal_forms(
     ensures { outcome result ((place.new ∷ []) ∷ (count.new ∷ []) ∷ out.new ∷ []) ≡ forms_call (record { letters = letters.entry.now; ids = ids.now; nterm = nterm; cterm = cterm; position = position; variable = variable.now; fixed = fixed.now; limit = limit; cap = cap; out = out.old; count = count.old }) }
 {
     if too_large(letters.len(), variable, fixed, limit) {
-        *place = 0;
-        return 1;
+        return refused(Refusal::Size, place);
     }
     if ids.len() != letters.len() {
-        *place = 0;
-        return 8;
+        return refused(Refusal::Length, place);
     }
     let p = peptide_of(letters, ids, nterm, cterm, position, false);
     let answer = p.forms(variable, fixed, limit, cap, out);
@@ -107,18 +90,9 @@ pub fn sendumaal_peptide_reverse(
 ) -> u32
     ensures { outcome result ((place.new ∷ []) ∷ (decoy.new ∷ []) ∷ letters.new ∷ ids.new ∷ []) ≡ reverse_call letters.old ids.old decoy.old }
 {
-    let flag = *decoy;
-    let found = test_reverse(letters, ids, flag);
-    match found {
-        Err(why) => {
-            *place = why.place();
-            why.number()
-        }
-        Ok(()) => {
-            turn(letters, ids, flag);
-            *decoy = flipped(flag);
-            *place = 0;
-            0
-        }
+    let found = reverse(letters, ids, *decoy);
+    if found.is_ok() {
+        *decoy = flipped(*decoy);
     }
+    told(found, place)
 }

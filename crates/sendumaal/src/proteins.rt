@@ -1,10 +1,9 @@
 // Groups of proteins, and the report line of a peptide.
 ghost use Rattle.std.specs.Prelude.{◌≡◌, List, [], ◌∷◌};
 ghost use Rattle.records.specs.Outcome.{outcome};
-ghost use Rattle.sendumaal.specs.ProteinCalls.{are_flags, report_call, proteins_call, line_call};
+ghost use Rattle.sendumaal.specs.ProteinCalls.{are_flags, proteins_call, line_call};
 
-use sendumaal_calls::told_field;
-use records::Refusal;
+use sendumaal_calls::{told, told_field};
 
 pub fn sendumaal_group_proteins(
     pairs: &[u8],
@@ -25,20 +24,13 @@ pub fn sendumaal_group_proteins(
     let answer = protein_groups::group_proteins(
         pairs, flags, peptides, proteins, work, edges, members,
     );
-    match answer {
-        Ok(sizes) => {
-            *groups = sizes.groups;
-            *metas = sizes.metas;
-            *edge_count = sizes.edges;
-            *member_count = sizes.members;
-            *place = 0;
-            0
-        }
-        Err(why) => {
-            *place = why.place();
-            why.number()
-        }
+    if let Ok(sizes) = answer {
+        *groups = sizes.groups;
+        *metas = sizes.metas;
+        *edge_count = sizes.edges;
+        *member_count = sizes.members;
     }
+    told(answer, place)
 }
 
 // Whether two numbers are flags.
@@ -46,24 +38,6 @@ fn are_flags(a: u32, b: u32) -> bool
     ensures { result ≡ are_flags a b }
 {
     (a <= 1) & (b <= 1)
-}
-
-// How a line's answer is told.
-fn reported(answer: Result<Report, Refusal>, bytes: &mut u32, groups: &mut u32, place: &mut usize) -> u32
-    ensures { outcome result ((place.new ∷ []) ∷ (bytes.new ∷ []) ∷ (groups.new ∷ []) ∷ []) ≡ report_call answer bytes.old groups.old }
-{
-    match answer {
-        Ok(report) => {
-            *bytes = report.bytes;
-            *groups = report.groups;
-            *place = 0;
-            0
-        }
-        Err(why) => {
-            *place = why.place();
-            why.number()
-        }
-    }
 }
 
 pub fn sendumaal_report_line(
@@ -92,7 +66,11 @@ pub fn sendumaal_report_line(
             generated == 1,
             line,
         );
-        return reported(answer, bytes, groups, place);
+        if let Ok(report) = answer {
+            *bytes = report.bytes;
+            *groups = report.groups;
+        }
+        return told(answer, place);
     }
     told_field(
         report_lines::tested(names, members, marks, proteins, tag),

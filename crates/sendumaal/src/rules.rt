@@ -6,8 +6,8 @@ ghost use Rattle.records.specs.Outcome.{outcome};
 ghost use Rattle.sendumaal_calls.specs.Calls.{set_of, parse_call, write_call, test_call, read_call, record_call};
 
 use letters::LetterSet;
-use modification::{Read, Rule};
-use sendumaal_calls::{counted, is_rule, told};
+use records::Refusal;
+use sendumaal_calls::{counted, refused, rule_numbered, told};
 
 pub fn sendumaal_rule_parse(
     text: &[u8],
@@ -18,20 +18,12 @@ pub fn sendumaal_rule_parse(
 ) -> u32
     ensures { outcome result ((place.new ∷ []) ∷ (kind.new ∷ []) ∷ (letter.new ∷ []) ∷ []) ≡ parse_call (parsed text.now (set_of alphabet)) kind.old letter.old }
 {
-    let set = LetterSet { mask: alphabet };
-    let answer = modification::parse(text, set);
-    match answer {
-        Ok(s) => {
-            *kind = s.kind() as u32;
-            *letter = s.letter() as u32;
-            *place = 0;
-            0
-        }
-        Err(why) => {
-            *place = why.place();
-            why.number()
-        }
+    let answer = modification::parse(text, LetterSet { mask: alphabet });
+    if let Ok(on) = answer {
+        *kind = u32::from(on.kind());
+        *letter = u32::from(on.letter());
     }
+    told(answer, place)
 }
 
 pub fn sendumaal_variable_rules_test(rules: &[u8], place: &mut usize) -> u32
@@ -55,13 +47,10 @@ pub fn sendumaal_rule_write(
 ) -> u32
     ensures { outcome result ((place.new ∷ []) ∷ (count.new ∷ []) ∷ out.new ∷ []) ≡ write_call kind letter out.old count.old }
 {
-    if is_rule(kind, letter, 0) {
-        let on = modification::specificity_of(kind as u8, letter as u8);
-        let answer = modification::write(on, out);
-        return counted(answer, count, place);
+    match rule_numbered(kind, letter, 0, 0) {
+        Some(rule) => counted(modification::write(rule.on, out), count, place),
+        None => refused(Refusal::Field(0), place),
     }
-    *place = 0;
-    9
 }
 
 pub fn sendumaal_rule_read(
@@ -76,21 +65,13 @@ pub fn sendumaal_rule_read(
     ensures { outcome result ((place.new ∷ []) ∷ (kind.new ∷ []) ∷ (letter.new ∷ []) ∷ (id.new ∷ []) ∷ (limit.new ∷ []) ∷ []) ≡ read_call (read_rule rules.now index) kind.old letter.old id.old limit.old }
 {
     let answer = modification::read_rule(rules, index);
-    match answer {
-        Read::Rule(rule) => {
-            let on = rule.on;
-            *kind = on.kind() as u32;
-            *letter = on.letter() as u32;
-            *id = rule.id as u32;
-            *limit = rule.limit;
-            *place = 0;
-            0
-        }
-        Read::Refused(why) => {
-            *place = why.place();
-            why.number()
-        }
+    if let Ok(rule) = answer {
+        *kind = u32::from(rule.on.kind());
+        *letter = u32::from(rule.on.letter());
+        *id = u32::from(rule.id);
+        *limit = rule.limit;
     }
+    told(answer, place)
 }
 
 pub fn sendumaal_rule_record(
@@ -103,16 +84,8 @@ pub fn sendumaal_rule_record(
 ) -> u32
     ensures { outcome result ((place.new ∷ []) ∷ out.new ∷ []) ≡ record_call kind letter id limit out.old }
 {
-    if is_rule(kind, letter, id) {
-        let on = modification::specificity_of(kind as u8, letter as u8);
-        let rule = Rule {
-            on,
-            id: id as u8,
-            limit,
-        };
-        let answer = modification::write_rule(rule, out);
-        return told(answer, place);
+    match rule_numbered(kind, letter, id, limit) {
+        Some(rule) => told(modification::write_rule(rule, out), place),
+        None => refused(Refusal::Field(0), place),
     }
-    *place = 0;
-    9
 }

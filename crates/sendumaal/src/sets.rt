@@ -8,14 +8,11 @@ use letters::LetterSet;
 pub fn sendumaal_set_insert(set: u32, letter: u8) -> u32
     ensures { result ≡ (inserted (set_of set) letter).mask }
 {
-    let s = LetterSet { mask: set };
-    let t = s.insert(letter);
-    t.mask
+    LetterSet { mask: set }.insert(letter).mask
 }
 
 pub fn sendumaal_set_contains(set: u32, letter: u8) -> u32
     ensures { result ≡ cond (has (set_of set) letter) 1 0 }
 {
-    let s = LetterSet { mask: set };
-    if s.contains(letter) { 1 } else { 0 }
+    u32::from(LetterSet { mask: set }.contains(letter))
 }

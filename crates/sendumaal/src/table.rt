@@ -4,6 +4,7 @@ ghost use Rattle.modification_table.specs.Tables.{insert_outcome};
 ghost use Rattle.records.specs.Outcome.{outcome};
 ghost use Rattle.sendumaal_calls.specs.Calls.{insert_call};
 
+use sendumaal_calls::counted;
 
 pub fn sendumaal_modification_id(
     table: &mut [u8],
@@ -15,16 +16,5 @@ pub fn sendumaal_modification_id(
 ) -> u32
     ensures { outcome result ((place.new ∷ []) ∷ (id.new ∷ []) ∷ table.new ∷ []) ≡ insert_call (insert_outcome table.old count mass name) id.old }
 {
-    let answer = modification::insert(table, count, mass, name);
-    match answer {
-        Ok(n) => {
-            *id = n;
-            *place = 0;
-            0
-        }
-        Err(why) => {
-            *place = why.place();
-            why.number()
-        }
-    }
+    counted(modification::insert(table, count, mass, name), id, place)
 }

@@ -1,7 +1,0 @@
--- `sendumaal_letters_test` meets its contract. Assumes nothing.
-use mathlib.Core.Path.{ap, ◌∙◌}
-use Rattle.sendumaal_calls.specs.Calls.{test_call}
-use Rattle.sendumaal.proofs.names.sendumaal_letters_test.Goals as goal
-
-pub returns : goal.returns
-returns c = c.told.ensures ∙ ap test_call c.letters_tested.ensures
