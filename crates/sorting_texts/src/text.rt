@@ -4,7 +4,8 @@ ghost use Rattle.std.proofs.Math.Seq.{slice};
 ghost use Rattle.sorting_spec.specs.Joined.{name_of};
 ghost use Rattle.sorting_texts.specs.Text.{list_among};
 
-// What numbers are sorted by: each stands for a list of numbers, its text.
+// What numbers are sorted by: each stands for a list of numbers, its text. An enum and no closure: the orders are data that travel with the
+// table, and theorems speak of `text_by by`.
 #[derive(Clone, Copy)]
 pub enum By {
     // itself
