@@ -50,7 +50,7 @@ fn count_up(w: &mut [u32], n: u32)
     }
 }
 
-// The first of n names that repeats, or n. The first 2n numbers of w are zero at the end.
+// The first of n names that repeats, or n, as `first_repeat` of the specs is. The first 2n numbers of w are zero at the end.
 fn repeat_among(names: &[u8], w: &mut [u32], n: u32) -> u32
     requires { n + n ≤ length w.old }
     ensures { (result ≡ first_repeat (name_of names.now) n) × (w.new ≡ replicate (n + n) 0 ++ drop (n + n) w.old) }
