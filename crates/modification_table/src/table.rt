@@ -8,6 +8,13 @@ ghost use Rattle.modification_table.specs.Tables.{same_mass, first_equal, tested
 
 use records::Refusal;
 
+// What a record says.
+#[derive(Clone, Copy)]
+struct Entry {
+    mass: u32,
+    name: u32,
+}
+
 // A bit pattern of a not-a-number.
 fn is_nan(a: u32) -> bool
     ensures { result ≡ nan_bits binary32 a }
@@ -29,13 +36,15 @@ fn same_mass(a: u32, b: u32) -> bool
 }
 
 // The index of the first of count records that has the mass and the name, or count.
-fn first_equal(table: &[u8], mass: u32, name: u32, count: usize) -> usize
+fn first_equal(table: &[u8], entry: Entry, count: usize) -> usize
     requires { count ≤ 255 }
-    ensures { result ≡ first_equal table.now mass name count }
+    ensures { result ≡ first_equal table.now entry.mass entry.name count }
 {
     for i in 0..count {
         let at = i * 8;
-        if same_mass(records::u32_at(table, at), mass) & (records::u32_at(table, at + 4) == name) {
+        if same_mass(records::u32_at(table, at), entry.mass)
+            & (records::u32_at(table, at + 4) == entry.name)
+        {
             return i;
         }
     }
@@ -58,21 +67,21 @@ fn test_table(table: &[u8], count: u32) -> Result<(), Refusal>
 }
 
 // Stores a record.
-fn put_entry(table: &mut [u8], at: usize, mass: u32, name: u32)
+fn put_entry(table: &mut [u8], at: usize, entry: Entry)
     requires { at ≤ 2040 }
-    ensures { table.new ≡ sets table.old at (entry_bytes mass name) }
+    ensures { table.new ≡ sets table.old at (entry_bytes entry.mass entry.name) }
 {
-    records::put_u32(table, at, mass);
-    records::put_u32(table, at + 4, name);
+    records::put_u32(table, at, entry.mass);
+    records::put_u32(table, at + 4, entry.name);
 }
 
 // The id of the first equal record, or of a new one.
-fn enter(table: &mut [u8], count: u32, mass: u32, name: u32) -> Result<u32, Refusal>
+fn enter(table: &mut [u8], count: u32, entry: Entry) -> Result<u32, Refusal>
     requires { count ≤ 255 }
-    ensures { outcome result (table.new ∷ []) ≡ entered_outcome table.old count mass name }
+    ensures { outcome result (table.new ∷ []) ≡ entered_outcome table.old count entry.mass entry.name }
 {
     let n = count as usize;
-    let at = first_equal(table, mass, name, n);
+    let at = first_equal(table, entry, n);
     if at < n {
         let id = at as u32;
         return Ok(id + 1);
@@ -83,7 +92,7 @@ fn enter(table: &mut [u8], count: u32, mass: u32, name: u32) -> Result<u32, Refu
     if table.len() / 8 <= n {
         return Err(Refusal::Room);
     }
-    put_entry(table, n * 8, mass, name);
+    put_entry(table, n * 8, entry);
     Ok(count + 1)
 }
 
@@ -92,5 +101,5 @@ pub fn insert(table: &mut [u8], count: u32, mass: u32, name: u32) -> Result<u32,
     ensures { outcome result (table.new ∷ []) ≡ insert_outcome table.old count mass name }
 {
     test_table(table, count)?;
-    enter(table, count, mass, name)
+    enter(table, count, Entry { mass, name })
 }

@@ -14,7 +14,7 @@ loop-i-init c = seeking_all
 
 -- what was tested is whether record i is equal
 tested : (c : After-u32_at-in-loop-i) → let a = c.args in
-    equal_entry a.table.now a.mass a.name c.loop-i.i ≡ (c.same_mass.result && eqb c.u32_at-in-loop-i.result a.name)
+    equal_entry a.table.now a.entry.mass a.entry.name c.loop-i.i ≡ (c.same_mass.result && eqb c.u32_at-in-loop-i.result a.entry.name)
 tested c = rw (c.same_mass.ensures, c.u32_at.ensures, c.u32_at-in-loop-i.ensures)
 
 pub returns-then-same_mass-u32_at : goal.returns-then-same_mass-u32_at
