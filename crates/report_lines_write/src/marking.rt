@@ -5,6 +5,7 @@ ghost use Rattle.report_lines_write.specs.MarkLaws.{marked, LastsMarked};
 
 // Marks the last entry of stretch g, whose boundaries stand among those from b on, and puts where it begins behind the others from
 // c on; an empty one is passed over.
+// (count is how many stand from c on, in the one slice that was lent.)
 fn mark_one(w: &mut [u32], c: usize, b: usize, g: usize, count: usize) -> usize
     requires { (b + (g + 1) < length w.old) × (bound_in w.old b (g + 1) ≤ c) × (c + count < length w.old) × (bound_in w.old b g < bound_in w.old b (g + 1) → get_or w.old (bound_in w.old b (g + 1) - 1) 0 < 4294967295) }
     ensures { (result ≡ cond (some_in w.old b g) (count + 1) count) × (w.new ≡ marked c b g count w.old) }
