@@ -99,6 +99,7 @@ fn line_of(asked: &Asked, out: &mut [u8]) -> Result<Report, Refusal>
 
 // Writes the names of the marked groups that hold a protein of the list with the peptide's decoy flag, as document 01 has them,
 // where there is room, and answers how many bytes they are and how many groups, whatever the names contain (document 02, [3]).
+// (Eight parameters, as C's call has them.)
 pub fn report_line(
     names: &[u8],
     members: &[u8],
