@@ -3,4 +3,4 @@
 
 mod tests;
 
-pub use tests::tested;
+pub use tests::Asked;
