@@ -1,8 +1,9 @@
 // A text's story, step by step: what one step makes is lent to the next.
 ghost use Rattle.std.specs.Prelude.{◌≡◌, length};
 
-use protein_groups::{Sizes};
-use report_rows_read::Sought;
+use protein_groups::Sizes;
+use report_rows_print::Groups;
+use report_rows_read::{has_bad_peptide, has_long_name};
 use std::io;
 use text_lines::{line_end, narrow, up_to};
 
@@ -65,7 +66,13 @@ fn cover_groups(
         Err(why) => report_rows_print::refusal(rt, why),
         Ok(count) => {
             let n = up_to(count as usize, &marks);
-            report_rows_print::report(rt, tag, s, pairs, names, members, &marks[..n])
+            let groups = Groups {
+                tag,
+                names,
+                members,
+                marks: &marks[..n],
+            };
+            report_rows_print::report(rt, s, pairs, &groups)
         }
     }
 }
@@ -175,13 +182,19 @@ pub(crate) fn tell(rt: &impl Print, text: &[u8]) -> io::Result<()> {
     if report_rows_print::refuses(
         rt,
         s,
-        Sought::BadPeptide,
+        |line, _| has_bad_peptide(line),
         2,
         "a peptide that is not letters",
     )? {
         return Ok(());
     }
-    if report_rows_print::refuses(rt, s, Sought::LongName, 12, "a name of more than 64 bytes")? {
+    if report_rows_print::refuses(
+        rt,
+        s,
+        |line, _| has_long_name(line),
+        12,
+        "a name of more than 64 bytes",
+    )? {
         return Ok(());
     }
     tell_rows(rt, tag, s)

@@ -4,5 +4,5 @@
 mod reports;
 mod saying;
 
-pub use reports::report;
+pub use reports::{Groups, report};
 pub use saying::{refusal, refused_flag, refused_name, refuses, too_large};

@@ -2,8 +2,8 @@
 ghost use Rattle.std.specs.Prelude.{◌≡◌, ◌≤◌, length};
 
 use crate::saying;
-use records::{byte_at, u32_at};
-use report_lines::{report_line};
+use records::{Refusal, byte_at, u32_at};
+use report_lines::{Report, report_line};
 use report_rows_read::{flag_of, list_of, name_count};
 use std::io;
 use text_lines::{line_end, narrow};
@@ -22,9 +22,30 @@ fn list_buffer() -> [u32; 16384]
     [0; 16384]
 }
 
-// `-` says that decoys are not generated.
-fn is_generated(tag: &[u8]) -> bool {
-    (tag.len() != 1) | (byte_at(tag, 0) != b'-')
+// What report lines are made from.
+#[derive(Clone, Copy)]
+pub struct Groups<'a> {
+    pub tag: &'a [u8],
+    pub names: &'a [u8],
+    pub members: &'a [u8],
+    pub marks: &'a [u8],
+}
+
+impl<'a> Groups<'a> {
+    // The line of the proteins in a list: the tag `-` says that decoys are not generated.
+    fn line(&self, list: &[u32], decoy: bool, out: &mut [u8]) -> Result<Report, Refusal> {
+        let generated = self.tag.len() != 1 || byte_at(self.tag, 0) != b'-';
+        report_line(
+            self.names,
+            self.members,
+            self.marks,
+            list,
+            decoy,
+            self.tag,
+            generated,
+            out,
+        )
+    }
 }
 
 // The group of member i.
@@ -34,62 +55,32 @@ fn group_of(members: &[u8], i: u32) -> u32 {
 
 // Whether member i is the first of its group.
 fn is_first(members: &[u8], i: u32) -> bool {
-    if i == 0 {
-        return true;
-    }
-    group_of(members, i - 1) != group_of(members, i)
+    i == 0 || group_of(members, i - 1) != group_of(members, i)
 }
 
 // Prints the group of member i.
-fn print_group(
-    rt: &impl Print,
-    names: &[u8],
-    members: &[u8],
-    marks: &[u8],
-    tag: &[u8],
-    i: u32,
-    out: &mut [u8],
-) -> io::Result<()> {
+fn print_group(rt: &impl Print, groups: &Groups, i: u32, out: &mut [u8]) -> io::Result<()> {
     let at = 12 * i as usize;
-    let list = [u32_at(members, at + 4)];
-    let decoy = byte_at(members, at + 8) == 1;
-    let generated = is_generated(tag);
-    match report_line(names, members, marks, &list, decoy, tag, generated, out) {
+    let list = [u32_at(groups.members, at + 4)];
+    let decoy = byte_at(groups.members, at + 8) == 1;
+    match groups.line(&list, decoy, out) {
         Err(why) => saying::refusal(rt, why),
-        Ok(report) => saying::group(rt, group_of(members, i), report, out),
+        Ok(report) => saying::group(rt, group_of(groups.members, i), report, out),
     }
 }
 
 // Prints the marked group that begins with member i.
-fn print_first(
-    rt: &impl Print,
-    names: &[u8],
-    members: &[u8],
-    marks: &[u8],
-    tag: &[u8],
-    i: u32,
-    out: &mut [u8],
-) -> io::Result<()> {
-    let mark = byte_at(marks, group_of(members, i) as usize);
-    if is_first(members, i) & (mark == 1) {
-        return print_group(rt, names, members, marks, tag, i, out);
+fn print_first(rt: &impl Print, groups: &Groups, i: u32, out: &mut [u8]) -> io::Result<()> {
+    let mark = byte_at(groups.marks, group_of(groups.members, i) as usize);
+    if is_first(groups.members, i) && mark == 1 {
+        return print_group(rt, groups, i, out);
     }
     Ok(())
 }
 
-fn print_groups(
-    rt: &impl Print,
-    names: &[u8],
-    members: &[u8],
-    marks: &[u8],
-    tag: &[u8],
-    out: &mut [u8],
-) -> io::Result<()> {
-    let count = narrow(members.len() / 12);
-    let mut i: u32 = 0;
-    while i < count {
-        print_first(rt, names, members, marks, tag, i, out)?;
-        i += 1;
+fn print_groups(rt: &impl Print, groups: &Groups, out: &mut [u8]) -> io::Result<()> {
+    for i in 0..narrow(groups.members.len() / 12) {
+        print_first(rt, groups, i, out)?;
     }
     Ok(())
 }
@@ -98,18 +89,13 @@ fn print_row(
     rt: &impl Print,
     line: &[u8],
     list: &[u32],
-    names: &[u8],
-    members: &[u8],
-    marks: &[u8],
-    tag: &[u8],
+    groups: &Groups,
     out: &mut [u8],
 ) -> io::Result<()> {
-    if line.len() == 0 {
+    if line.is_empty() {
         return Ok(());
     }
-    let decoy = flag_of(line) == 1;
-    let generated = is_generated(tag);
-    match report_line(names, members, marks, list, decoy, tag, generated, out) {
+    match groups.line(list, flag_of(line) == 1, out) {
         Err(why) => saying::refusal(rt, why),
         Ok(report) => saying::row(rt, line, report, out),
     }
@@ -120,39 +106,23 @@ fn names_end(list: &[u32], first: usize, count: u32) -> usize
     requires { first ≤ length list.now }
     ensures { (first ≤ result) × (result ≤ length list.now) }
 {
-    let n = count as usize;
-    if n < list.len() - first {
-        first + n
-    } else {
-        list.len()
-    }
+    list.len().min(first + count as usize)
 }
 
 fn print_rows(
     rt: &impl Print,
     s: &[u8],
     list: &[u32],
-    names: &[u8],
-    members: &[u8],
-    marks: &[u8],
-    tag: &[u8],
+    groups: &Groups,
     out: &mut [u8],
 ) -> io::Result<()> {
     let mut first = 0;
     let mut at = 0;
+    // A while: each turn goes behind the line's end.
     while at < s.len() {
         let end = line_end(s, at);
         let next = names_end(list, first, name_count(&s[at..end]));
-        print_row(
-            rt,
-            &s[at..end],
-            &list[first..next],
-            names,
-            members,
-            marks,
-            tag,
-            out,
-        )?;
+        print_row(rt, &s[at..end], &list[first..next], groups, out)?;
         first = next;
         at = end + 1;
     }
@@ -162,37 +132,22 @@ fn print_rows(
 // Prints all lines.
 fn print_all(
     rt: &impl Print,
-    tag: &[u8],
     s: &[u8],
     pairs: &[u8],
-    names: &[u8],
-    members: &[u8],
-    marks: &[u8],
+    groups: &Groups,
     out: &mut [u8],
 ) -> io::Result<()> {
     let mut list = list_buffer();
     let n = list_of(pairs, &mut list);
-    print_groups(rt, names, members, marks, tag, out)?;
-    print_rows(rt, s, &list[..n], names, members, marks, tag, out)
+    print_groups(rt, groups, out)?;
+    print_rows(rt, s, &list[..n], groups, out)
 }
 
 // The line of no protein tells whether the library takes the tag, before anything is printed.
-pub fn report(
-    rt: &impl Print,
-    tag: &[u8],
-    s: &[u8],
-    pairs: &[u8],
-    names: &[u8],
-    members: &[u8],
-    marks: &[u8],
-) -> io::Result<()> {
+pub fn report(rt: &impl Print, s: &[u8], pairs: &[u8], groups: &Groups) -> io::Result<()> {
     let mut out = line_buffer();
-    let none = [0u32; 0];
-    let generated = is_generated(tag);
-    match report_line(
-        names, members, marks, &none, false, tag, generated, &mut out,
-    ) {
-        Err(why) => saying::refused_tag(rt, tag, why),
-        Ok(_) => print_all(rt, tag, s, pairs, names, members, marks, &mut out),
+    match groups.line(&[], false, &mut out) {
+        Err(why) => saying::refused_tag(rt, groups.tag, why),
+        Ok(_) => print_all(rt, s, pairs, groups, &mut out),
     }
 }

@@ -1,16 +1,14 @@
 // What is said.
 use records::Refusal;
 use report_lines::Report;
-use report_rows_read::{Row, Sought, column_at, find};
+use report_rows_read::{Row, column_at, find};
 use std::io;
 use text_lines::{column_end, narrow};
 
 // A part of a text, where the text has it.
 fn part(rt: &impl Print, s: &[u8], from: usize, to: usize) -> io::Result<()> {
-    if to <= s.len() {
-        if from <= to {
-            return rt.write_all(&s[from..to]);
-        }
+    if from <= to && to <= s.len() {
+        return rt.write_all(&s[from..to]);
     }
     Ok(())
 }
@@ -34,14 +32,10 @@ pub fn refusal(rt: &impl Print, why: Refusal) -> io::Result<()> {
     println!(rt)
 }
 
-// The peptide of a row that was found.
+// The peptide of a row.
 fn peptide_of(rt: &impl Print, s: &[u8], row: Row) -> io::Result<()> {
-    let from = row.from;
-    let to = row.to;
-    if to <= s.len() {
-        if from <= to {
-            return peptide(rt, &s[from..to]);
-        }
+    if row.from <= row.to && row.to <= s.len() {
+        return peptide(rt, &s[row.from..row.to]);
     }
     Ok(())
 }
@@ -54,27 +48,29 @@ fn refused_row(rt: &impl Print, s: &[u8], row: Row, why: u32, what: &str) -> io:
 }
 
 // Says no where a row is found: whether one is.
-pub fn refuses(
+pub fn refuses<F: Fn(&[u8], u32) -> bool>(
     rt: &impl Print,
     s: &[u8],
-    sought: Sought,
+    is_sought: F,
     why: u32,
     what: &str,
-) -> io::Result<bool> {
-    let row = find(s, sought);
-    if row.found {
+) -> io::Result<bool>
+    requires { F.IsAlwaysCallable is_sought }
+{
+    let found = find(s, is_sought);
+    if let Some(row) = found {
         refused_row(rt, s, row, why, what)?;
     }
-    Ok(row.found)
+    Ok(found.is_some())
 }
 
 // What the library says to pairs and flags: the pairs are in order, so a field is a flag.
 pub fn refused_flag(rt: &impl Print, s: &[u8], why: Refusal) -> io::Result<()> {
     match why {
-        Refusal::Field(place) => {
-            let row = find(s, Sought::Number(narrow(place)));
-            refused_row(rt, s, row, 9, "a decoy flag that is not 0 or 1")
-        }
+        Refusal::Field(place) => match find(s, |_, number| number == narrow(place)) {
+            Some(row) => refused_row(rt, s, row, 9, "a decoy flag that is not 0 or 1"),
+            None => refusal(rt, why),
+        },
         _ => refusal(rt, why),
     }
 }

@@ -5,4 +5,6 @@ mod names;
 mod rows;
 
 pub use names::{Column, column_at, list_of, number_names, put_names};
-pub use rows::{Row, Sought, find, flag_of, name_count, read_columns, read_flags};
+pub use rows::{
+    Row, find, flag_of, has_bad_peptide, has_long_name, name_count, read_columns, read_flags,
+};

@@ -12,13 +12,9 @@ pub struct Column {
     pub row: u32,
 }
 
-fn sum(a: u32, b: u32) -> u32 {
-    narrow(a as usize + b as usize)
-}
-
 // The column that begins at a place of a line, which begins at a place of the text.
 pub(crate) fn column_of(line: usize, at: usize, length: usize, row: u32) -> Column {
-    let from = sum(narrow(line), narrow(at));
+    let from = narrow(line).saturating_add(narrow(at));
     let length = narrow(length);
     Column { from, length, row }
 }
@@ -47,35 +43,12 @@ fn letter(s: &[u8], column: Column, i: u32) -> u8 {
 
 // Whether two columns have the same bytes.
 fn is_same(s: &[u8], a: Column, b: Column) -> bool {
-    let n = a.length;
-    let mut same = n == b.length;
-    let mut i: u32 = 0;
-    while i < n {
-        same = same & (letter(s, a, i) == letter(s, b, i));
-        i += 1;
-    }
-    same
+    a.length == b.length && (0..a.length).all(|i| letter(s, a, i) == letter(s, b, i))
 }
 
-// The number of a name among k known ones, or k.
-fn number_of(s: &[u8], known: &[u8], k: u32, name: Column) -> u32 {
-    let mut j: u32 = 0;
-    while j < k {
-        if is_same(s, column_at(known, j), name) {
-            return j;
-        }
-        j += 1;
-    }
-    j
-}
-
-// Keeps a name that has the number k, which is new: how many there are then.
-fn keep(known: &mut [u8], k: u32, number: u32, name: Column) -> u32 {
-    if number < k {
-        return k;
-    }
-    put_column(known, k, name);
-    more(k)
+// The number of a name among k known ones.
+fn number_of(s: &[u8], known: &[u8], k: u32, name: Column) -> Option<u32> {
+    (0..k).find(|j| is_same(s, column_at(known, *j), name))
 }
 
 // Stores pair i.
@@ -94,34 +67,30 @@ pub fn number_names(
     pairs: &mut [u8],
 ) -> u32 {
     let mut k: u32 = 0;
-    let mut i: u32 = 0;
-    while i < count {
+    for i in 0..count {
         let name = column_at(columns, i);
         let number = number_of(s, known, k, name);
-        put_pair(pairs, i, name.row, number);
-        k = keep(known, k, number, name);
-        i += 1;
+        put_pair(pairs, i, name.row, number.unwrap_or(k));
+        if number.is_none() {
+            put_column(known, k, name);
+            k = more(k);
+        }
     }
     k
 }
 
 // Stores a name at the front of its 64 bytes.
 fn put_name(s: &[u8], name: Column, j: u32, names: &mut [u8]) {
-    let n = name.length;
     let at = 64 * j as usize;
-    let mut i: u32 = 0;
-    while i < n {
+    for i in 0..name.length {
         put_byte(names, at + i as usize, letter(s, name, i));
-        i += 1;
     }
 }
 
 // The records of k names, none longer than 64 bytes, over zeros.
 pub fn put_names(s: &[u8], known: &[u8], k: u32, names: &mut [u8]) {
-    let mut j: u32 = 0;
-    while j < k {
+    for j in 0..k {
         put_name(s, column_at(known, j), j, names);
-        j += 1;
     }
 }
 
@@ -129,14 +98,9 @@ pub fn put_names(s: &[u8], known: &[u8], k: u32, names: &mut [u8]) {
 pub fn list_of(pairs: &[u8], list: &mut [u32]) -> usize
     ensures { IsPrefixLen result list.new }
 {
-    let count = pairs.len() / 8;
-    let mut i: usize = 0;
-    while i < list.len() {
-        if count <= i {
-            return i;
-        }
+    let n = list.len().min(pairs.len() / 8);
+    for i in 0..n {
         list[i] = u32_at(pairs, 8 * i + 4);
-        i += 1;
     }
-    i
+    n
 }

@@ -5,27 +5,18 @@ use crate::names::{column_of, put_column};
 use records::{byte_at, put_byte};
 use text_lines::{column_end, line_end, more};
 
-// What a row is sought for.
-#[derive(Clone, Copy)]
-pub enum Sought {
-    BadPeptide,
-    LongName,
-    Number(u32),
-}
-
-// A row that was found: its number, and its part of the text.
+// A row: its number, and its part of the text.
 #[derive(Clone, Copy)]
 pub struct Row {
-    pub found: bool,
     pub number: u32,
     pub from: usize,
     pub to: usize,
 }
 
 // Whether a row's peptide is no letter or not only letters.
-fn has_bad_peptide(line: &[u8]) -> bool {
+pub fn has_bad_peptide(line: &[u8]) -> bool {
     let end = column_end(line, 0);
-    (end == 0) | (letters::first_bad(&line[0..end]) < end)
+    end == 0 || letters::first_bad(&line[0..end]) < end
 }
 
 // Where the column of a row's flag ends.
@@ -44,17 +35,19 @@ pub fn flag_of(line: &[u8]) -> u8 {
     let from = column_end(line, 0) + 1;
     let b = byte_at(line, from);
     let alone = flag_end(line) == from + 1;
-    if alone & (b == b'0') {
+    if alone && b == b'0' {
         return 0;
     }
-    if alone & (b == b'1') {
+    if alone && b == b'1' {
         return 1;
     }
     2
 }
 
-fn has_long_name(line: &[u8]) -> bool {
+// Whether a row has a name of more than 64 bytes.
+pub fn has_long_name(line: &[u8]) -> bool {
     let mut at = flag_end(line) + 1;
+    // A while: each turn goes behind the column's end.
     while at <= line.len() {
         let end = column_end(line, at);
         if 64 < end - at {
@@ -69,6 +62,7 @@ fn has_long_name(line: &[u8]) -> bool {
 pub fn name_count(line: &[u8]) -> u32 {
     let mut n: u32 = 0;
     let mut at = flag_end(line) + 1;
+    // A while: each turn goes behind the column's end.
     while at <= line.len() {
         n = more(n);
         at = column_end(line, at) + 1;
@@ -76,42 +70,31 @@ pub fn name_count(line: &[u8]) -> u32 {
     n
 }
 
-fn is_sought(line: &[u8], number: u32, sought: Sought) -> bool {
-    match sought {
-        Sought::BadPeptide => has_bad_peptide(line),
-        Sought::LongName => has_long_name(line),
-        Sought::Number(n) => n == number,
-    }
-}
-
 // One more behind a line that is a row.
 fn counted(number: u32, is_row: bool) -> u32 {
     if is_row { more(number) } else { number }
 }
 
-// The first row that is sought.
-pub fn find(s: &[u8], sought: Sought) -> Row {
+// The first row whose line and number are what is sought.
+pub fn find<F: Fn(&[u8], u32) -> bool>(s: &[u8], is_sought: F) -> Option<Row>
+    requires { F.IsAlwaysCallable is_sought }
+{
     let mut number: u32 = 0;
     let mut at = 0;
+    // A while: each turn goes behind the line's end.
     while at < s.len() {
         let end = line_end(s, at);
-        if (at < end) & is_sought(&s[at..end], number, sought) {
-            return Row {
-                found: true,
+        if at < end && is_sought(&s[at..end], number) {
+            return Some(Row {
                 number,
                 from: at,
                 to: end,
-            };
+            });
         }
         number = counted(number, at < end);
         at = end + 1;
     }
-    Row {
-        found: false,
-        number,
-        from: 0,
-        to: 0,
-    }
+    None
 }
 
 // Stores the flag of a row.
@@ -123,6 +106,7 @@ fn put_flag(flags: &mut [u8], number: u32, line: &[u8]) {
 pub fn read_flags(s: &[u8], flags: &mut [u8]) -> u32 {
     let mut number: u32 = 0;
     let mut at = 0;
+    // A while: each turn goes behind the line's end.
     while at < s.len() {
         let end = line_end(s, at);
         put_flag(flags, number, &s[at..end]);
@@ -136,6 +120,7 @@ pub fn read_flags(s: &[u8], flags: &mut [u8]) -> u32 {
 fn read_names(line: &[u8], from: usize, row: u32, columns: &mut [u8], n: u32) -> u32 {
     let mut count = n;
     let mut at = flag_end(line) + 1;
+    // A while: each turn goes behind the column's end.
     while at <= line.len() {
         let end = column_end(line, at);
         put_column(columns, count, column_of(from, at, end - at, row));
@@ -150,6 +135,7 @@ pub fn read_columns(s: &[u8], columns: &mut [u8]) -> u32 {
     let mut count: u32 = 0;
     let mut number: u32 = 0;
     let mut at = 0;
+    // A while: each turn goes behind the line's end.
     while at < s.len() {
         let end = line_end(s, at);
         count = read_names(&s[at..end], at, number, columns, count);
