@@ -6,8 +6,8 @@ ghost use Rattle.protein_groups_spec.specs.ProteinGroups.{pairs_in, grouping};
 ghost use Rattle.protein_groups.specs.ProteinGrouping.{proteins_grouped, protein_groups_outcome};
 
 use crate::arranging::{Stands, hand_out, set_up};
-use protein_groups_tables::{group_in, keys_at};
-use protein_groups_tests::tested;
+use protein_groups_tables::{Made, group_in, keys_at};
+use protein_groups_tests::Asked;
 use records::{Refusal, clear, room_for};
 
 // How many groups, meta-peptides, edges and members there are.
@@ -20,27 +20,18 @@ pub struct Sizes {
 }
 
 // The sizes, or that a list has no room for all.
-fn answer(
-    groups: u32,
-    metas: u32,
-    e: usize,
-    m: usize,
-    edges: usize,
-    members: usize,
-) -> Result<Sizes, Refusal>
-    requires { (e ≤ 1048576) × (m ≤ 131072) }
-    ensures { result ≡ cond (leb e (min (edges / 8) 1048576) && leb m (min (members / 12) 131072)) (Ok (record { groups = groups; metas = metas; edges = e; members = m })) (Err Refusal.Room) }
+fn answer(made: Made, edges: usize, members: usize) -> Result<Sizes, Refusal>
+    requires { (made.edges ≤ 1048576) × (made.members ≤ 131072) }
+    ensures { result ≡ cond (leb made.edges (min (edges / 8) 1048576) && leb made.members (min (members / 12) 131072)) (Ok (record { groups = made.groups; metas = made.metas; edges = made.edges; members = made.members })) (Err Refusal.Room) }
 {
     let most = room_for(edges, 8, 1048576);
     let last = room_for(members, 12, 131072);
-    if (e <= most) & (m <= last) {
-        let edges = e as u32;
-        let members = m as u32;
+    if (made.edges <= most) & (made.members <= last) {
         Ok(Sizes {
-            groups,
-            metas,
-            edges,
-            members,
+            groups: made.groups,
+            metas: made.metas,
+            edges: made.edges as u32,
+            members: made.members as u32,
         })
     } else {
         Err(Refusal::Room)
@@ -49,25 +40,22 @@ fn answer(
 
 // Groups at least one pair, all in order.
 fn group_some(
-    pairs: &[u8],
-    flags: &[u8],
-    peptides: u32,
-    proteins: u32,
+    asked: &Asked,
     work: &mut [u32],
     edges: &mut [u8],
     members: &mut [u8],
 ) -> Result<Sizes, Refusal>
-    requires { PairsReady pairs.now flags.now peptides proteins (length work.old) × (8 ≤ length pairs.now) }
-    ensures { outcome result (work.new ∷ edges.new ∷ members.new ∷ []) ≡ proteins_grouped (grouping flags.now peptides (pairs_in pairs.now)) work.old edges.old members.old }
+    requires { PairsReady asked.now.pairs.now asked.now.flags.now asked.now.peptides asked.now.proteins (length work.old) × (8 ≤ length asked.now.pairs.now) }
+    ensures { outcome result (work.new ∷ edges.new ∷ members.new ∷ []) ≡ proteins_grouped (grouping asked.now.flags.now asked.now.peptides (pairs_in asked.now.pairs.now)) work.old edges.old members.old }
 {
-    let n = pairs.len() / 8;
-    let left = proteins as usize;
+    let n = asked.pairs.len() / 8;
+    let left = asked.proteins as usize;
     let k = 2 * left;
-    let a = keys_at(k, peptides, n);
+    let a = keys_at(k, asked.peptides, n);
     let free = edges.len();
     let open = members.len();
-    set_up(pairs, flags, work, a, n);
-    let made = group_in(work, k, peptides, n);
+    set_up(asked.pairs, asked.flags, work, a, n);
+    let made = group_in(work, k, asked.peptides, n);
     let stands = Stands {
         metas: a,
         groups: a + n,
@@ -77,30 +65,20 @@ fn group_some(
         members: made.members,
     };
     hand_out(work, stands, edges, members);
-    answer(
-        made.groups,
-        made.metas,
-        made.edges,
-        made.members,
-        free,
-        open,
-    )
+    answer(made, free, open)
 }
 
 // Groups pairs that are in order. Without one there is no group.
 fn group_passed(
-    pairs: &[u8],
-    flags: &[u8],
-    peptides: u32,
-    proteins: u32,
+    asked: &Asked,
     work: &mut [u32],
     edges: &mut [u8],
     members: &mut [u8],
 ) -> Result<Sizes, Refusal>
-    requires { PairsReady pairs.now flags.now peptides proteins (length work.old) }
-    ensures { outcome result (work.new ∷ edges.new ∷ members.new ∷ []) ≡ proteins_grouped (grouping flags.now peptides (pairs_in pairs.now)) work.old edges.old members.old }
+    requires { PairsReady asked.now.pairs.now asked.now.flags.now asked.now.peptides asked.now.proteins (length work.old) }
+    ensures { outcome result (work.new ∷ edges.new ∷ members.new ∷ []) ≡ proteins_grouped (grouping asked.now.flags.now asked.now.peptides (pairs_in asked.now.pairs.now)) work.old edges.old members.old }
 {
-    if pairs.len() < 8 {
+    if asked.pairs.len() < 8 {
         clear(work);
         return Ok(Sizes {
             groups: 0,
@@ -109,7 +87,7 @@ fn group_passed(
             members: 0,
         });
     }
-    group_some(pairs, flags, peptides, proteins, work, edges, members)
+    group_some(asked, work, edges, members)
 }
 
 // Writes the edges between groups and meta-peptides to edges, group by group, and a record for each protein of a group to members.
@@ -125,6 +103,12 @@ pub fn group_proteins(
 ) -> Result<Sizes, Refusal>
     ensures { outcome result (work.new ∷ edges.new ∷ members.new ∷ []) ≡ protein_groups_outcome pairs.now flags.now peptides proteins work.old edges.old members.old }
 {
-    tested(pairs, flags, peptides, proteins, work.len())?;
-    group_passed(pairs, flags, peptides, proteins, work, edges, members)
+    let asked = Asked {
+        pairs,
+        flags,
+        peptides,
+        proteins,
+    };
+    asked.tested(work.len())?;
+    group_passed(&asked, work, edges, members)
 }
