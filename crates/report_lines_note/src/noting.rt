@@ -17,13 +17,6 @@ pub fn note_list(list: &[u32], w: &mut [u32], c: usize)
     }
 }
 
-// A note, where there is a hit, else what stood there.
-fn noted(hit: bool, old: u32) -> u32
-    ensures { result ≡ cond hit 1 old }
-{
-    if hit { 1 } else { old }
-}
-
 // Notes the group of member i, where it applies by it.
 fn note_group(members: &[u8], i: usize, marks: &[u8], decoy: bool, w: &mut [u32], c: usize)
     requires { (i < 131072) × (c + number_at 4 members.now (12 * i) < length w.old) × (number_at 4 members.now (12 * i + 4) < length w.old) }
@@ -33,11 +26,13 @@ fn note_group(members: &[u8], i: usize, marks: &[u8], decoy: bool, w: &mut [u32]
     let g = u32_at(members, at) as usize;
     let p = u32_at(members, at + 4) as usize;
     let flag = u8::from(decoy);
-    let hit = (byte_at(members, at + 8) == flag) & (w[p] == 1) & (byte_at(marks, g) == 1);
-    w[c + g] = noted(hit, w[c + g]);
+    if (byte_at(members, at + 8) == flag) & (w[p] == 1) & (byte_at(marks, g) == 1) {
+        w[c + g] = 1;
+    }
 }
 
 // Notes each of m groups that applies, by n members, the proteins of the list being noted.
+// (n and m beside w: without a heap the notes of proteins and groups stand in the one slice that was lent.)
 pub fn note_groups(
     members: &[u8],
     n: usize,
