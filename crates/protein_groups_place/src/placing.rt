@@ -16,6 +16,7 @@ fn shown(protein: u32, flag: u8) -> u32
 }
 
 // Places pair i of n.
+// (n beside w: without a heap both rows stand in the one slice that was lent, and n is where the second begins.)
 fn place_pair(pairs: &[u8], flags: &[u8], w: &mut [u32], a: usize, n: usize, i: usize)
     requires { (i < n) × (n ≤ 1048576) × (a + n + n ≤ length w.old) × (number_at 4 pairs.now (8 * i + 4) < 65536) }
     ensures { w.new ≡ set (set w.old (a + i) (pair_at pairs.now i).peptide) (a + n + i) (packed_seen flags.now (pair_at pairs.now i)) }
@@ -30,6 +31,7 @@ fn place_pair(pairs: &[u8], flags: &[u8], w: &mut [u32], a: usize, n: usize, i: 
 }
 
 // Places n pairs: their peptides from w[a] on, and what they show from w[a + n] on.
+// (n for the same reason.)
 pub fn place_pairs(pairs: &[u8], flags: &[u8], w: &mut [u32], a: usize, n: usize)
     requires { (n ≤ 1048576) × (a + n + n ≤ length w.old) × ((i : ℕ) → i < n → number_at 4 pairs.now (8 * i + 4) < 65536) }
     ensures { PairsLaid pairs.now flags.now a n n w.old w.new }
