@@ -23,6 +23,7 @@ fn put_edge(group: u32, meta: u32, i: usize, room: usize, out: &mut [u8])
 }
 
 // Writes the n edges whose groups stand from w[b] on, and their meta-peptides from w[a] on.
+// (Places and a count, not slices: specs/ has the edges by where they stand in the work memory.)
 pub fn write_edges(w: &[u32], a: usize, b: usize, n: usize, out: &mut [u8])
     requires { (n ≤ 1048576) × (a + n ≤ length w.now) × (b + n ≤ length w.now) }
     ensures { out.new ≡ fitted 8 1048576 out.old (map edge_bytes (standing_edges w.now a b n)) }
@@ -57,6 +58,7 @@ fn shown_at(w: &[u32], o: usize, j: usize) -> u32
 }
 
 // Writes the n members whose groups stand from w[s] on, and the places in w of what shows them from w[o] on.
+// (So for the members.)
 pub fn write_members(w: &[u32], o: usize, s: usize, n: usize, out: &mut [u8])
     requires { (n ≤ 131072) × (o + n ≤ length w.now) × (s + n ≤ length w.now) }
     ensures { out.new ≡ fitted 12 131072 out.old (map member_bytes (standing_members w.now o s n)) }
