@@ -100,6 +100,7 @@ fn peptide_plan(k: usize, m: u32, n: usize) -> Plan
 }
 
 // Groups n pairs that stand where `keys_at` says, all else before them being zero.
+// (k, m and n beside w: without a heap all tables stand in the one slice that was lent.)
 pub fn group_in(w: &mut [u32], k: usize, m: u32, n: usize) -> Made
     requires { Placeable w.old k m n }
     ensures { GroupingFits w.new k n result.edges result.members × ((flags : List ℕ) (qs : List Pair) → slice (keys_at k m n) (keys_at k m n + n) w.old ≡ peptides_of qs → slice (values_at k m n) (values_at k m n + n) w.old ≡ map (packed_seen flags) qs → GroupingPlaced flags qs w.new k m n result.groups result.metas result.edges result.members) }
