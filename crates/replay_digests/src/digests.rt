@@ -14,22 +14,15 @@ fn set_at(line: &[u8], k: usize) -> LetterSet {
 }
 
 fn kind_of(line: &[u8]) -> Kind {
-    let n = decimal_at(line, 1);
-    if n == 0 {
-        return Kind::None;
+    match decimal_at(line, 1) {
+        0 => Kind::None,
+        1 => Kind::End,
+        _ => Kind::Set(set_at(line, 2)),
     }
-    if n == 1 {
-        return Kind::End;
-    }
-    let cleave = set_at(line, 2);
-    Kind::Set(cleave)
 }
 
 fn side_of(line: &[u8]) -> Side {
-    if is_set(line, 4) {
-        return Side::N;
-    }
-    Side::C
+    if is_set(line, 4) { Side::N } else { Side::C }
 }
 
 fn enzyme_of(line: &[u8]) -> Enzyme {
@@ -70,9 +63,9 @@ fn has_marks(line: &[u8], at: usize, out: &[u8], k: u32) -> bool {
     let semi = behind(line, at);
     let position = behind(line, semi);
     let times = behind(line, position);
-    (decimal(line, at) == byte_at(out, from + 8) as u32)
-        & (decimal(line, semi) == byte_at(out, from + 9) as u32)
-        & (decimal(line, position) == byte_at(out, from + 10) as u32)
+    (decimal(line, at) == u32::from(byte_at(out, from + 8)))
+        & (decimal(line, semi) == u32::from(byte_at(out, from + 9)))
+        & (decimal(line, position) == u32::from(byte_at(out, from + 10)))
         & (decimal(line, times) == u32_at(out, from + 16))
 }
 
@@ -80,12 +73,10 @@ fn has_marks(line: &[u8], at: usize, out: &[u8], k: u32) -> bool {
 fn are_digests(line: &[u8], out: &[u8], count: u32) -> bool {
     let mut same = decimal_at(line, 9) == count;
     let mut at = field(line, 10);
-    let mut k: u32 = 0;
-    while k < count {
+    for k in 0..count {
         let marks = behind(line, behind(line, at));
         same = same & has_range(line, at, out, k) & has_marks(line, marks, out, k);
         at = behind(line, behind(line, behind(line, behind(line, marks))));
-        k += 1;
     }
     same
 }

@@ -2,7 +2,7 @@
 // letters, the digest records in hexadecimal, the number of the Rust's groups, these as `reference.first.count`, divided by
 // `;`, where the reference is its number in the list of digests, and the numbers of their proteins. Buffers have room for one
 // record more than they hold, so that one too many is seen.
-use records::{u32_at};
+use records::u32_at;
 use sorting_texts::number_at;
 use text_fields::{
     Verdict, bytes_at, content, decimal_at, field, field_end, is_zero, names_at, numbers_at,
@@ -32,10 +32,8 @@ fn is_group(theirs: &[u32], digests: &[u8], groups: &[u8], k: u32) -> bool {
 // Whether the first count records are the Rust's groups.
 fn are_groups(theirs: &[u32], digests: &[u8], groups: &[u8], count: u32) -> bool {
     let mut same = theirs.len() == 3 * count as usize;
-    let mut k: u32 = 0;
-    while k < count {
+    for k in 0..count {
         same = same & is_group(theirs, digests, groups, k);
-        k += 1;
     }
     same
 }
