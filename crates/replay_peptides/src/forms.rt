@@ -16,19 +16,16 @@ fn read_form(line: &[u8], form: &mut [u8])
     put_byte(form, 1, small_at(line, 3));
 }
 
-// A line that is refused has no letters here, and the forms refuse it.
-fn peptide_of(line: &[u8]) -> Peptide {
+fn peptide_of(line: &[u8]) -> Result<Peptide, Refusal> {
     let mut form = [0u8; 66];
     read_form(line, &mut form);
-    let position = small_at(line, 4);
     let n = letter_count(line);
-    let made = Peptide::of_form(&line[0..n], &form, position, false);
-    made.peptide
+    Peptide::of_form(&line[0..n], &form, small_at(line, 4), false)
 }
 
 // The library's forms.
 fn answer_of(line: &[u8], out: &mut [u8]) -> Result<u32, Refusal> {
-    let p = peptide_of(line);
+    let p = peptide_of(line)?;
     let mut variable = [0u8; 128];
     let v = bytes_at(line, 5, &mut variable);
     let mut fixed = [0u8; 256];
@@ -43,7 +40,7 @@ fn size_of(line: &[u8]) -> usize
     ensures { result ≤ 66 }
 {
     let n = letter_count(line);
-    if n < 64 { n + 2 } else { 66 }
+    n.min(64) + 2
 }
 
 // Whether byte i of record k is that of the form at a place of a line.
@@ -61,10 +58,8 @@ fn has_form(line: &[u8], at: usize, out: &[u8], k: u32) -> bool
 {
     let size = size_of(line);
     let mut same = true;
-    let mut i = 0;
-    while i < size {
+    for i in 0..size {
         same = same & has_byte(line, at, out, k, i);
-        i += 1;
     }
     same
 }
@@ -73,11 +68,9 @@ fn has_form(line: &[u8], at: usize, out: &[u8], k: u32) -> bool
 fn are_forms(line: &[u8], out: &[u8], count: u32) -> bool {
     let mut same = decimal_at(line, 9) == count;
     let mut at = field(line, 10);
-    let mut k: u32 = 0;
-    while k < count {
+    for k in 0..count {
         same = same & has_form(line, at, out, k);
         at = behind(line, at);
-        k += 1;
     }
     same
 }

@@ -1,9 +1,10 @@
 // Rule texts. A line is the text in hexadecimal or `-` for an empty one, then the number, the place, the kind and the letter
 // that the Rust's answer comes to.
 use letters::LetterSet;
+use modification::Specificity;
+use records::Refusal;
 use text_fields::{Verdict, bytes_at, decimal_at};
 use text_lines::narrow;
-use records::Refusal;
 
 // The letters that the Rust takes: all but B, J, X and Z.
 const ALPHABET: LetterSet = LetterSet { mask: 0x017f_fdfd };
@@ -21,8 +22,8 @@ fn answer_of(parsed: Result<Specificity, Refusal>) -> Answer {
         Ok(s) => Answer {
             number: 0,
             place: 0,
-            kind: s.kind() as u32,
-            letter: s.letter() as u32,
+            kind: u32::from(s.kind()),
+            letter: u32::from(s.letter()),
         },
         Err(why) => Answer {
             number: why.number(),

@@ -1,25 +1,17 @@
 // Tables of modifications. A line `N` begins an empty table; `I mass name id` is an insertion: the mass's bits and the name's
 // number in hexadecimal, and the id that the Rust gave, or 0 where it refused a 256th.
-use records::{Refusal, byte_at, put_u32, u32_at};
+use records::{byte_at, put_u32, u32_at};
 use text_fields::{Verdict, decimal_at, hex_at};
 
 // The table stands at the front of the memory, the number of its entries behind the 2,040 bytes that it takes at most.
 const COUNT_AT: usize = 2040;
 
-// The id that the library gives, or 0.
-fn id_of(entered: Result<u32, Refusal>) -> u32 {
-    match entered {
-        Ok(id) => id,
-        Err(_) => 0,
-    }
-}
-
-// Inserts what a line says.
+// Inserts what a line says: the id that the library gives, or 0.
 fn inserted(line: &[u8], memory: &mut [u8]) -> u32 {
     let count = u32_at(memory, COUNT_AT);
     let mass = hex_at(line, 1);
     let name = hex_at(line, 2);
-    let id = id_of(modification::insert(memory, count, mass, name));
+    let id = modification::insert(memory, count, mass, name).unwrap_or(0);
     if count < id {
         put_u32(memory, COUNT_AT, id);
     }
