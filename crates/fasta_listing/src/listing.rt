@@ -2,7 +2,9 @@
 ghost use Rattle.std.specs.Prelude.{◌≡◌, ◌≤◌, length};
 
 use fasta::read_entry;
-use fasta_listing_names::{Reading, Step, is_named, name, name_table, read_names, say, too_large};
+use fasta_listing_names::{
+    Step, Stop, is_named, name, name_table, of_file, read_names, say, too_large,
+};
 use fasta_listing_windows::{Found, Window, buffer, next_piece};
 use letters::LetterSet;
 use records::Refusal;
@@ -10,7 +12,7 @@ use std::fs;
 use std::io::Read as ReadBytes;
 use std::rt::Files;
 use text_digests::Request;
-use text_lines::up_to;
+use text_lines::{more, up_to};
 
 // 65,536 digests.
 fn digest_table() -> [u8; 1310720]
@@ -20,17 +22,18 @@ fn digest_table() -> [u8; 1310720]
 }
 
 // The first reading took the file, so what is wrong now was not there.
-fn changed(rt: &impl Print) -> std::io::Result<Step> {
-    say(rt, "the file has changed since its names were tested")?;
-    Ok(Step::Refused)
+fn changed(rt: &impl Print) -> Stop {
+    match say(rt, "the file has changed since its names were tested") {
+        Ok(()) => Stop::Said,
+        Err(why) => Stop::Print(why),
+    }
 }
 
-fn refuse(rt: &impl Print, entry: &[u8], why: Refusal) -> std::io::Result<Step> {
+fn refuse(rt: &impl Print, entry: &[u8], why: Refusal) -> std::io::Result<()> {
     match why {
-        Refusal::Room => too_large(rt, entry, "65536 digests")?,
-        _ => text_digests::refusal(rt, why)?,
+        Refusal::Room => too_large(rt, entry, "65536 digests"),
+        _ => text_digests::refusal(rt, why),
     }
-    Ok(Step::Refused)
 }
 
 // Lists the digests of an entry: its number is the protein.
@@ -41,17 +44,20 @@ fn list_entry(
     request: Request,
     number: u32,
     out: &mut [u8],
-) -> std::io::Result<Step> {
+) -> Result<(), Stop> {
     let enzyme = request.enzyme;
     let settings = request.settings;
     match enzyme::digest(letters, LetterSet::ALL, enzyme, settings, number, out) {
-        Err(why) => refuse(rt, entry, why),
+        Err(why) => {
+            refuse(rt, entry, why)?;
+            Err(Stop::Said)
+        }
         Ok(count) => {
             print!(rt; ">")?;
             name(rt, entry)?;
             println!(rt)?;
             text_digests::print_all(rt, out, count)?;
-            Ok(Step::Entry)
+            Ok(())
         }
     }
 }
@@ -65,28 +71,28 @@ fn list_piece(
     number: u32,
     letters: &mut [u8],
     out: &mut [u8],
-) -> std::io::Result<Step> {
+) -> Result<Step, Stop> {
     let mut record = [0u8; 64];
     match read_entry(piece, 0, &mut record, letters) {
         Ok(Some(entry)) => {
-            if is_named(names, number, &record) {
-                let n = up_to(entry.letters as usize, letters);
-                list_entry(rt, piece, &letters[..n], request, number, out)
-            } else {
-                changed(rt)
+            if !is_named(names, number, &record) {
+                return Err(changed(rt));
             }
+            let n = up_to(entry.letters as usize, letters);
+            list_entry(rt, piece, &letters[..n], request, number, out)?;
+            Ok(Step::Entry)
         }
         Ok(None) => Ok(Step::Nothing),
-        Err(_) => changed(rt),
+        Err(_) => Err(changed(rt)),
     }
 }
 
 // The end of a file, if all its names were there.
-fn end(rt: &impl Print, names: &[u8], number: u32) -> std::io::Result<Step> {
+fn end(rt: &impl Print, names: &[u8], number: u32) -> Result<Step, Stop> {
     if names.len() == 64 * number as usize {
         Ok(Step::End)
     } else {
-        changed(rt)
+        Err(changed(rt))
     }
 }
 
@@ -100,21 +106,18 @@ fn take(
     number: u32,
     letters: &mut [u8],
     out: &mut [u8],
-) -> std::io::Result<Step>
+) -> Result<Step, Stop>
     requires { (window.from ≤ window.to) × (window.to ≤ length bytes.now) }
 {
-    let from = window.from;
-    let to = window.to;
-    let found = window.found;
-    match found {
-        Found::Piece => list_piece(rt, &bytes[from..to], names, request, number, letters, out),
+    let piece = &bytes[window.from..window.to];
+    match window.found {
+        Found::Piece => list_piece(rt, piece, names, request, number, letters, out),
         Found::End => end(rt, names, number),
-        Found::Front => changed(rt),
-        Found::Failure(why) => Ok(Step::Failed(why)),
+        Found::Front => Err(changed(rt)),
     }
 }
 
-// Lists all entries of a file: the last step. Turns are counted as where the names are read.
+// Lists all entries of a file. Turns are counted as where the names are read.
 fn list_all<F: ReadBytes>(
     rt: &impl Print,
     file: &mut F,
@@ -123,23 +126,21 @@ fn list_all<F: ReadBytes>(
     bytes: &mut [u8],
     letters: &mut [u8],
     out: &mut [u8],
-) -> std::io::Result<Step> {
+) -> Result<(), Stop> {
     let mut window = Window::start();
     let mut number: u32 = 0;
-    let mut turns = u64::MAX;
-    while 0 < turns {
-        window = next_piece(file, bytes, window);
-        let step = take(rt, bytes, window, names, request, number, letters, out)?;
-        if step.is_last() {
-            return Ok(step);
+    for _ in 0..u64::MAX {
+        window = next_piece(file, bytes, window).map_err(of_file)?;
+        match take(rt, bytes, window, names, request, number, letters, out)? {
+            Step::Entry => number = more(number),
+            Step::Nothing => {}
+            Step::End => return Ok(()),
         }
-        number = step.counted(number);
-        turns -= 1;
     }
-    changed(rt)
+    Err(changed(rt))
 }
 
-// Lists the entries of a file whose names are known: the last step.
+// Lists the entries of a file whose names are known.
 fn list_entries<R: Files + Print>(
     rt: &R,
     path: &str,
@@ -147,39 +148,31 @@ fn list_entries<R: Files + Print>(
     request: Request,
     bytes: &mut [u8],
     letters: &mut [u8],
-) -> std::io::Result<Step> {
-    match fs::open(rt, path) {
-        Ok(mut file) => {
-            let mut out = digest_table();
-            list_all(rt, &mut file, names, request, bytes, letters, &mut out)
-        }
-        Err(why) => Ok(Step::Failed(why)),
-    }
-}
-
-// Says why a call on a file failed.
-fn fail(rt: &impl Eprint, path: &str, why: std::io::Error) -> std::io::Result<()> {
-    eprintln!(rt; "{path}: {why}")
+) -> Result<(), Stop> {
+    let mut file = fs::open(rt, path).map_err(of_file)?;
+    let mut out = digest_table();
+    list_all(rt, &mut file, names, request, bytes, letters, &mut out)
 }
 
 // Reads the names of a file, then lists its entries.
+fn list_read<R: Files + Print>(rt: &R, path: &str, request: Request) -> Result<(), Stop> {
+    let mut bytes = buffer();
+    let mut letters = io::large_buffer();
+    let mut names = name_table();
+    let count = read_names(rt, path, &mut bytes, &mut names, &mut letters)?;
+    let n = up_to(64 * count as usize, &names);
+    list_entries(rt, path, &names[..n], request, &mut bytes, &mut letters)
+}
+
+// The same, and says why a call on the file failed.
 pub(crate) fn list_file<R: Files + Print + Eprint>(
     rt: &R,
     path: &str,
     request: Request,
 ) -> std::io::Result<()> {
-    let mut bytes = buffer();
-    let mut letters = io::large_buffer();
-    let mut names = name_table();
-    match read_names(rt, path, &mut bytes, &mut names, &mut letters)? {
-        Reading::Names(count) => {
-            let n = up_to(64 * count as usize, &names);
-            match list_entries(rt, path, &names[..n], request, &mut bytes, &mut letters)? {
-                Step::Failed(why) => fail(rt, path, why),
-                _ => Ok(()),
-            }
-        }
-        Reading::Refused => Ok(()),
-        Reading::Failed(why) => fail(rt, path, why),
+    match list_read(rt, path, request) {
+        Ok(()) | Err(Stop::Said) => Ok(()),
+        Err(Stop::File(why)) => eprintln!(rt; "{path}: {why}"),
+        Err(Stop::Print(why)) => Err(why),
     }
 }
