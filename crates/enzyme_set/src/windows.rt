@@ -11,6 +11,7 @@ ghost use Rattle.enzyme_picks.specs.Picks.{sizes_put};
 
 use enzyme_cuts::Knife;
 use enzyme_keep::Terms;
+use enzyme_weights::Level;
 
 // Lists the windows of 1 to missed + 1 of the m sites, size by size: `first` of them are ranked by windows of one site.
 fn list_levels(
@@ -35,17 +36,27 @@ fn list_levels(
     let mut g = first;
     let mut k = 0;
     for over in 0..missed {
-        k = enzyme_picks::list_size(
-            starts, order, other, rank, share, g, m, over, n, terms, out, k,
-        )?;
+        let level = Level {
+            order: &*order,
+            runs: &*other,
+            rank: &*rank,
+            share: &*share,
+            g,
+        };
+        k = enzyme_picks::list_size(starts, &level, m, over, n, terms, out, k)?;
         let sites = usize::from(over) + 1;
         g = enzyme_levels::next_level(
             letters, starts, m, sites, g, order, other, name, rank, share,
         );
     }
-    enzyme_picks::list_size(
-        starts, order, other, rank, share, g, m, missed, n, terms, out, k,
-    )
+    let level = Level {
+        order: &*order,
+        runs: &*other,
+        rank: &*rank,
+        share: &*share,
+        g,
+    };
+    enzyme_picks::list_size(starts, &level, m, missed, n, terms, out, k)
 }
 
 // With tables that are lent: two for the order of the m sites; their names, and the ranks of windows; how many sites each window shares

@@ -1,24 +1,34 @@
 -- `list_levels` meets its contract: the sizes ahead give the whole, and the next size is ranked. Assumes nothing.
 use native.Mathlib.Omega.{arith}
 use mathlib.Core.Path.{◌≡◌, refl, ◌∙◌}
-use Prim.Native.Nat.{suc, ◌+◌, ◌-◌}
+use Prim.Native.Nat.{suc, ◌+◌, ◌-◌, ◌≤◌}
 use lib.ListN.{length}
 use Rattle.enzyme_windows.specs.Pieces.{pieces}
 use Rattle.enzyme_picks.specs.PickLaws.{sizes-kept, sizes_full, sizes-last}
 use Rattle.enzyme_set.specs.ListLaws.{level_listed, level_ready}
 use Rattle.enzyme_set.proofs.windows.list_levels.Invariants.{weights}
+use Rattle.enzyme_picks.specs.Picks.{StartsRise}
+use Rattle.enzyme_set.proofs.windows.list_levels.Goals.{In-loop-over, After-loop-over}
 use Rattle.enzyme_set.proofs.windows.list_levels.Goals as goal
 
 pub loop-over-init : goal.loop-over-init
 loop-over-init c = let z : suc c.args.missed - 0 ≡ suc c.args.missed = omega arith in (refl, refl, refl, refl, refl, λ ts lr. (lr, rw z))
 
-pub list_size-requires : goal.list_size-requires
-list_size-requires c =
+-- what is asked of the tables of a level
+ready : (c : In-loop-over) → let a = c.args in let l = c.loop-over in
+    (l.over ≤ 16) × (l.g ≤ 65536) × (l.g ≤ length l.order) × (l.g ≤ length l.other) × (a.m ≤ length l.rank) × (a.m ≤ length l.share) × StartsRise a.starts.now a.m
+ready c =
     let a = c.args in
     let p = c.requires in
     let l = c.loop-over in
     let q = l.invariant.5 (pieces a.knife a.letters.now) p.2 in
     level_ready a.knife a.letters.now a.starts.now l.order l.other a.name.now l.rank l.share l.over l.g a.m q.0 p.0 (omega arith) (omega (arith, p.3, l.invariant.0)) (omega (arith, p.4, l.invariant.1)) (omega (arith, p.5, l.invariant.2)) (omega (arith, p.6, l.invariant.3))
+
+pub invariant_of-level : goal.invariant_of-level
+invariant_of-level c = let r = ready (goal.at.invariant_of-level c).In-loop-over in record { places = r.2; starts = r.3; few = r.1 }
+
+pub list_size-requires : goal.list_size-requires
+list_size-requires c = let r = ready (goal.at.list_size-requires c).In-loop-over in (r.0, r.4, r.5, r.6)
 
 pub returns-in_err-k : goal.returns-in_err-k
 returns-in_err-k c =
@@ -64,14 +74,21 @@ loop-over-preserved c =
           ),
     )
 
-pub list_size-requires-2 : goal.list_size-requires-2
-list_size-requires-2 c =
+ready_last : (c : After-loop-over) → let a = c.args in let l = c.loop-over in
+    (a.missed ≤ 16) × (l.g ≤ 65536) × (l.g ≤ length l.order) × (l.g ≤ length l.other) × (a.m ≤ length l.rank) × (a.m ≤ length l.share) × StartsRise a.starts.now a.m
+ready_last c =
     let a = c.args in
     let p = c.requires in
     let l = c.loop-over in
     let e : l.over ≡ a.missed = omega arith in
     let q = l.invariant.5 (pieces a.knife a.letters.now) p.2 in
     level_ready a.knife a.letters.now a.starts.now l.order l.other a.name.now l.rank l.share a.missed l.g a.m (rw e at q.0) p.0 p.1 (omega (arith, p.3, l.invariant.0)) (omega (arith, p.4, l.invariant.1)) (omega (arith, p.5, l.invariant.2)) (omega (arith, p.6, l.invariant.3))
+
+pub invariant_of-level-2 : goal.invariant_of-level-2
+invariant_of-level-2 c = let r = ready_last (goal.at.invariant_of-level-2 c).After-loop-over in record { places = r.2; starts = r.3; few = r.1 }
+
+pub list_size-requires-2 : goal.list_size-requires-2
+list_size-requires-2 c = let r = ready_last (goal.at.list_size-requires-2 c).After-loop-over in (r.0, r.4, r.5, r.6)
 
 pub returns : goal.returns
 returns c =
