@@ -3,6 +3,8 @@ ghost use Rattle.std.specs.Prelude.{◌≡◌, suc, ◌<◌, get_or};
 ghost use Rattle.enzyme_weights.specs.Weights.{weight_in};
 ghost use Rattle.enzyme_semi.specs.Tables.{TablesServe};
 
+use enzyme_weights::Level;
+
 // How many sites a window from site i shares with one from an earlier site; none behind the end.
 fn shared(share: &[u8], i: usize) -> u8
     ensures { result ≡ get_or share.now i 0 }
@@ -31,5 +33,12 @@ pub(crate) fn weight_of(
     if g == 0 {
         return 1;
     }
-    enzyme_weights::new_weight(order, runs, rank, g, i)
+    let level = Level {
+        order,
+        runs,
+        rank,
+        share,
+        g,
+    };
+    level.new_weight(i)
 }

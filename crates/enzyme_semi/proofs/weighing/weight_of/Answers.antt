@@ -20,7 +20,7 @@ new_weight-requires c =
     let p = c.requires in
     let t = p.0 in
     let r = t.ranks (omega (arith, c.if-g-eq0.false)) in
-    (t.places, t.starts, t.few, omega (arith, r, p.1))
+    omega (arith, r, p.1)
 
 pub returns : goal.returns
 returns c =
