@@ -1,4 +1,5 @@
-// Tables of sites: one number for each, read and written by the sites that stand in a row.
+// Tables of sites: one number for each, read and written by the sites that stand in a row. A row is the first g of a table, which is longer:
+// what is proved of the steps speaks of the whole table and g.
 ghost use Rattle.std.specs.Prelude.{◌≡◌, cond, ℕ, ◌+◌, ◌≤◌, ◌<◌, eqb, length, get_or};
 ghost use Rattle.enzyme_rows.specs.Steps.{AmongFirst, FirstDiffer, Brought, Called, RepeatsMarked};
 
