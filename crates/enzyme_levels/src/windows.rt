@@ -1,4 +1,4 @@
-// Windows of more and more sites.
+// Windows of more and more sites. The five tables are lent one by one: the callers keep them apart, and a level is told of each by itself.
 ghost use Rattle.std.specs.Prelude.{◌≡◌, List, ℕ, ◌+◌, ◌≤◌, ◌<◌, length, get_or};
 ghost use Rattle.enzyme_keys.specs.Keys.{SiteWithin, letters_at, sort_key};
 ghost use Rattle.enzyme_rows.specs.Steps.{RunsRanked, OneName};
