@@ -1,17 +1,11 @@
 -- `stop` meets its contract. Assumes nothing.
-use mathlib.Core.Path.{◌≡◌, sym, ◌∙◌}
+use mathlib.Core.Path.{sym, ◌∙◌}
 use lib.ListN.{drop}
 use Rattle.sorting_texts.specs.Text.{le_by}
-use Rattle.sorting_spec.specs.RunLaws.{run_begin, run_on, run_off, run_none, run-empty}
+use Rattle.sorting_spec.specs.RunLaws.{run_on, run_off}
 use Rattle.sorting_spec.specs.PartLaws.{rest_all}
 use native.Mathlib.Omega.{arith}
 use Rattle.sorting_runs.proofs.runs.stop.Goals as goal
-
-pub returns-then-lo-hi : goal.returns-then-lo-hi
-returns-then-lo-hi c = let a = c.args in rw c.if-lo-hi.true (sym (run-empty (le_by a.by a.letters.now (drop a.e a.w.now)) a.w.now a.hi))
-
-pub loop-i-init : goal.loop-i-init
-loop-i-init c = let a = c.args in (omega arith, run_begin (le_by a.by a.letters.now (drop a.e a.w.now)) a.w.now a.lo a.hi (omega arith) (omega arith))
 
 pub loop-i-preserved : goal.loop-i-preserved
 loop-i-preserved c =
@@ -28,11 +22,3 @@ returns-then-not-le c =
     let le = le_by a.by a.letters.now (drop a.e a.w.now) in
     let q = sym (rw (rest_all a.e a.w.now) at c.le.ensures) ∙ c.if-not-le.true in
     sym (l.invariant.1 ∙ run_off le a.w.now l.i a.hi (omega arith) (omega arith) l.p q)
-
-pub returns : goal.returns
-returns c =
-    let a = c.args in
-    let l = c.loop-i in
-    let le = le_by a.by a.letters.now (drop a.e a.w.now) in
-    let e : l.i ≡ a.hi = omega arith in
-    sym (l.invariant.1 ∙ rw e (run_none le a.w.now a.hi l.p))
