@@ -1,18 +1,11 @@
 -- `repeat_among` meets its contract. Assumes nothing.
 use Prim.Native.Nat.{ℕ, ◌+◌}
-use mathlib.Core.Path.{sym, ap, ◌∙◌}
+use mathlib.Core.Path.{ap, ◌∙◌}
 use mathlib.Core.List.{List, ◌++◌}
 use native.Mathlib.Omega.{arith}
 use lib.ListN.{replicate}
-use lib.Seq.{length-take-le}
 use Rattle.sorting_repeats.specs.LeastLaws.{repeated, repeated_rest, front_cleared}
 use Rattle.sorting_repeats.proofs.repeats.repeat_among.Goals as goal
-
-pub slice_bounds-clear-end-2 : goal.slice_bounds-clear-end-2
-slice_bounds-clear-end-2 c =
-    let a = c.args in
-    let so = c.sort_range in
-    sym (length-take-le (a.n + a.n) so.new.w (omega (arith, so.auto.w, c.count_up.auto.w, c.requires)))
 
 pub returns : goal.returns
 returns c =
