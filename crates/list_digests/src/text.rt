@@ -18,12 +18,9 @@ pub(crate) fn squeeze(text: &[u8], out: &mut [u8]) -> usize
     ensures { result ≤ length out.new }
 {
     let mut n = 0;
-    let mut i = 0;
-    while i < text.len() {
-        let b = text[i];
-        i += 1;
-        if 32 < b {
-            n = push(out, n, b);
+    for b in text {
+        if 32 < *b {
+            n = push(out, n, *b);
         }
     }
     n
