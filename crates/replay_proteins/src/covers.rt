@@ -14,7 +14,7 @@ pub(crate) fn meta_count(line: &[u8]) -> u32 {
 
 // Whether the buffers hold the marks and the work memory of a line.
 pub(crate) fn is_held(line: &[u8]) -> bool {
-    (group_count(line) <= 200) & (meta_count(line) <= 200)
+    group_count(line) <= 200 && meta_count(line) <= 200
 }
 
 // Whether the library covers as the Rust did: 3,136 numbers of work memory are enough for 200 groups and 200
@@ -25,7 +25,7 @@ fn is_covered(line: &[u8], edges: &[u8]) -> bool {
     let groups = group_count(line);
     let metas = meta_count(line);
     match cover::cover(edges, groups, metas, &mut work, &mut marks) {
-        Ok(count) => are_marks(line, 3, &marks, count) & is_zero(&work),
+        Ok(count) => are_marks(line, 3, &marks, count) && is_zero(&work),
         Err(_) => false,
     }
 }
@@ -33,7 +33,7 @@ fn is_covered(line: &[u8], edges: &[u8]) -> bool {
 pub fn replay_cover(line: &[u8]) -> Verdict {
     let mut edges = [0u8; 2048];
     let n = records_at(line, 2, &mut edges);
-    if is_held(line) & (n < 2048) {
+    if is_held(line) && n < 2048 {
         return Verdict::of(is_covered(line, &edges[..n]));
     }
     Verdict::TooLarge

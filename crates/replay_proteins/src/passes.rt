@@ -4,12 +4,12 @@
 ghost use Rattle.std.specs.Prelude.{◌+◌, ◌≤◌, length};
 ghost use Rattle.io.specs.Counts.{IsPrefixLen};
 
-use protein_groups::{Sizes};
-use records::{u32_at};
+use protein_groups::Sizes;
+use records::u32_at;
 use text_fields::{
     Verdict, bytes_at, field, is_set, is_text, item_end, marks_at, names_at, numbers_at, records_at,
 };
-use text_lines::{more, narrow, up_to};
+use text_lines::{narrow, up_to};
 
 fn counted(n: usize, more: bool) -> usize
     requires { n ≤ 63 }
@@ -24,15 +24,13 @@ fn proteins_of(pairs: &[u8], peptide: u32, out: &mut [u32]) -> usize
     ensures { IsPrefixLen result out.new }
 {
     let mut n: usize = 0;
-    let mut k: u32 = 0;
-    while k < 64 {
+    for k in 0..64usize {
         if out.len() <= n {
             return n;
         }
-        let at = 8 * k as usize;
+        let at = 8 * k;
         out[n] = u32_at(pairs, at + 4);
-        n = counted(n, (at < pairs.len()) & (u32_at(pairs, at) == peptide));
-        k += 1;
+        n = counted(n, at < pairs.len() && u32_at(pairs, at) == peptide);
     }
     n
 }
@@ -71,7 +69,7 @@ fn is_written(
         &mut out,
     );
     match answer {
-        Ok(report) => (report.groups == groups) & is_text(item, &out, report.bytes),
+        Ok(report) => report.groups == groups && is_text(item, &out, report.bytes),
         Err(_) => false,
     }
 }
@@ -98,7 +96,7 @@ fn next_item(line: &[u8], end: usize) -> usize
     requires { end ≤ length line.now }
     ensures { result ≤ length line.now }
 {
-    if end < line.len() { end + 1 } else { end }
+    line.len().min(end + 1)
 }
 
 // Whether the texts of all peptides and their numbers of groups are those of a line.
@@ -112,11 +110,8 @@ fn are_lines(
 ) -> bool {
     let mut same = true;
     let mut at = field(line, 5);
-    let mut peptide: u32 = 0;
-    let mut i = 0;
-    while i < flags.len() {
+    for (i, flag) in flags.iter().enumerate() {
         let end = item_end(line, at);
-        let decoy = flags[i] == 1;
         same = same
             & is_line(
                 line,
@@ -124,13 +119,11 @@ fn are_lines(
                 members,
                 marks,
                 pairs,
-                peptide,
-                decoy,
+                narrow(i),
+                *flag == 1,
                 &line[at..end],
             );
         at = next_item(line, end);
-        peptide = more(peptide);
-        i += 1;
     }
     same
 }
@@ -189,7 +182,7 @@ pub fn replay_pass(line: &[u8]) -> Verdict {
     let n = names_at(line, &mut names);
     let f = marks_at(line, 1, &mut flags);
     let p = records_at(line, 2, &mut pairs);
-    if (n < 896) & (f < 32) & (p < 512) {
+    if n < 896 && f < 32 && p < 512 {
         return Verdict::of(is_passed(line, &names[..n], &flags[..f], &pairs[..p]));
     }
     Verdict::TooLarge

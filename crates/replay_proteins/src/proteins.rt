@@ -11,14 +11,14 @@ fn protein_count(line: &[u8]) -> u32 {
 
 // Whether the numbers of groups and meta-peptides are those of a line.
 fn has_counts(line: &[u8], groups: u32, metas: u32) -> bool {
-    (decimal_at(line, 3) == groups) & (decimal_at(line, 4) == metas)
+    decimal_at(line, 3) == groups && decimal_at(line, 4) == metas
 }
 
 // Whether so many bytes are the records of field k, and nothing is written behind them: all were 7.
 fn are_records(line: &[u8], k: usize, ours: &[u8], bytes: usize) -> bool {
     let mut theirs = [7u8; 1560];
     let n = records_at(line, k, &mut theirs);
-    (n == bytes) & same(&theirs, ours)
+    n == bytes && same(&theirs, ours)
 }
 
 // Whether the library groups as the Rust did: 1,024 numbers of work memory are enough for 64 proteins, 31 peptides and 63 pairs.
@@ -40,9 +40,9 @@ fn is_grouped(line: &[u8], flags: &[u8], pairs: &[u8]) -> bool {
     match answer {
         Ok(sizes) => {
             has_counts(line, sizes.groups, sizes.metas)
-                & are_records(line, 5, &edges, 8 * sizes.edges as usize)
-                & are_records(line, 6, &members, 12 * sizes.members as usize)
-                & is_zero(&work)
+                && are_records(line, 5, &edges, 8 * sizes.edges as usize)
+                && are_records(line, 6, &members, 12 * sizes.members as usize)
+                && is_zero(&work)
         }
         Err(_) => false,
     }
@@ -53,7 +53,7 @@ pub fn replay_groups(line: &[u8]) -> Verdict {
     let mut pairs = [0u8; 512];
     let f = marks_at(line, 0, &mut flags);
     let n = records_at(line, 2, &mut pairs);
-    if (protein_count(line) <= 64) & (f < 32) & (n < 512) {
+    if protein_count(line) <= 64 && f < 32 && n < 512 {
         return Verdict::of(is_grouped(line, &flags[..f], &pairs[..n]));
     }
     Verdict::TooLarge

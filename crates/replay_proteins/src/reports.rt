@@ -9,7 +9,7 @@ use text_fields::{
 // Whether the text and its groups are those of a line.
 fn is_line(line: &[u8], out: &[u8], bytes: u32, groups: u32) -> bool {
     let from = field(line, 8);
-    (decimal_at(line, 7) == groups) & is_text(&line[from..], out, bytes)
+    decimal_at(line, 7) == groups && is_text(&line[from..], out, bytes)
 }
 
 // Whether the library writes the text as the Rust did.
@@ -41,7 +41,7 @@ fn replay_with(line: &[u8], names: &[u8], members: &[u8]) -> Verdict {
     let mut list = [0u32; 17];
     let m = marks_at(line, 2, &mut marks);
     let n = numbers_at(line, 3, &mut list);
-    if (m < 33) & (n < 17) {
+    if m < 33 && n < 17 {
         return Verdict::of(is_written(line, names, members, &marks[..m], &list[..n]));
     }
     Verdict::TooLarge
@@ -52,7 +52,7 @@ pub fn replay_line(line: &[u8]) -> Verdict {
     let mut members = [0u8; 396];
     let n = names_at(line, &mut names);
     let m = records_at(line, 1, &mut members);
-    if (n < 896) & (m < 396) {
+    if n < 896 && m < 396 {
         return replay_with(line, &names[..n], &members[..m]);
     }
     Verdict::TooLarge

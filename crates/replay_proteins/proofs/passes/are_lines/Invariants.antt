@@ -1,10 +1,7 @@
 -- `are_lines` meets its contract. Assumes nothing.
-use Prim.Native.Nat.{◌-◌, ◌≤◌}
+use Prim.Native.Nat.{◌≤◌}
 use lib.ListN.{length}
 use Rattle.replay_proteins.proofs.passes.are_lines.Given as goal
 
 abbrev pub invariant-loop-i : goal.invariant-loop-i
-invariant-loop-i l = (l.at ≤ length l.line) × (l.i ≤ length l.flags)
-
-abbrev pub decreases-loop-i : goal.decreases-loop-i
-decreases-loop-i l = length l.flags - l.i
+invariant-loop-i l = l.at ≤ length l.line

@@ -12,7 +12,7 @@ pub bounds-out-n : goal.bounds-out-n
 bounds-out-n c = omega arith
 
 pub loop-k-preserved : goal.loop-k-preserved
-loop-k-preserved c = (simp length-set (omega arith), simp length-set (omega arith), omega arith, omega arith)
+loop-k-preserved c = (simp length-set (omega arith), simp length-set (omega arith), omega arith)
 
 pub returns : goal.returns
 returns c = let l = c.loop-k in (omega arith, sym (length-take-le l.n l.out (omega arith)))
