@@ -1,5 +1,4 @@
 -- `inner_end` meets its contract. Assumes nothing.
-use native.Mathlib.Omega.{arith}
 use Rattle.enzyme_lengths.specs.PositionLaws.{last_apart, none_apart}
 use Rattle.enzyme_lengths.proofs.listing.inner_end.Goals as goal
 
@@ -8,9 +7,3 @@ returns-then-from-to c = let a = c.args in last_apart a.n a.len a.from a.to c.re
 
 pub returns-else-from-to : goal.returns-else-from-to
 returns-else-from-to c = let a = c.args in none_apart a.n a.len a.from a.to c.requires.1 c.requires.2 c.requires.3 c.if-from-to.false
-
-pub overflow_add-to : goal.overflow_add-to
-overflow_add-to c = omega arith
-
-pub overflow_sub-result : goal.overflow_sub-result
-overflow_sub-result c = omega arith

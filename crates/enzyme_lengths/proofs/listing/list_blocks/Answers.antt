@@ -1,15 +1,11 @@
 -- `list_blocks` meets its contract: the blocks ahead, chosen, give the whole. Assumes nothing.
 use native.Mathlib.Omega.{arith}
 use mathlib.Core.Path.{◌≡◌, refl, ◌∙◌}
-use Prim.Native.Nat.{◌+◌, ◌*◌, ◌/◌}
+use Prim.Native.Nat.{◌+◌, ◌*◌}
 use lib.ListN.{length}
 use Rattle.enzyme_blocks.specs.BlockLaws.{block_above}
 use Rattle.enzyme_lengths.specs.StartLaws.{walk_kept, walk_full, starting_end}
 use Rattle.enzyme_lengths.proofs.listing.list_blocks.Goals as goal
-
-pub loop-b-init : goal.loop-b-init
-loop-b-init c = let e : 64 * (c.args.from / 64) ≡ c.args.from = omega arith in
-    (c.requires.4, rw e)
 
 pub list_block-requires : goal.list_block-requires
 list_block-requires c = let l = c.loop-b in

@@ -1,21 +1,13 @@
 -- `list_later` meets its contract: the inner starts, then the last. Assumes nothing.
-use native.Mathlib.Omega.{arith}
 use mathlib.Core.Path.{◌∙◌}
 use Rattle.enzyme_lengths.specs.StartLaws.{part-kept, part_full}
 use Rattle.enzyme_lengths.proofs.listing.list_later.Goals as goal
-
-pub list_placed-requires : goal.list_placed-requires
-list_placed-requires c = let e = c.inner_end-end.ensures in
-    (omega (arith, e.1, c.requires.0), c.requires.1, c.requires.2, e.2)
 
 pub returns-in_err-k : goal.returns-in_err-k
 returns-in_err-k c = let a = c.args in
     let m = c.inner_end-end in
     let x = c.list_placed in
     rw c.from_residual.ensures (part_full a.tables.now.letters.now a.protein a.len a.from m.result a.to a.count a.out.now x.new.out m.ensures.0 m.ensures.1 (rw c.in_err-k.was at x.ensures.0), x.ensures.1)
-
-pub list_placed-requires-2 : goal.list_placed-requires-2
-list_placed-requires-2 c = (c.requires.0, c.requires.1, c.list_placed.ensures.1, c.inner_end-end.ensures.3)
 
 pub returns : goal.returns
 returns c = let a = c.args in

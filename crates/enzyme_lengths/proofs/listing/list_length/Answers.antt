@@ -1,20 +1,10 @@
 -- `list_length` meets its contract: the great blocks ahead, chosen, give the whole. Assumes nothing.
 use native.Mathlib.Omega.{arith}
 use mathlib.Core.Path.{◌≡◌, ◌∙◌}
-use Prim.Native.Nat.{suc, ◌+◌, ◌-◌, ◌*◌}
+use Prim.Native.Nat.{◌+◌, ◌-◌, ◌*◌}
 use lib.ListN.{length}
 use Rattle.enzyme_lengths.specs.StartLaws.{walk_kept, walk_full, starting_end}
 use Rattle.enzyme_lengths.proofs.listing.list_length.Goals as goal
-
-pub loop-b-init : goal.loop-b-init
-loop-b-init c = let z : length c.args.tables.now.letters.now + 1 - c.args.len - 0 ≡ suc (length c.args.tables.now.letters.now) - c.args.len = omega arith in
-    (c.requires.3, rw z)
-
-pub list_great-requires : goal.list_great-requires
-list_great-requires c = let l = c.loop-b in
-    let e = c.block_end-to.ensures in
-    let d = c.div_ceil-b-end.ensures in
-    (omega arith, c.requires.1, omega arith, omega (arith, d), omega arith, c.requires.2, l.invariant.0)
 
 pub returns-in_err-k : goal.returns-in_err-k
 returns-in_err-k c = let a = c.args in

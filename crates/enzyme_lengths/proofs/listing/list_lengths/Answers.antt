@@ -30,11 +30,6 @@ loop-len-init c = let a = c.args in
     let e = c.max-len.ensures in
     (told_later mn c.max-len.result a.tables.now.letters.now a.tables.now.longest.now a.tables.now.next.now a.tables.now.size.now a.head.now (omega arith) c.requires.2, rw e (lengths_from-one a.tables.now.letters.now a.terms.protein mn a.terms.maximum 0 a.out.now))
 
-pub list_length-requires : goal.list_length-requires
-list_length-requires c = let l = c.loop-len in
-    let e = c.wide.ensures.0 in
-    (omega (arith, e), c.requires.1, omega (arith, e), rw e l.invariant.0)
-
 pub returns-in_err-k : goal.returns-in_err-k
 returns-in_err-k c = let l = c.loop-len in
     let x = c.list_length in

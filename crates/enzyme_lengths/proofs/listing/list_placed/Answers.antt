@@ -4,7 +4,6 @@ use mathlib.Core.Path.{◌≡◌, refl, sym, ◌∙◌}
 use mathlib.Core.List.{List, ◌∷◌}
 use Prim.Native.Nat.{◌+◌, ◌-◌}
 use lib.ListN.{length}
-use borrow.Author.Tests.{ltb-true}
 use Rattle.enzyme_cuts.specs.Cutting.{Range, site, starting}
 use Rattle.enzyme_lengths.specs.Listing.{chosen_of}
 use Rattle.enzyme_lengths.specs.ListingLaws.{chosen-one-kept, chosen-one_full}
@@ -19,14 +18,6 @@ rest c = starting c.args.len (c.loop-a.a + 1) (c.args.to - (c.loop-a.a + 1))
 
 ahead : (c : In-loop-a) → chosen_of c.args.tables.now.letters.now c.args.protein (site c.loop-a.a (c.loop-a.a + c.args.len) ∷ rest c) c.loop-a.k c.loop-a.out ≡ chosen_of c.args.tables.now.letters.now c.args.protein (starting c.args.len c.args.from (c.args.to - c.args.from)) c.args.count c.args.out.now
 ahead c = rw (starts-on c.args.len c.loop-a.a c.args.to (omega arith)) at c.loop-a.invariant.1
-
-pub loop-a-init : goal.loop-a-init
-loop-a-init c = (c.requires.2, refl)
-
-pub times_where-times-requires : goal.times_where-times-requires
-times_where-times-requires c = let l = c.loop-a in
-    let w = c.from in
-    (l.invariant.0, λ h. let t = ltb-true w.result c.args.len h in (omega (arith, w.ensures, c.args.tables.now.measured.each l.a (omega arith)), omega arith))
 
 pub returns-in_err-k : goal.returns-in_err-k
 returns-in_err-k c = let l = c.loop-a in

@@ -2,9 +2,7 @@
 use native.Mathlib.Omega.{arith}
 use mathlib.Core.Path.{◌∙◌}
 use Prim.Native.Nat.{◌≤◌}
-use lib.ListN.{length}
 use Rattle.enzyme_lengths.specs.StartLaws.{part-kept, part_full, starting_end}
-use Rattle.enzyme_lengths.specs.PositionLaws.{first_alone}
 use Rattle.enzyme_lengths.proofs.listing.list_starts.Goals.{After-position-position}
 use Rattle.enzyme_lengths.proofs.listing.list_starts.Goals as goal
 
@@ -16,19 +14,12 @@ pub returns-then-to-from : goal.returns-then-to-from
 returns-then-to-from c = let a = c.args in
     (rw (starting_end a.len a.from a.to (omega arith)), c.requires.2)
 
-pub list_placed-requires : goal.list_placed-requires
-list_placed-requires c = let e = c.max-second in
-    (omega (arith, within (goal.at.list_placed-requires c).After-position-position, c.requires.0), c.requires.1, c.requires.2, first_alone (length c.args.tables.now.letters.now) c.args.len c.position-position.result c.args.from e.result c.position-position.ensures e.ensures)
-
 pub returns-in_err-k : goal.returns-in_err-k
 returns-in_err-k c = let a = c.args in
     let m = c.max-second in
     let x = c.list_placed in
     let w = within (goal.at.returns-in_err-k c).After-position-position in
     rw c.from_residual.ensures (part_full a.tables.now.letters.now a.protein a.len a.from m.result a.to a.count a.out.now x.new.out w.1 w.0 (rw c.in_err-k.was at x.ensures.0), x.ensures.1)
-
-pub list_later-requires : goal.list_later-requires
-list_later-requires c = (c.requires.0, c.requires.1, c.list_placed.ensures.1, omega (arith, c.max-second.ensures), (within (goal.at.list_later-requires c).After-position-position).0)
 
 pub returns : goal.returns
 returns c = let a = c.args in
