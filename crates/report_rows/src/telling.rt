@@ -7,46 +7,11 @@ use report_rows_read::{has_bad_peptide, has_long_name};
 use std::io;
 use text_lines::{line_end, narrow, up_to};
 
-// 16,384 columns.
-fn column_table() -> [u8; 196608]
-    ensures { 196608 ≡ length result }
+// A table of one value.
+fn table<T: Copy, const N: usize>(x: T) -> [T; N]
+    ensures { N ≡ length result }
 {
-    [0; 196608]
-}
-
-// 4,096 columns.
-fn known_table() -> [u8; 49152]
-    ensures { 49152 ≡ length result }
-{
-    [0; 49152]
-}
-
-// 16,384 pairs, or as many edges.
-fn pair_table() -> [u8; 131072]
-    ensures { 131072 ≡ length result }
-{
-    [0; 131072]
-}
-
-// 4,096 names.
-fn name_table() -> [u8; 262144]
-    ensures { 262144 ≡ length result }
-{
-    [0; 262144]
-}
-
-// 8,192 members: each name from targets and from decoys.
-fn member_table() -> [u8; 98304]
-    ensures { 98304 ≡ length result }
-{
-    [0; 98304]
-}
-
-// 8 x 4,096 + 4 x 4,096 + 6 x 16,384 numbers.
-fn work_memory() -> [u32; 147456]
-    ensures { 147456 ≡ length result }
-{
-    [0; 147456]
+    [x; N]
 }
 
 // Marks the groups of the cover.
@@ -86,9 +51,12 @@ fn group_names(
     pairs: &[u8],
     names: &[u8],
 ) -> io::Result<()> {
-    let mut work = work_memory();
-    let mut edges = pair_table();
-    let mut members = member_table();
+    // 8 x 4,096 + 4 x 4,096 + 6 x 16,384 numbers.
+    let mut work = table::<u32, 147456>(0);
+    // 16,384 edges.
+    let mut edges = table::<u8, 131072>(0);
+    // 8,192 members: each name from targets and from decoys.
+    let mut members = table::<u8, 98304>(0);
     let peptides = narrow(flags.len());
     let proteins = narrow(names.len() / 64);
     let answer = protein_groups::group_proteins(
@@ -130,7 +98,8 @@ fn tell_names(
     known: &[u8],
     count: u32,
 ) -> io::Result<()> {
-    let mut names = name_table();
+    // 4,096 names.
+    let mut names = table::<u8, 262144>(0);
     report_rows_read::put_names(s, known, count, &mut names);
     let n = up_to(64 * count as usize, &names);
     match catalogue::names_tested(&names[..n]) {
@@ -148,8 +117,10 @@ fn tell_columns(
     columns: &[u8],
     count: u32,
 ) -> io::Result<()> {
-    let mut known = known_table();
-    let mut pairs = pair_table();
+    // 4,096 columns.
+    let mut known = table::<u8, 49152>(0);
+    // 16,384 pairs.
+    let mut pairs = table::<u8, 131072>(0);
     let found = report_rows_read::number_names(s, columns, count, &mut known, &mut pairs);
     if 4096 < found {
         return report_rows_print::too_large(rt, "4096 names");
@@ -161,7 +132,8 @@ fn tell_columns(
 // Reads the rows.
 fn tell_rows(rt: &impl Print, tag: &[u8], s: &[u8]) -> io::Result<()> {
     let mut flags = [0u8; 4096];
-    let mut columns = column_table();
+    // 16,384 columns.
+    let mut columns = table::<u8, 196608>(0);
     let rows = report_rows_read::read_flags(s, &mut flags);
     let count = report_rows_read::read_columns(s, &mut columns);
     if 4096 < rows {

@@ -1,8 +1,0 @@
--- `column_table` meets its contract: an array is as long as its type says, whatever its length. Assumes nothing.
-use Prim.Native.Nat.{ℕ}
-use mathlib.Core.Path.{sym}
-use lib.ListN.{length-replicate}
-use Rattle.report_rows.proofs.telling.column_table.Goals as goal
-
-pub returns : goal.returns
-returns c = sym (length-replicate {0} {A = ℕ} 196608 0)
