@@ -7,6 +7,7 @@ use cover_edges::Edges;
 use records::wide;
 
 // What a pass does at each record: it counts it, takes it off, or clears its count.
+// An enum and no closure: `changed` and `telling` of specs/Walking.antt are of these three.
 #[derive(Clone, Copy)]
 pub enum Pass {
     Up,
