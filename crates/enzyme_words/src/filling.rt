@@ -12,11 +12,11 @@ fn raised(x: u8) -> u8
     if x == 0 { 1 } else { 2 }
 }
 
-// Counts the words at their places in a table of m, and lays the place of each where it starts. `rest` is the number of the word
+// Counts the words at their places in a table, and lays the place of each where it starts. `rest` is the number of the word
 // without its last letter.
-fn tally(letters: &[u8], q: usize, m: usize, far: &mut [u32], count: &mut [u8])
-    requires { (1 ≤ q) × (q ≤ 13) × (length letters.now ≤ length far.old) × (0 < m) × (m ≤ 131072) × (m ≤ length count.old) × Zeros count.old }
-    ensures { WordsCoded letters.now q m (length letters.now) far.new × Twice letters.now q m count.new }
+fn tally(letters: &[u8], q: usize, far: &mut [u32], count: &mut [u8])
+    requires { (1 ≤ q) × (q ≤ 13) × (length letters.now ≤ length far.old) × (0 < length count.old) × (length count.old ≤ 131072) × Zeros count.old }
+    ensures { WordsCoded letters.now q (length count.old) (length letters.now) far.new × Twice letters.now q (length count.old) count.new }
 {
     let n = letters.len();
     if n < q {
@@ -26,7 +26,7 @@ fn tally(letters: &[u8], q: usize, m: usize, far: &mut [u32], count: &mut [u8])
     let mut rest = first(letters, q - 1);
     for i in 0..n + 1 - q {
         let word = 26 * rest + digit(letters[i + q - 1]);
-        let at = place(word, m);
+        let at = place(word, count.len());
         let code = at as u32;
         far[i] = code;
         count[at] = raised(count[at]);
@@ -47,8 +47,8 @@ fn end_at(i: usize, q: usize, n: usize, code: u32, count: &[u8], r: usize) -> us
 }
 
 // From the last start down, each start's number in the place of its word's.
-fn sweep(letters: &[u8], q: usize, m: usize, far: &mut [u32], count: &[u8])
-    requires { (1 ≤ q) × (q ≤ 13) × (length letters.now ≤ 65536) × (length letters.now ≤ length far.old) × (0 < m) × (m ≤ length count.now) × WordsCoded letters.now q m (length letters.now) far.old × Twice letters.now q m count.now }
+fn sweep(letters: &[u8], q: usize, far: &mut [u32], count: &[u8])
+    requires { (1 ≤ q) × (q ≤ 13) × (length letters.now ≤ 65536) × (length letters.now ≤ length far.old) × (0 < length count.now) × WordsCoded letters.now q (length count.now) (length letters.now) far.old × Twice letters.now q (length count.now) count.now }
     ensures { Far letters.now far.new }
 {
     let n = letters.len();
@@ -66,7 +66,6 @@ pub fn fill_far(letters: &[u8], far: &mut [u32], count: &mut [u8])
     ensures { Far letters.now far.new × (length far.new ≡ length far.old) }
 {
     let q = width(letters);
-    let m = count.len();
-    tally(letters, q, m, far, count);
-    sweep(letters, q, m, far, count);
+    tally(letters, q, far, count);
+    sweep(letters, q, far, count);
 }
