@@ -1,4 +1,6 @@
 // Ranges offered to the list.
+// `out` is the caller's buffer (no heap): `count` records stand in it, and there is room behind them.
+// A range goes as the numbers of its record, which are written one by one.
 ghost use Rattle.std.specs.Prelude.{◌≡◌, true, false, ◌-◌, ◌≤◌, length};
 ghost use Rattle.enzyme_cuts.specs.Cutting.{range, site, part, seen_in, within};
 ghost use Rattle.enzyme_keep.specs.Buffer.{ranges_in, links_in};

@@ -1,4 +1,5 @@
 // How a record stands to a stretch of letters.
+// `out` is the caller's buffer (no heap): `count` records stand in it, and there is room behind them.
 ghost use Rattle.std.specs.Prelude.{◌≡◌, ◌*◌, ◌≤◌, ◌<◌, length, get_or};
 ghost use Rattle.enzyme_cuts.specs.Cutting.{site, part};
 ghost use Rattle.enzyme_cuts.specs.Work.{RangesWithin};
