@@ -1,5 +1,7 @@
 // Samples of the list: records of it, of which the last one below a range is found by halving. A sample takes three numbers of
 // marks: its record, how many records there are from it to the next sample, and the head of its letters.
+// `out` is the caller's buffer (no heap): `count` records stand in it, and there is room behind them.
+// What is sought goes as its two places and its head, of which mostly one is read.
 ghost use Rattle.std.specs.Prelude.{◌≡◌, ◌*◌, ◌≤◌, ◌<◌, length};
 ghost use Rattle.enzyme_cuts.specs.Cutting.{site, part};
 ghost use Rattle.enzyme_cuts.specs.Work.{RangesWithin};
