@@ -1,4 +1,5 @@
 // Samples put in and taken out.
+// `out` is the caller's buffer (no heap): `count` records stand in it, and there is room behind them.
 ghost use Rattle.std.specs.Prelude.{◌+◌, ◌*◌, ◌≤◌, ◌<◌, length};
 ghost use Rattle.enzyme_search.specs.Marks.{Has0, SamplesListed, SameSamples, First, MovedUp, PutIn, Thinned};
 
@@ -37,17 +38,13 @@ pub fn mark_first(marks: &mut [u32], first: usize, samples: usize, k: usize, hea
     samples
 }
 
-fn one_more(size: u32) -> u32 {
-    if size < 1048576 { size + 1 } else { size }
-}
-
 // One more record from sample j on, numbered from 0. The answer is how many there are now.
 pub fn count_one(marks: &mut [u32], j: usize) -> u32
     requires { 3 * j + 3 ≤ length marks.old }
     ensures { SameSamples marks.old marks.new }
 {
     let at = 3 * j + 1;
-    let size = one_more(marks[at]);
+    let size = marks[at].saturating_add(1);
     marks[at] = size;
     size
 }
@@ -57,9 +54,7 @@ fn make_way(marks: &mut [u32], low: usize, high: usize)
     requires { (high + 3 ≤ length marks.old) × (low ≤ high) }
     ensures { MovedUp marks.old low high marks.new }
 {
-    for i in (low..high).rev() {
-        marks[i + 3] = marks[i];
-    }
+    marks.copy_within(low..high, low + 3);
 }
 
 // Record t becomes sample j: `left` records before it, `right` from it on.
@@ -102,10 +97,6 @@ pub fn split(
     samples + 1
 }
 
-fn joined(x: u32, y: u32) -> u32 {
-    if x < 1048576 && y < 1048576 { x + y } else { x }
-}
-
 // The records from sample j to the next but one.
 fn both(marks: &[u32], samples: usize, j: usize) -> u32
     requires { (3 * samples ≤ length marks.now) × (j < samples) }
@@ -115,7 +106,7 @@ fn both(marks: &[u32], samples: usize, j: usize) -> u32
     if samples <= next {
         return size;
     }
-    joined(size, marks[3 * next + 1])
+    size.saturating_add(marks[3 * next + 1])
 }
 
 // Every second sample goes. The answer is how many are left.

@@ -1,12 +1,14 @@
 -- `make_way` meets its contract. Assumes nothing.
-use native.Mathlib.Omega.{arith}
-use Rattle.enzyme_search.specs.MarkLaws.{moved_none, moved_on}
+use Rattle.std.proofs.Common.{◌≡◌, ◌+◌, ◌-◌, ◌≤◌, ◌<◌, ⊎_elim, arith}
 use Rattle.enzyme_marks.proofs.marking.make_way.Goals as goal
 
-pub loop-i-init : goal.loop-i-init
-loop-i-init c = (c.requires.1, moved_none c.args.marks.now c.args.high)
-
-pub loop-i-preserved : goal.loop-i-preserved
-loop-i-preserved c = let a = c.args in
-    let l = c.loop-i in
-    (omega arith, moved_on a.marks.now l.marks l.i a.high (omega arith) (omega arith) c.requires.0 l.invariant.1)
+pub returns : goal.returns
+returns c =
+    let low = c.args.low in
+    let high = c.args.high in
+    let moved = c.copy_within.ensures.by_index in
+    record {
+      long = c.copy_within.ensures.len;
+      rest = λ x h. ⊎_elim (λ (l : x < low). moved.1 x 0 (omega arith)) (λ (g : high + 3 ≤ x). moved.2 x 0 (omega arith)) h;
+      on = λ x h l. let e : low + (x + 3 - (low + 3)) ≡ x = omega arith in rw e at (moved.0 (x + 3) 0 (omega arith) (omega arith));
+    }
