@@ -20,10 +20,6 @@ fn crowded(room: usize, samples: usize, limit: usize) -> bool
     some <= samples / (16 * some)
 }
 
-fn doubled(limit: usize) -> usize {
-    if limit < 1048576 { 2 * limit } else { limit }
-}
-
 // There are `size` records from sample j on: where that is the limit, a sample more or, if there are many, every second one
 // goes and the limit is twice as high. So from a sample to the next there are fewer records than the limit, and a search
 // follows no more links than that; nothing rests on it, and it is not proved. 777,000 records of 60,000 letters came to a
@@ -37,7 +33,7 @@ fn settle(letters: &[u8], out: &[u8], marks: &mut [u32], run: Run, j: usize, siz
     }
     if crowded(marks.len() / 3, run.samples, run.limit) {
         let fewer = enzyme_marks::thin(marks, run.samples);
-        let limit = doubled(run.limit);
+        let limit = run.limit.saturating_mul(2);
         return Run {
             samples: fewer,
             limit,

@@ -1,4 +1,5 @@
 // Ranges offered to the list of records.
+// A range goes as the numbers of its record, and each buffer is lent on its own: the contracts say what became of each.
 ghost use Rattle.std.specs.Prelude.{◌≡◌, [], ◌∷◌, ◌-◌, ◌≤◌, ◌<◌, get_or};
 ghost use Rattle.enzyme_cuts.specs.Cutting.{range};
 ghost use Rattle.enzyme_samples.specs.Ready.{run_started, weighted, ReadyOf, OffersOf};

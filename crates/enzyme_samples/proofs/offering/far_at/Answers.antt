@@ -5,9 +5,6 @@ use native.Mathlib.Omega.{arith}
 use lib.ListN.{length, get_or-eq_default}
 use Rattle.enzyme_samples.proofs.offering.far_at.Goals as goal
 
-pub overflow_cast-result : goal.overflow_cast-result
-overflow_cast-result c = omega (arith, c.shared_slice_known-1.given c.args.at)
-
 pub returns-else-at-far : goal.returns-else-at-far
 returns-else-at-far c = let h : length c.args.far.now ≤ c.args.at = omega arith in
     sym (get_or-eq_default c.args.far.now 0 h)
