@@ -1,4 +1,5 @@
 // The parts of one window that belong to no smaller one, each of which stands for `times`. Those that are too long are not looked at.
+// Sites go as their places, and each buffer is lent on its own: the contracts say what became of each.
 ghost use Rattle.std.specs.Prelude.{suc, ◌-◌, ◌<◌};
 ghost use Rattle.enzyme_cuts.specs.Cutting.{range, site, halves};
 ghost use Rattle.enzyme_once.specs.Once.{endings, openings, own};

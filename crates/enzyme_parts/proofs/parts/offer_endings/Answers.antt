@@ -9,12 +9,6 @@ use Rattle.enzyme_parts.specs.PassLaws.{endings-pass}
 use Rattle.enzyme_parts.specs.WalkLaws.{endings-on, endings_end}
 use Rattle.enzyme_parts.proofs.parts.offer_endings.Goals as goal
 
-pub overflow_add-a : goal.overflow_add-a
-overflow_add-a c = omega (arith, c.requires.0)
-
-pub first_cut-first-requires : goal.first_cut-first-requires
-first_cut-first-requires c = omega (arith, c.requires.0)
-
 pub loop-c-init : goal.loop-c-init
 loop-c-init c =
     let a = c.args in
@@ -35,9 +29,3 @@ returns c =
     let a = c.args in
     let l = c.loop-c in
     underway_end (ap (loaded a.times) (endings_end a.missed a.e l.c a.z (omega arith))) l.invariant
-
-pub shape_of-out : goal.shape_of-out
-shape_of-out c = c.loop-c.invariant.long_out
-
-pub shape_of-marks : goal.shape_of-marks
-shape_of-marks c = c.loop-c.invariant.long_marks

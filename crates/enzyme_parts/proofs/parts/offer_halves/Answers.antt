@@ -13,6 +13,9 @@ use Rattle.enzyme_parts.specs.WalkLaws.{halves-on, halves_end}
 use Rattle.enzyme_parts.proofs.parts.offer_halves.Goals.{After-slice_known-in-loop-c-2-1}
 use Rattle.enzyme_parts.proofs.parts.offer_halves.Goals as goal
 
+pub loop-c-init : goal.loop-c-init
+loop-c-init c = rw (add-one c.args.a) (underway_start c.requires.1)
+
 -- the first part of a cut was offered
 mid : (c : After-slice_known-in-loop-c-2-1)
     → let a = c.args in
@@ -26,12 +29,6 @@ mid c =
     let l = c.loop-c in
     range-on (ap (loaded a.times) (halves-on (range a.a a.e 0 0) l.c (omega (arith, c.loop-c-test.true)))) l.invariant c.offer_range-x.ensures (omega arith) (omega arith)
 
-pub overflow_add-c : goal.overflow_add-c
-overflow_add-c c = omega (arith, c.requires.0)
-
-pub loop-c-init : goal.loop-c-init
-loop-c-init c = rw (add-one c.args.a) (underway_start c.requires.1)
-
 pub offer_range-x-requires : goal.offer_range-x-requires
 offer_range-x-requires c = let a = c.args in let l = c.loop-c in range-first (ap (loaded a.times) (halves-on (range a.a a.e 0 0) l.c (omega (arith, c.loop-c-test.true)))) l.invariant
 
@@ -42,14 +39,8 @@ offer_range-at-requires c = range-first refl (mid (goal.at.offer_range-at-requir
 below : (c : After-slice_known-in-loop-c-2-1) → c.loop-c.c < 65536
 below c = let r = (mid c).ready in omega (arith, c.loop-c-test.true, r.inside.1, r.keeps.small)
 
-pub overflow_add-c-in-loop-c : goal.overflow_add-c-in-loop-c
-overflow_add-c-in-loop-c c = omega (arith, below (goal.at.overflow_add-c-in-loop-c c).After-slice_known-in-loop-c-2-1)
-
 pub next_cut-c-requires : goal.next_cut-c-requires
 next_cut-c-requires c = (c.requires.0, omega (arith, below (goal.at.next_cut-c-requires c).After-slice_known-in-loop-c-2-1))
-
-pub loop-c-smaller : goal.loop-c-smaller
-loop-c-smaller c = omega (arith, c.loop-c-test.true, c.next_cut-c.ensures.0)
 
 pub loop-c-preserved : goal.loop-c-preserved
 loop-c-preserved c =
@@ -59,9 +50,3 @@ loop-c-preserved c =
 
 pub returns : goal.returns
 returns c = let a = c.args in let l = c.loop-c in underway_end (ap (loaded a.times) (halves_end (range a.a a.e 0 0) l.c (omega arith))) l.invariant
-
-pub shape_of-out : goal.shape_of-out
-shape_of-out c = c.loop-c.invariant.long_out
-
-pub shape_of-marks : goal.shape_of-marks
-shape_of-marks c = c.loop-c.invariant.long_marks

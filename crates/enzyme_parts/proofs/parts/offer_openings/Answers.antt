@@ -26,9 +26,3 @@ returns c =
     let l = c.loop-c in
     let q = c.last_cut-stop.ensures in
     underway_end refl (openings-pass a.times a.missed a.a l.c a.e (λ x i j. q.1 x (omega arith) j) l.invariant)
-
-pub shape_of-out : goal.shape_of-out
-shape_of-out c = c.loop-c.invariant.long_out
-
-pub shape_of-marks : goal.shape_of-marks
-shape_of-marks c = c.loop-c.invariant.long_marks

@@ -22,9 +22,6 @@ both n m a z b e h = ap (loaded n) (own_many m (site a z) (site b e) h) ∙ load
 pub offer_halves-requires : goal.offer_halves-requires
 offer_halves-requires c = let a = c.args in let p = c.requires in (p.0, rw (own-site a.missed (site a.a a.z) (site a.b a.e) c.if-missed-eq0.true) at p.2)
 
-pub returns-then-missed-eq0 : goal.returns-then-missed-eq0
-returns-then-missed-eq0 c = let a = c.args in rw (own-site a.missed (site a.a a.z) (site a.b a.e) c.if-missed-eq0.true) c.offer_halves.ensures
-
 pub offer_endings-x-requires : goal.offer_endings-x-requires
 offer_endings-x-requires c = let a = c.args in let p = c.requires in (p.0, ready_first (Ends a.times a.missed a.a a.z a.e) (Begins a.times a.missed a.a a.b a.e) (rw (both a.times a.missed a.a a.z a.b a.e c.if-missed-eq0.false) at p.2))
 
