@@ -1,4 +1,6 @@
 // The parts of windows of neighbouring sites, by the table of their starts: those of the first of equal windows stand for all of them.
+// `starts` has a place for each letter (no heap), of which m sites are in use; each buffer is lent on its own: the contracts say what
+// became of each.
 ghost use Rattle.std.specs.Prelude.{suc, ◌+◌, ◌<◌, ◌≤◌, length};
 ghost use Rattle.enzyme_once.specs.Once.{own};
 ghost use Rattle.enzyme_weights.specs.Weights.{weight_in};

@@ -1,4 +1,6 @@
 // Windows of neighbouring sites, by the table of their starts.
+// `starts` has a place for each letter (no heap), of which m sites are in use; each buffer is lent on its own: the contracts say what
+// became of each.
 ghost use Rattle.std.specs.Prelude.{◌≡◌, [], ◌∷◌, suc, ◌+◌, ◌<◌, ◌≤◌, length};
 ghost use Rattle.enzyme_cuts.specs.Cutting.{range, windows, windows_from};
 ghost use Rattle.enzyme_samples.specs.Ready.{weighted, loaded, ReadyOf, OffersOf};

@@ -39,9 +39,3 @@ returns c =
     let a = c.args in
     let l = c.loop-i in
     underway_end (weigh_end a.starts.now (weight_in a.order.now a.runs.now a.rank.now a.share.now a.g (suc a.missed)) a.missed l.i (l.i + a.missed) a.m (omega arith)) l.invariant
-
-pub shape_of-out : goal.shape_of-out
-shape_of-out c = c.loop-i.invariant.long_out
-
-pub shape_of-marks : goal.shape_of-marks
-shape_of-marks c = c.loop-i.invariant.long_marks

@@ -6,6 +6,3 @@ offer_own-requires c =
     let p = c.place-a.ensures in
     let q = c.place-b.ensures in
     (p.1, q.1, rw (p.0, c.place-z.ensures.0, q.0, c.place-e.ensures.0) c.requires.2)
-
-pub returns : goal.returns
-returns c = rw (c.place-a.ensures.0, c.place-z.ensures.0, c.place-b.ensures.0, c.place-e.ensures.0) at c.offer_own.ensures

@@ -34,9 +34,3 @@ returns-2 c =
     let l = c.loop-k in
     underway_end (window-sizes_end (sites_in a.starts.now a.m) (l.k + 1) (a.missed + 1 - l.k - 1) (omega arith))
     (underway_on (sizes-on (sites_in a.starts.now a.m) l.k (a.missed + 1 - l.k) (omega arith)) l.invariant c.offer_windows-at.ensures (omega arith) (omega arith))
-
-pub shape_of-out : goal.shape_of-out
-shape_of-out c = c.loop-k.invariant.long_out
-
-pub shape_of-marks : goal.shape_of-marks
-shape_of-marks c = c.loop-k.invariant.long_marks

@@ -29,9 +29,3 @@ loop-i-preserved c =
 
 pub returns : goal.returns
 returns c = let a = c.args in let l = c.loop-i in underway_end (ap (loaded 1) (spans_end (site_start a.starts.now) a.missed l.i (l.i + a.missed) a.m (omega arith))) l.invariant
-
-pub shape_of-out : goal.shape_of-out
-shape_of-out c = c.loop-i.invariant.long_out
-
-pub shape_of-marks : goal.shape_of-marks
-shape_of-marks c = c.loop-i.invariant.long_marks
