@@ -1,4 +1,5 @@
 // Levels of tables, where these are long enough.
+// Each table is lent on its own, for a level reads `name` and writes the others; they have places for more than m sites (no heap).
 ghost use Rattle.std.specs.Prelude.{true, ◌≡◌, ◌+◌, ◌≤◌, ◌<◌, length};
 ghost use Rattle.enzyme_windows.specs.Pieces.{pieces};
 ghost use Rattle.enzyme_words.specs.Words.{Zeros};

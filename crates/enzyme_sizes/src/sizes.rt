@@ -1,4 +1,6 @@
 // The parts of windows of more and more sites.
+// Each table is lent on its own, for a level reads `name` and writes the others, and what is offered reads all but `name`; they have
+// places for more than m sites (no heap).
 ghost use Rattle.std.specs.Prelude.{suc, ◌≤◌, ◌<◌, length};
 ghost use Rattle.enzyme_windows.specs.Pieces.{pieces};
 ghost use Rattle.enzyme_samples.specs.Ready.{ReadyOf, OffersOf};

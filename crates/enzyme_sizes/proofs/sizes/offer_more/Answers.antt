@@ -50,9 +50,3 @@ returns-2 c =
     let t = c.raise-g.ensures in
     underway_end (weigh_sizes_end (sites_in a.starts.now a.m) (l.k + 1) (a.missed + 1 - (l.k + 1)) (weight_of a.looked (pieces a.knife a.source.now.letters.now)) (omega arith))
     (step_on l.k (a.missed + 1 - l.k) t (omega arith) l.invariant.2 (a.missed + 1 - (l.k + 1)) (omega arith) c.offer_owns-at.ensures (omega arith) (omega arith))
-
-pub shape_of-out : goal.shape_of-out
-shape_of-out c = c.loop-k.invariant.2.long_out
-
-pub shape_of-marks : goal.shape_of-marks
-shape_of-marks c = c.loop-k.invariant.2.long_marks
