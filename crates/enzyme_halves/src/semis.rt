@@ -1,6 +1,8 @@
 // A set with semi: each different range is looked at once, but for the parts of windows that stand before, for which those of the
 // first stand. A range longer than what any other start shares is new; any other is sought in a list of the records so far, which rises by
 // length and letters, and counted where it is found.
+// Each table is lent on its own, for each step writes some of them and reads others; of each as much is in use as the letters ask
+// (no heap).
 ghost use Rattle.std.specs.Prelude.{◌≡◌, Bool, true, ◌*◌, ◌≤◌, ◌<◌, length};
 ghost use Rattle.enzyme_keep.specs.Buffer.{sealed};
 ghost use Rattle.enzyme_keep.specs.Steps.{standing};

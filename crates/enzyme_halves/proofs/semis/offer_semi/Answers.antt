@@ -62,24 +62,6 @@ offer_sizes-requires c =
           (semi_ready looked a.knife a.missed a.source.now.letters.now a.starts.now a.m p.2 a.source.now.far.now a.out.now a.marks.now p.0 p.3),
     )
 
-pub shape_of-order : goal.shape_of-order
-shape_of-order c = omega (arith, c.order-2-1, c.order-1)
-
-pub shape_of-other : goal.shape_of-other
-shape_of-other c = omega (arith, c.other-2-1, c.other-1)
-
-pub shape_of-name : goal.shape_of-name
-shape_of-name c = omega (arith, c.name-1)
-
-pub shape_of-rank : goal.shape_of-rank
-shape_of-rank c = omega (arith, c.rank-2-1, c.rank-1)
-
-pub shape_of-share : goal.shape_of-share
-shape_of-share c = omega (arith, c.share-2-1, c.share-1)
-
-pub shape_of-seen : goal.shape_of-seen
-shape_of-seen c = omega (arith, c.seen-1)
-
 pub returns : goal.returns
 returns c =
     let a = c.args in
