@@ -48,6 +48,7 @@ pub(crate) fn replay(
 ) -> io::Result<Tally> {
     let mut tally = Tally::none();
     let mut at = 0;
+    // A while: a turn goes on behind the line that it read.
     while at < s.len() {
         let end = line_end(s, at);
         tally = tally.with(rt, replay_line(kind, &s[at..end], memory))?;
