@@ -50,6 +50,7 @@ fn is_good_digest(bounds: &[u32], proteins: usize, digest: &[u8]) -> bool
 }
 
 // The first digest that is not, or their number.
+// No Option: the definition answers the count where none is bad, and `field_tested` tells the two apart.
 fn first_bad_digest(bounds: &[u32], proteins: usize, digests: &[u8]) -> usize
     ensures { result ≡ first_bad_digest bounds.now proteins digests.now }
 {

@@ -7,6 +7,7 @@ ghost use Rattle.enzyme_keep.specs.Digests.{position_of, record_of};
 ghost use Rattle.enzyme_keep.specs.Buffer.{placed_record};
 
 // Where a range stands in a protein of n letters.
+// A number: it is the byte of a record.
 pub fn position(a: usize, e: usize, n: usize) -> u8
     ensures { result ≡ position_of n a e }
 {

@@ -7,6 +7,7 @@ ghost use Rattle.enzyme_sites.specs.Scanning.{ends_site};
 use enzyme_cuts::{Knife, Side};
 
 // The letter that has to be in the cleave set.
+// Not `cut_of` of enzyme_cuts: that answers a place, this a letter.
 fn cleft_of(side: Side, b: u8, c: u8) -> u8
     ensures { result ≡ cleft side b c }
 {

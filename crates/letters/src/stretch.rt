@@ -11,6 +11,7 @@ pub fn is_capital(b: u8) -> bool
 }
 
 // a to z.
+// Not one function with `is_capital`: two bounds as parameters would say less than the two names.
 pub fn is_small(b: u8) -> bool
     ensures { result ≡ is_small b }
 {

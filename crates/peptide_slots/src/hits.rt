@@ -21,6 +21,7 @@ impl Rule {
     }
 
     // `$`, and `]` where the peptide ends its protein.
+    // Not one function with `at_first`: three numbers as parameters would say less than the two names.
     pub(crate) fn at_last(self) -> bool
         ensures { result ≡ at_last self.kind self.position }
     {

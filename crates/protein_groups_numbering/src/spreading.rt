@@ -6,6 +6,7 @@ use crate::plan::Plan;
 use records::wide;
 
 // Copies w[from..from + len] to w[a..], and writes g as often to w[b..].
+// One pass, and no copy_within and fill: runs are short.
 fn copy_run(w: &mut [u32], from: usize, len: usize, a: usize, b: usize, g: u32)
     requires { (from + len ≤ a) × (a + len ≤ b) × (b + len ≤ length w.old) }
     ensures { RunCopied w.old w.new from len a b g }

@@ -17,6 +17,7 @@ use protein_groups_runs::{Runs, distinct_runs, runs_of};
 use records::wide;
 
 // How many proteins were found, how many numbers the meta-peptides spread out are, and how many meta-peptides there are.
+// `found` is how many proteins there are, and no flag.
 #[derive(Clone, Copy)]
 struct Half {
     found: u32,

@@ -38,6 +38,7 @@ fn enzyme_of(line: &[u8]) -> Enzyme {
     }
 }
 
+// Not shared with text_digests, whose line has them two fields earlier: a number of a field would say less.
 fn settings_of(line: &[u8]) -> Settings {
     let missed = small_at(line, 6);
     let minimum = decimal_at(line, 7);

@@ -8,6 +8,7 @@ pub(crate) fn group_count(line: &[u8]) -> u32 {
 }
 
 // The number of meta-peptides.
+// Both are `decimal_at`, named for what they answer.
 pub(crate) fn meta_count(line: &[u8]) -> u32 {
     decimal_at(line, 1)
 }

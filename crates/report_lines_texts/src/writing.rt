@@ -5,6 +5,7 @@ ghost use Rattle.sorting_texts.specs.Text.{tag_in, joined_text};
 ghost use Rattle.report_lines_texts.specs.WriteLaws.{texts_of, Put, after_from};
 
 // How many bytes the line has, and how many groups it names.
+// Not `Report` of report_lines, which has the same fields: that is the answer that the C face and its specs speak of.
 #[derive(Clone, Copy)]
 pub struct Line {
     pub bytes: u32,

@@ -5,14 +5,7 @@ use protein_groups::Sizes;
 use report_rows_print::Groups;
 use report_rows_read::{has_bad_peptide, has_long_name};
 use std::io;
-use text_lines::{line_end, narrow, up_to};
-
-// A table of one value.
-fn table<T: Copy, const N: usize>(x: T) -> [T; N]
-    ensures { N ≡ length result }
-{
-    [x; N]
-}
+use text_lines::{line_end, narrow, table, up_to};
 
 // Marks the groups of the cover.
 fn cover_groups(

@@ -6,21 +6,7 @@ use records::{Refusal, byte_at, u32_at};
 use report_lines::{Report, report_line};
 use report_rows_read::{flag_of, list_of, name_count};
 use std::io;
-use text_lines::{line_end, narrow};
-
-// Room for any line: names of 65,535 bytes from targets and from decoys, 4,096 tags, and what stands between 8,192 names.
-fn line_buffer() -> [u8; 262144]
-    ensures { 262144 ≡ length result }
-{
-    [0; 262144]
-}
-
-// 16,384 names of rows.
-fn list_buffer() -> [u32; 16384]
-    ensures { 16384 ≡ length result }
-{
-    [0; 16384]
-}
+use text_lines::{line_end, narrow, table};
 
 // What report lines are made from.
 #[derive(Clone, Copy)]
@@ -137,7 +123,8 @@ fn print_all(
     groups: &Groups,
     out: &mut [u8],
 ) -> io::Result<()> {
-    let mut list = list_buffer();
+    // 16,384 names of rows
+    let mut list: [u32; 16384] = table(0);
     let n = list_of(pairs, &mut list);
     print_groups(rt, groups, out)?;
     print_rows(rt, s, &list[..n], groups, out)
@@ -145,7 +132,8 @@ fn print_all(
 
 // The line of no protein tells whether the library takes the tag, before anything is printed.
 pub fn report(rt: &impl Print, s: &[u8], pairs: &[u8], groups: &Groups) -> io::Result<()> {
-    let mut out = line_buffer();
+    // any line: names of 65,535 bytes from targets and from decoys, 4,096 tags, and what stands between 8,192 names
+    let mut out: [u8; 262144] = table(0);
     match groups.line(&[], false, &mut out) {
         Err(why) => saying::refused_tag(rt, groups.tag, why),
         Ok(_) => print_all(rt, s, pairs, groups, &mut out),

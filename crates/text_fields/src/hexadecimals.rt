@@ -25,6 +25,7 @@ fn hex(line: &[u8], at: usize) -> u32
 }
 
 // The hexadecimal number of eight digits in field k.
+// As `decimal_at`, but that each reads its own kind of number: a function as a parameter would save no line.
 pub fn hex_at(line: &[u8], k: usize) -> u32 {
     hex(line, field(line, k))
 }

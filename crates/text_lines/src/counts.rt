@@ -1,5 +1,13 @@
-// Counts, up to the greatest that there is.
+// Tables of one value, and counts up to the greatest that there is.
+ghost use Rattle.std.specs.Prelude.{◌≡◌, length};
 ghost use Rattle.io.specs.Counts.{IsPrefixLen};
+
+// A table of one value.
+pub fn table<T: Copy, const N: usize>(x: T) -> [T; N]
+    ensures { N ≡ length result }
+{
+    [x; N]
+}
 
 // One more, up to the greatest number.
 pub fn more(n: u32) -> u32 {

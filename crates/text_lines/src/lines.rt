@@ -23,6 +23,7 @@ pub fn line_end(s: &[u8], at: usize) -> usize
 }
 
 // Where the column that begins at a place ends: columns are parted by tabs.
+// Both are `next`, named for what they answer.
 pub fn column_end(line: &[u8], at: usize) -> usize
     requires { at ≤ length line.now }
     ensures { (at ≤ result) × (result ≤ length line.now) }

@@ -1,8 +1,0 @@
--- `line_buffer` meets its contract: an array is as long as its type says, whatever its length. Assumes nothing.
-use Prim.Native.Nat.{ℕ}
-use mathlib.Core.Path.{sym}
-use lib.ListN.{length-replicate}
-use Rattle.report_rows_print.proofs.reports.line_buffer.Goals as goal
-
-pub returns : goal.returns
-returns c = sym (length-replicate {0} {A = ℕ} 262144 0)
