@@ -3,5 +3,5 @@
 
 pub use modification_kinds::{Specificity, specificity_of};
 pub use modification_rules::{Rule, first_bad_rule, read_rule, test_rules, write_rule};
-pub use modification_table::{insert};
+pub use modification_table::insert;
 pub use modification_texts::{parse, write};
