@@ -73,9 +73,24 @@ def tokens(lines):
             yield "I"
 
 
+def facts(lines):
+    """The facts of a function's requires, apart from whether a value is a reference."""
+    for line in lines:
+        clause = re.match(r"^\s*requires (?:\w+ )?\{ (.*) \}$", line)
+        depth, fact = 0, ""
+        for letter in clause.group(1) + "×" if clause else "":
+            depth += (letter in "([{") - (letter in ")]}")
+            if letter == "×" and depth == 0:
+                yield re.sub(r"\.(now|old|entry)\b", "", fact.strip().removeprefix("(").removesuffix(")"))
+                fact = ""
+            else:
+                fact += letter
+
+
 def count(folder, say):
     found = collections.Counter()
     twins = collections.defaultdict(list)
+    asked = collections.defaultdict(list)
 
     def place(point, where):
         found[point] += 1
@@ -97,8 +112,10 @@ def count(folder, say):
             body = "\n".join(lines)
             if re.search(r"if (\w+) <=? (\w+) \{ (\1|\2) \} else \{ (\1|\2) \}", body):
                 place("4 least and greatest by hand", short + " " + name)
+            for fact in facts(lines):
+                asked[short.split("/")[0], fact].append(name)
             if len(parameters) > 7:
-                place("5 more than seven parameters", short + " " + name)
+                place("5a more than seven parameters", short + " " + name)
             if any(re.match(r"\w+: &(mut )?\[", p) for p in parameters) and any(re.match(r"(n|m|g|count): usize", p) for p in parameters):
                 place("6 a slice with a count beside it", short + " " + name)
         for name, body in types(text, "enum"):
@@ -108,6 +125,9 @@ def count(folder, say):
         if len(names) > 1:
             for name in names:
                 place("2 twins", name + " (" + "; ".join(n for n in names if n != name) + ")")
+    for (crate, fact), names in asked.items():
+        if len(names) > 2:
+            place("5b facts that three or more functions of a crate ask for", "%s: %s (%s)" % (crate, fact, ", ".join(names)))
     lines = 0
     for path in glob.glob(os.path.join(folder, "crates/*/proofs/**/*.antt"), recursive=True):
         lines += sum(1 for _ in open(path))
