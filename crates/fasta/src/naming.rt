@@ -24,7 +24,10 @@ fn put_record(text: &[u8], out: &mut [u8])
     ensures { out.new ≡ sets out.old 0 (padded text.now) }
 {
     let n = text.len();
-    out[..n].copy_from_slice(text);
+    // No copy_from_slice: in C's archive it is a call of memmove, which the archive needs nowhere else.
+    for i in 0..n {
+        out[i] = text[i];
+    }
     out[n..64].fill(0);
 }
 
