@@ -4,7 +4,12 @@ use check::same;
 
 // Whether work memory is zero.
 pub fn is_zero(work: &[u32]) -> bool {
-    work.iter().all(|number| *number == 0)
+    // No `all`: it ends at the first that is not, so that numbers go one by one, and what is lent is long and mostly zero.
+    let mut bits = 0;
+    for number in work {
+        bits |= *number;
+    }
+    bits == 0
 }
 
 pub fn same_numbers(a: &[u32], b: &[u32]) -> bool {
