@@ -1,5 +1,6 @@
 // Digests sorted, made groups, and written.
 ghost use Rattle.std.specs.Prelude.{◌≡◌, cond, ◌&&◌, [], ◌∷◌, ◌*◌, ◌/◌, ◌≤◌, min, leb, length};
+ghost use Rattle.std.proofs.lemmas.List.Edits.{sets};
 ghost use Rattle.records.specs.Outcome.{outcome};
 ghost use Rattle.digest_groups_spec.specs.DigestGroups.{digests_in, gathered, digests_grouped};
 ghost use Rattle.digest_groups_words.specs.Tables.{GoodDigests};
@@ -33,6 +34,17 @@ fn answer(g: usize, groups: usize, n: usize, proteins: usize) -> Result<u32, Ref
     }
 }
 
+// Stores the list of proteins, as far as there is room. No put_at: here it becomes a call of memmove in C's archive, which the archive
+// needs nowhere else.
+fn put_list(list: &[u32], out: &mut [u32])
+    ensures { out.new ≡ sets out.old 0 list.now }
+{
+    let n = list.len().min(out.len());
+    for i in 0..n {
+        out[i] = list[i];
+    }
+}
+
 // Writes the groups of digests that are in order and the lists of their proteins, and clears the work memory.
 pub fn gather(
     names: &[u8],
@@ -51,7 +63,7 @@ pub fn gather(
     let open = proteins.len();
     arrange(letters, bounds, digests, w, n);
     let g = gather_runs(names, letters, digests, w, n, groups);
-    records::put_at(proteins, 0, &w[0..n]);
+    put_list(&w[0..n], proteins);
     records::clear(w);
     answer(g, free, n, open)
 }

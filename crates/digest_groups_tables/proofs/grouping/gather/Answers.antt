@@ -18,7 +18,7 @@ returns c =
     let w = c.arrange.new.w in
     let t = c.gather_runs-g in
     let z : n - 0 ≡ n = omega arith in
-    let q : c.put_at.new.out ≡ sets a.proteins.now 0 (take n t.new.w) = rw z at c.put_at.ensures in
+    let q : c.put_list.new.out ≡ sets a.proteins.now 0 (take n t.new.w) = rw z at c.put_list.ensures in
     rw (c.clear.ensures, q)
     (left_grouped a.names.now a.bounds.now a.letters.now a.digests.now n a.w.now w t.new.w a.groups.now t.new.groups a.proteins.now
     t.result c.answer.result c.arrange.ensures t.ensures (search rules) c.answer.ensures)
