@@ -77,21 +77,25 @@ fn fit(names: usize, members: usize, marks: usize, c: usize) -> bool
     (names <= c) & (members <= c) & (marks <= c)
 }
 
-// The line, or why not, where sizes and lengths passed. Tables of four sizes: a few groups do not pay for the clearing of a large one.
-fn line_of(asked: &Asked, out: &mut [u8]) -> Result<Report, Refusal>
-    requires { Fair asked.now.names.now asked.now.members.now asked.now.marks.now asked.now.list.now }
+// The line, or why not, where sizes and lengths passed, with the table for 1,024, 16,384, 65,536 or 131,072 of each: a few groups do not
+// pay for the clearing of a large one. Where a room is not enough it calls itself with four times as much, so that each table has the
+// stack to itself: the compiler joins no function that has large tables into one that calls itself.
+fn line_of(room: usize, asked: &Asked, out: &mut [u8]) -> Result<Report, Refusal>
+    requires { Fair asked.now.names.now asked.now.members.now asked.now.marks.now asked.now.list.now × (1 ≤ room) × (room ≤ 524288) }
     ensures { outcome result (out.new ∷ []) ≡ line_told asked.now.names.now asked.now.members.now asked.now.marks.now asked.now.list.now asked.now.decoy asked.now.tag.now asked.now.generated out.old }
 {
     let proteins = asked.names.len() / 64;
     let held = asked.members.len() / 12;
-    let marks = asked.marks.len();
-    if fit(proteins, held, marks, 1024) {
+    if !fit(proteins, held, asked.marks.len(), room) {
+        return line_of(4 * room, asked, out);
+    }
+    if room <= 1024 {
         return line_with::<3090>(asked, 1024, out);
     }
-    if fit(proteins, held, marks, 16384) {
+    if room <= 16384 {
         return line_with::<49170>(asked, 16384, out);
     }
-    if fit(proteins, held, marks, 65536) {
+    if room <= 65536 {
         return line_with::<196626>(asked, 65536, out);
     }
     line_with::<393234>(asked, 131072, out)
@@ -127,7 +131,7 @@ pub fn report_line(
         tag,
         generated,
     };
-    line_of(&asked, out)
+    line_of(1024, &asked, out)
 }
 
 // What a line's answer tells of its tests: 11 comes after all of them.
