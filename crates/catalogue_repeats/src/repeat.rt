@@ -23,25 +23,38 @@ pub fn repeat_over(names: &[u8], tab: &mut [u32]) -> usize
 }
 
 // With a table of its own, of N numbers.
-fn repeat_with<const N: usize>(names: &[u8]) -> usize
+fn repeat_with<const N: usize>(names: &[u8]) -> Result<Option<usize>, Unfit>
     requires { (name_count names.now ≤ 65536) × (name_count names.now + name_count names.now ≤ N) × (N ≤ 131072) }
-    ensures { result ≡ first_repeat (name_of names.now) (name_count names.now) }
+    ensures { repeat_place (name_count names.now) result ≡ first_repeat (name_of names.now) (name_count names.now) }
 {
     let mut tab = [0u32; N];
-    repeat_over(names, &mut tab)
+    sorting_repeats::first_repeated(names, &mut tab)
 }
 
-// The first record that equals an earlier one, or their number. Few names do not pay for the clearing of a large table.
+// With the table for 256, 4,096 or 65,536 names: few do not pay for the clearing of a large one. It goes from one size to the next by a
+// call of itself, so that each has its stack to itself: the compiler joins no function that has large tables into one that calls itself.
+// It answers what was found, not a place: a call of itself that answers a number becomes a loop, and then all are joined.
+fn repeat_within(room: usize, names: &[u8]) -> Result<Option<usize>, Unfit>
+    requires { (name_count names.now ≤ 65536) × (1 ≤ room) × (room ≤ 1048576) }
+    ensures { repeat_place (name_count names.now) result ≡ first_repeat (name_of names.now) (name_count names.now) }
+{
+    if room < names.len() / 64 {
+        return repeat_within(16 * room, names);
+    }
+    if room <= 256 {
+        return repeat_with::<512>(names);
+    }
+    if room <= 4096 {
+        return repeat_with::<8192>(names);
+    }
+    repeat_with::<131072>(names)
+}
+
+// The first record that equals an earlier one, or their number.
 pub fn first_repeat(names: &[u8]) -> usize
     requires { name_count names.now ≤ 65536 }
     ensures { result ≡ first_repeat (name_of names.now) (name_count names.now) }
 {
-    let n = names.len() / 64;
-    if n <= 256 {
-        return repeat_with::<512>(names);
-    }
-    if n <= 4096 {
-        return repeat_with::<8192>(names);
-    }
-    repeat_with::<131072>(names)
+    let found = repeat_within(256, names);
+    place_in(names.len() / 64, found)
 }
